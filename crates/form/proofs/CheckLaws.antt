@@ -1,0 +1,122 @@
+-- The whole row: one form of the kind asked for, or a refusal. Assumes nothing.
+use mathlib.Core.Path.{_≡_, refl, ap, sym, _∙_}
+use mathlib.Core.Bool.{Bool, true, false, _&&_}
+use mathlib.Core.List.{List, [], _∷_, _++_}
+use Prim.Native.Nat.{ℕ, zero, suc, _≤_, _<_}
+use native.Mathlib.Omega.{arith}
+use borrow.Author.Tests.{le-leb, lt-leb}
+use lib.Dec.{leb}
+use lib.ListN.{length, length-append}
+use Rattle.form.specs.Form.{Form, pick, encode}
+use Rattle.form.specs.Tag.{Sort, expr, pred, own, ownOf, shapeOf}
+use Rattle.form.specs.Decode.{read, Got, got, no-form, branch, decode, Whole, one, not-one, whole, rowForm, Found, found, missing, asSort, either, formOf}
+use Rattle.form.specs.Answer.{Outcome, answer, refusal, told, ofFound, checkOutcome}
+use Rattle.form.specs.Internal.Reads.{mark, Told, Marked, known, asExpr}
+use Rattle.form.specs.declared.answer.Kind.{Kind}
+use Rattle.form.specs.declared.answer.Kind.the-variants.{Expression, Predicate, Either}
+use Rattle.form.specs.declared.answer.Answer.the-variants.{Done, No}
+use Rattle.form.specs.declared.tag.Shape.{Shape}
+use Rattle.form.specs.declared.tag.Shape.the-variants.{Unknown, Plain, Name, Value, Exprs, Preds, Apply, Compr, Quant}
+use Rattle.form.specs.declared.head.Step.{Step}
+use Rattle.form.specs.declared.head.Step.the-variants.{End, Bad}
+use Rattle.form.proofs.DecodeLaws.{clash, decode-sound}
+use Rattle.form.proofs.ReaderLaws.{told-end, told-bad}
+use Rattle.form.proofs.Ranges.{one-table}
+
+-- a tag that begins expressions begins no predicate: a row is read as the sort that its first tag says
+unknown-no : (s : Sort) (d t : ℕ) (ws : List ℕ) → shapeOf s t ≡ Unknown → decode d s (t ∷ ws) ≡ no-form
+unfolding decode own ownOf read
+unknown-no s zero t ws e = refl
+unknown-no s (suc d) t ws e = rw e
+
+known-not : (x : Shape) → known x ≡ false → x ≡ Unknown
+known-not Unknown e = refl
+known-not (Plain p q) e = absurd (clash cc)
+known-not Name e = absurd (clash cc)
+known-not Value e = absurd (clash cc)
+known-not (Exprs m) e = absurd (clash cc)
+known-not (Preds m) e = absurd (clash cc)
+known-not Apply e = absurd (clash cc)
+known-not Compr e = absurd (clash cc)
+known-not Quant e = absurd (clash cc)
+
+known-is : (x : Shape) → known x ≡ true → x ≡ Unknown → ⊥
+known-is x e q = let z : _≡_ {A = ℕ} 0 1 = cc in omega arith
+
+no-whole : (s : Sort) (row : List ℕ) → decode 64 s row ≡ no-form → rowForm s row ≡ not-one
+unfolding rowForm
+no-whole s row e = rw e (go (leb (length row) 8192))
+  where
+    go : (b : Bool) → pick b not-one not-one ≡ not-one
+    go true = refl
+    go false = refl
+
+either-missing : (o : Found) → either o missing ≡ o
+either-missing (found s f) = refl
+either-missing missing = refl
+
+sort-of : (row : List ℕ) (b : Bool) → asExpr Either row ≡ b → either (asSort expr (rowForm expr row)) (asSort pred (rowForm pred row)) ≡ asSort (pick b expr pred) (rowForm (pick b expr pred) row)
+unfolding asExpr decode
+sort-of [] true e = absurd (clash cc)
+sort-of [] false e = rw (no-whole expr [] refl)
+sort-of (t ∷ ws) true e = rw (no-whole pred (t ∷ ws) (unknown-no pred 64 t ws (one-table t (known-is (shapeOf expr t) e)))) (either-missing (asSort expr (rowForm expr (t ∷ ws))))
+sort-of (t ∷ ws) false e = rw (no-whole expr (t ∷ ws) (unknown-no expr 64 t ws (known-not (shapeOf expr t) e)))
+
+-- the sort that the code reads the row as
+abbrev pub sortFor : Bool → Sort
+sortFor b = pick b expr pred
+
+pub form-of : (kind : Kind) (row : List ℕ) (b : Bool) → b ≡ asExpr kind row → formOf kind row ≡ asSort (sortFor b) (rowForm (sortFor b) row)
+unfolding formOf asExpr
+form-of Expression row b e = rw e
+form-of Predicate row b e = rw e
+form-of Either row b e = sort-of row b (sym e)
+
+module _ (kind : Kind) (row a b : List ℕ) where
+  abbrev Checked : Outcome → Found → Type 0
+  Checked o f = (told o ≡ told (checkOutcome kind row)) × Marked f a b
+
+  pub row-long : 8192 < length row → (No 1 ≡ told (checkOutcome kind row)) × Marked (formOf kind row) a b
+  unfolding checkOutcome Marked formOf rowForm
+  row-long h = rw (lt-leb (length row) 8192 h) (refl, long-marked kind)
+    where
+      long-marked : (kind : Kind) → Marked (formOf kind row) a b
+      long-marked Expression = rw (lt-leb (length row) 8192 h) tt
+      long-marked Predicate = rw (lt-leb (length row) 8192 h) tt
+      long-marked Either = rw (lt-leb (length row) 8192 h) tt
+
+  module _ (h : length row ≤ 8192) (x : Bool) (k : x ≡ asExpr kind row) (r : Step) (t : Told 0 0 (decode 64 (sortFor x) row) a b r) where
+    as-read : (w : Whole) → whole (decode 64 (sortFor x) row) ≡ w → formOf kind row ≡ asSort (sortFor x) w
+    unfolding rowForm
+    as-read w e = form-of kind row x k ∙ rw (le-leb (length row) 8192 h, e)
+
+    ends : (w : Whole) → whole (decode 64 (sortFor x) row) ≡ w → (o : Outcome) → ofFound (λ s f. answer []) (asSort (sortFor x) w) ≡ o → Marked (asSort (sortFor x) w) a b
+        → (told o ≡ told (checkOutcome kind row)) × Marked (formOf kind row) a b
+    unfolding checkOutcome
+    ends w e o q m = rw (as-read w e, le-leb (length row) 8192 h, q) (refl, m)
+
+    pub row-bad : r ≡ Bad → (No 2 ≡ told (checkOutcome kind row)) × Marked (formOf kind row) a b
+    unfolding Marked
+    row-bad e = ends not-one (rw (told-bad 0 0 (decode 64 (sortFor x) row) a b r t e)) (refusal 2) refl tt
+
+    whole-is : (f : Form) (y : List ℕ) → decode 64 (sortFor x) row ≡ got f y → length y ≡ 0 → whole (decode 64 (sortFor x) row) ≡ one f
+    whole-is f [] g e = rw g
+    whole-is f (w ∷ y) g e = absurd (omega arith)
+
+    part-is : (f : Form) (y : List ℕ) → decode 64 (sortFor x) row ≡ got f y → (length y ≡ 0 → ⊥) → whole (decode 64 (sortFor x) row) ≡ not-one
+    part-is f [] g e = absurd (e refl)
+    part-is f (w ∷ y) g e = rw g
+
+    pub row-whole : (p : ℕ) → r ≡ End p → p ≡ length row → (Done 0 ≡ told (checkOutcome kind row)) × Marked (formOf kind row) a b
+    unfolding Marked
+    row-whole p e q =
+        let (f, y, g, l, m) = told-end 0 0 (decode 64 (sortFor x) row) a b r p t e in
+        let (w, n) = decode-sound 64 (sortFor x) row f y g in
+        ends (one f) (whole-is f y g (let n = ap length w ∙ length-append (encode f) y in omega arith)) (answer []) refl m
+
+    pub row-part : (p : ℕ) → r ≡ End p → (p ≡ length row → ⊥) → (No 2 ≡ told (checkOutcome kind row)) × Marked (formOf kind row) a b
+    unfolding Marked
+    row-part p e q =
+        let (f, y, g, l, m) = told-end 0 0 (decode 64 (sortFor x) row) a b r p t e in
+        let (w, n) = decode-sound 64 (sortFor x) row f y g in
+        ends not-one (part-is f y g (λ z. let n = ap length w ∙ length-append (encode f) y in q (omega arith))) (refusal 2) refl tt

@@ -1,0 +1,5 @@
+pub mod DecodeLaws
+pub mod Ranges
+pub mod HeadLaws
+pub mod ReaderLaws
+pub mod CheckLaws

@@ -1,0 +1,306 @@
+-- The proof of the cycle of calls {mark_expr, mark_exprs, mark_kids, mark_pred, mark_preds}. The measure is three times the words that are left, and a little more for a
+-- function that calls another at the same place. Assumes nothing.
+use mathlib.Core.Path.{_≡_, refl, _∙_}
+use mathlib.Core.List.{List}
+use Prim.Native.Nat.{_+_, _-_, _*_, _≤_}
+use native.Mathlib.Nat.{le-refl, le-trans}
+use native.Mathlib.Omega.{arith}
+use borrow.Author.Needs.{needs}
+use lib.ListN.{length, drop, replicate}
+use Rattle.form.specs.declared.head.Step.{Step}
+use Rattle.form.specs.Tag.{expr, pred}
+use Rattle.form.specs.Decode.{decode, decodeAll}
+use Rattle.form.specs.Internal.Reads.{ToldAll}
+use Rattle.form.proofs.HeadLaws.{few}
+use Rattle.form.proofs.ReaderLaws.{too-deep, past-end, no-own, a-form, kids-after, all-stop, all-more, all-none, rises, rises-all, both-go, both-stop}
+use Prim.Native.Nat.{ℕ, _<_}
+use borrow.Fn.Kinds.{In}
+use borrow.Fn.PlainCycle.{Measures, is, falls, and}
+use Rattle.form.proofs.reader.mark_expr.Reads as mark-expr
+use Rattle.form.proofs.reader.mark_expr.Kinds as mark-expr-kinds
+use Rattle.form.proofs.reader.+mark_expr+mark_exprs+mark_kids+mark_pred+mark_preds.Lts-mark_expr as mark-expr-lts
+use Rattle.form.proofs.reader.mark_exprs.Reads as mark-exprs
+use Rattle.form.proofs.reader.mark_exprs.Kinds as mark-exprs-kinds
+use Rattle.form.proofs.reader.+mark_expr+mark_exprs+mark_kids+mark_pred+mark_preds.Lts-mark_exprs as mark-exprs-lts
+use Rattle.form.proofs.reader.mark_kids.Reads as mark-kids
+use Rattle.form.proofs.reader.mark_kids.Kinds as mark-kids-kinds
+use Rattle.form.proofs.reader.+mark_expr+mark_exprs+mark_kids+mark_pred+mark_preds.Lts-mark_kids as mark-kids-lts
+use Rattle.form.proofs.reader.mark_pred.Reads as mark-pred
+use Rattle.form.proofs.reader.mark_pred.Kinds as mark-pred-kinds
+use Rattle.form.proofs.reader.+mark_expr+mark_exprs+mark_kids+mark_pred+mark_preds.Lts-mark_pred as mark-pred-lts
+use Rattle.form.proofs.reader.mark_preds.Reads as mark-preds
+use Rattle.form.proofs.reader.mark_preds.Kinds as mark-preds-kinds
+use Rattle.form.proofs.reader.+mark_expr+mark_exprs+mark_kids+mark_pred+mark_preds.Lts-mark_preds as mark-preds-lts
+use Rattle.form.proofs.reader.mark_tag.Reads as mark-tag-reads
+use Rattle.form.proofs.tag.expr_shape.Reads as expr-shape-reads
+use Rattle.form.proofs.head.own_words.Reads as own-words-reads
+use Rattle.form.proofs.tag.pred_shape.Reads as pred-shape-reads
+use Rattle.form.proofs.reader.+mark_expr+mark_exprs+mark_kids+mark_pred+mark_preds.{statement}
+use Rattle.form.proofs.reader.+mark_expr+mark_exprs+mark_kids+mark_pred+mark_preds.Tie.{close}
+
+abbrev μ-mark-expr : Measures 2 mark-expr-kinds.ps ℕ
+μ-mark-expr κs a = 3 * (length (a .0 .now) - a .1 .1 .0)
+
+abbrev μ-mark-exprs : Measures 2 mark-exprs-kinds.ps ℕ
+μ-mark-exprs κs a = 3 * (length (a .0 .now) - a .1 .1 .0) + 1
+
+abbrev μ-mark-kids : Measures 2 mark-kids-kinds.ps ℕ
+μ-mark-kids κs a = 3 * (length (a .0 .now) - a .1 .1 .0) + 2
+
+abbrev μ-mark-pred : Measures 2 mark-pred-kinds.ps ℕ
+μ-mark-pred κs a = 3 * (length (a .0 .now) - a .1 .1 .0)
+
+abbrev μ-mark-preds : Measures 2 mark-preds-kinds.ps ℕ
+μ-mark-preds κs a = 3 * (length (a .0 .now) - a .1 .1 .0) + 1
+
+abbrev mark-expr-at : ℕ → In 2 mark-expr-kinds.ps
+mark-expr-at t = and 2 mark-expr-kinds.ps (is 2 mark-expr-kinds.ps μ-mark-expr t) mark-expr.Pre
+
+abbrev mark-expr-below : ℕ → In 2 mark-expr-kinds.ps
+mark-expr-below t = and 2 mark-expr-kinds.ps (falls 2 mark-expr-kinds.ps _<_ μ-mark-expr t) mark-expr.Pre
+
+abbrev mark-exprs-at : ℕ → In 2 mark-exprs-kinds.ps
+mark-exprs-at t = and 2 mark-exprs-kinds.ps (is 2 mark-exprs-kinds.ps μ-mark-exprs t) mark-exprs.Pre
+
+abbrev mark-exprs-below : ℕ → In 2 mark-exprs-kinds.ps
+mark-exprs-below t = and 2 mark-exprs-kinds.ps (falls 2 mark-exprs-kinds.ps _<_ μ-mark-exprs t) mark-exprs.Pre
+
+abbrev mark-kids-at : ℕ → In 2 mark-kids-kinds.ps
+mark-kids-at t = and 2 mark-kids-kinds.ps (is 2 mark-kids-kinds.ps μ-mark-kids t) mark-kids.Pre
+
+abbrev mark-kids-below : ℕ → In 2 mark-kids-kinds.ps
+mark-kids-below t = and 2 mark-kids-kinds.ps (falls 2 mark-kids-kinds.ps _<_ μ-mark-kids t) mark-kids.Pre
+
+abbrev mark-pred-at : ℕ → In 2 mark-pred-kinds.ps
+mark-pred-at t = and 2 mark-pred-kinds.ps (is 2 mark-pred-kinds.ps μ-mark-pred t) mark-pred.Pre
+
+abbrev mark-pred-below : ℕ → In 2 mark-pred-kinds.ps
+mark-pred-below t = and 2 mark-pred-kinds.ps (falls 2 mark-pred-kinds.ps _<_ μ-mark-pred t) mark-pred.Pre
+
+abbrev mark-preds-at : ℕ → In 2 mark-preds-kinds.ps
+mark-preds-at t = and 2 mark-preds-kinds.ps (is 2 mark-preds-kinds.ps μ-mark-preds t) mark-preds.Pre
+
+abbrev mark-preds-below : ℕ → In 2 mark-preds-kinds.ps
+mark-preds-below t = and 2 mark-preds-kinds.ps (falls 2 mark-preds-kinds.ps _<_ μ-mark-preds t) mark-preds.Pre
+
+abbrev mark-expr-calls : ℕ → mark-expr-lts.Claims
+mark-expr-calls t = (expr-shape-reads.Asked, expr-shape-reads.Learnt, own-words-reads.Asked, own-words-reads.Learnt, mark-tag-reads.Asked, mark-tag-reads.Learnt, mark-kids-below t, mark-kids.Post)
+
+abbrev mark-exprs-calls : ℕ → mark-exprs-lts.Claims
+mark-exprs-calls t = (mark-expr-below t, mark-expr.Post)
+
+abbrev mark-kids-calls : ℕ → mark-kids-lts.Claims
+mark-kids-calls t = (mark-preds-below t, mark-preds.Post, mark-exprs-below t, mark-exprs.Post)
+
+abbrev mark-pred-calls : ℕ → mark-pred-lts.Claims
+mark-pred-calls t = (pred-shape-reads.Asked, pred-shape-reads.Learnt, own-words-reads.Asked, own-words-reads.Learnt, mark-tag-reads.Asked, mark-tag-reads.Learnt, mark-kids-below t, mark-kids.Post)
+
+abbrev mark-preds-calls : ℕ → mark-preds-lts.Claims
+mark-preds-calls t = (mark-pred-below t, mark-pred.Post)
+
+mark-expr-returns : (t : ℕ) → mark-expr-lts.Need-returns (mark-expr-calls t) (mark-expr-at t) mark-expr.Post
+mark-expr-returns t c = too-deep expr _ _ _ _ _ _ (c .if1 .taken)
+
+mark-expr-returns-2 : (t : ℕ) → mark-expr-lts.Need-returns-2 (mark-expr-calls t) (mark-expr-at t) mark-expr.Post
+mark-expr-returns-2 t c = past-end expr _ _ _ _ _ _ (c .if2 .taken)
+
+mark-expr-mul-tag : (t : ℕ) → mark-expr-lts.Need-mul-tag (mark-expr-calls t) (mark-expr-at t) mark-expr.Post
+mark-expr-mul-tag t c = search needs
+
+mark-expr-shared-slice-read-tag : (t : ℕ) → mark-expr-lts.Need-shared-slice-read-tag (mark-expr-calls t) (mark-expr-at t) mark-expr.Post
+mark-expr-shared-slice-read-tag t c = search needs
+
+mark-expr-add-own-words : (t : ℕ) → mark-expr-lts.Need-add-own-words (mark-expr-calls t) (mark-expr-at t) mark-expr.Post
+mark-expr-add-own-words t c = search needs
+
+mark-expr-expr-shape-requires : (t : ℕ) → mark-expr-lts.Need-expr-shape-requires (mark-expr-calls t) (mark-expr-at t) mark-expr.Post
+mark-expr-expr-shape-requires t c κs = search needs
+
+mark-expr-own-words-requires : (t : ℕ) → mark-expr-lts.Need-own-words-requires (mark-expr-calls t) (mark-expr-at t) mark-expr.Post
+mark-expr-own-words-requires t c κs = search needs
+
+mark-expr-enum-known-p : (t : ℕ) → mark-expr-lts.Need-enum-known-p (mark-expr-calls t) (mark-expr-at t) mark-expr.Post
+mark-expr-enum-known-p t c = search needs
+
+mark-expr-enum-told : (t : ℕ) → mark-expr-lts.Need-enum-told (mark-expr-calls t) (mark-expr-at t) mark-expr.Post
+mark-expr-enum-told t c = search needs
+
+mark-expr-returns-3 : (t : ℕ) → mark-expr-lts.Need-returns-3 (mark-expr-calls t) (mark-expr-at t) mark-expr.Post
+mark-expr-returns-3 t c = no-own expr _ _ _ (c .before .before .before .before .before .if2 .left) (c .before .before .before .expr-shape .ensures) (c .before .before .own-words .ensures) _ _ _ (c .before .before .before .before .before .before .if1 .left) (c .enum-told .given .1)
+
+mark-expr-mark-tag-requires : (t : ℕ) → mark-expr-lts.Need-mark-tag-requires (mark-expr-calls t) (mark-expr-at t) mark-expr.Post
+mark-expr-mark-tag-requires t c κs = omega arith
+
+mark-expr-sub-mark-kids : (t : ℕ) → mark-expr-lts.Need-sub-mark-kids (mark-expr-calls t) (mark-expr-at t) mark-expr.Post
+mark-expr-sub-mark-kids t c = search needs
+
+mark-expr-add-mark-kids : (t : ℕ) → mark-expr-lts.Need-add-mark-kids (mark-expr-calls t) (mark-expr-at t) mark-expr.Post
+mark-expr-add-mark-kids t c = let w = few _ _ _ _ _ _ _ (c .before .before .before .before .before .before .before .before .own-words .ensures) (c .before .before .before .before .before .before .p .given .1) in omega arith
+
+mark-expr-mark-kids-requires : (t : ℕ) → mark-expr-lts.Need-mark-kids-requires (mark-expr-calls t) (mark-expr-at t) mark-expr.Post
+mark-expr-mark-kids-requires t c κs = let w = few _ _ _ _ _ _ _ (c .before .before .before .before .before .before .before .before .own-words .ensures) (c .before .before .before .before .before .before .p .given .1) in let h = kids-after expr _ _ 0 (c .before .before .before .before .before .before .before .before .before .before .before .if2 .left) (c .before .before .before .before .before .before .before .before .before .expr-shape .ensures) (c .before .before .before .before .before .before .before .before .own-words .ensures) _ _ _ _ (c .before .before .before .before .before .before .p .given .1) in omega arith
+
+mark-expr-same-length : (t : ℕ) → mark-expr-lts.Need-same-length (mark-expr-calls t) (mark-expr-at t) mark-expr.Post
+mark-expr-same-length t c = c .before .before .mark-kids .kept .1 .0 ∙ c .before .before .before .before .before .before .mark-tag .kept .0
+
+mark-expr-returns-4 : (t : ℕ) → mark-expr-lts.Need-returns-4 (mark-expr-calls t) (mark-expr-at t) mark-expr.Post
+mark-expr-returns-4 t c = a-form expr _ _ _ (c .before .before .before .before .before .before .before .before .before .before .before .before .before .before .if2 .left) (c .before .before .before .before .before .before .before .before .before .before .before .before .expr-shape .ensures) (c .before .before .before .before .before .before .before .before .before .before .before .own-words .ensures) _ _ _ _ _ _ _ _ _ (c .before .before .before .before .before .before .before .before .before .before .before .before .before .before .before .if1 .left) (c .before .before .before .before .before .before .before .before .before .p .given .1) (c .before .before .before .before .before .before .mark-tag .ensures) (c .before .before .mark-kids .ensures)
+
+abbrev mark-exprs-Inv-loop : mark-exprs-lts.InvT-loop
+mark-exprs-Inv-loop row marks₀ at n depth under p₀ left₀ marks p left = ((b : List ℕ) (r : Step) → ToldAll p under (decodeAll (λ s l. decode depth s l) (replicate left expr) (drop p row)) marks b r → ToldAll at under (decodeAll (λ s l. decode depth s l) (replicate n expr) (drop at row)) marks₀ b r) × (at ≤ p) × (length marks ≡ length marks₀)
+
+abbrev mark-exprs-μ-loop : mark-exprs-lts.MeasureT-loop
+mark-exprs-μ-loop row marks₀ at n depth under p₀ left₀ marks p left = left
+
+mark-exprs-loop-holds : (t : ℕ) → mark-exprs-lts.Need-loop-holds (mark-exprs-calls t) (mark-exprs-at t) mark-exprs.Post mark-exprs-Inv-loop mark-exprs-μ-loop
+mark-exprs-loop-holds t c = (λ b r t. t, le-refl _, refl)
+
+mark-exprs-mark-expr-requires : (t : ℕ) → mark-exprs-lts.Need-mark-expr-requires (mark-exprs-calls t) (mark-exprs-at t) mark-exprs.Post mark-exprs-Inv-loop mark-exprs-μ-loop
+mark-exprs-mark-expr-requires t c κs = omega arith
+
+mark-exprs-enum-known-q : (t : ℕ) → mark-exprs-lts.Need-enum-known-q (mark-exprs-calls t) (mark-exprs-at t) mark-exprs.Post mark-exprs-Inv-loop mark-exprs-μ-loop
+mark-exprs-enum-known-q t c = search needs
+
+mark-exprs-enum-told : (t : ℕ) → mark-exprs-lts.Need-enum-told (mark-exprs-calls t) (mark-exprs-at t) mark-exprs.Post mark-exprs-Inv-loop mark-exprs-μ-loop
+mark-exprs-enum-told t c = search needs
+
+mark-exprs-same-length : (t : ℕ) → mark-exprs-lts.Need-same-length (mark-exprs-calls t) (mark-exprs-at t) mark-exprs.Post mark-exprs-Inv-loop mark-exprs-μ-loop
+mark-exprs-same-length t c = c .before .before .before .before .mark-expr .kept .1 .0 ∙ c .before .before .before .before .before .before .before .loop .inv .2
+
+mark-exprs-returns : (t : ℕ) → mark-exprs-lts.Need-returns (mark-exprs-calls t) (mark-exprs-at t) mark-exprs.Post mark-exprs-Inv-loop mark-exprs-μ-loop
+mark-exprs-returns t c = c .before .before .before .before .before .before .before .loop .inv .0 _ _ (all-stop _ _ _ expr _ _ _ _ _ _ (c .before .before .before .before .before .before .loop-test .taken) (c .before .before .before .before .mark-expr .ensures) (c .enum-told .given .1))
+
+mark-exprs-sub-left : (t : ℕ) → mark-exprs-lts.Need-sub-left (mark-exprs-calls t) (mark-exprs-at t) mark-exprs.Post mark-exprs-Inv-loop mark-exprs-μ-loop
+mark-exprs-sub-left t c = search needs
+
+mark-exprs-loop-less : (t : ℕ) → mark-exprs-lts.Need-loop-less (mark-exprs-calls t) (mark-exprs-at t) mark-exprs.Post mark-exprs-Inv-loop mark-exprs-μ-loop
+mark-exprs-loop-less t c = search needs
+
+mark-exprs-loop-again : (t : ℕ) → mark-exprs-lts.Need-loop-again (mark-exprs-calls t) (mark-exprs-at t) mark-exprs.Post mark-exprs-Inv-loop mark-exprs-μ-loop
+mark-exprs-loop-again t c = (λ b r t. c .before .before .before .before .before .before .before .before .loop .inv .0 b r (all-more _ _ _ expr _ _ _ _ _ _ (c .before .before .before .before .before .before .before .loop-test .taken) (c .before .before .before .before .before .mark-expr .ensures) (c .before .q .given .1) b r t), le-trans (c .before .before .before .before .before .before .before .before .loop .inv .1) (rises _ _ _ _ _ _ _ (c .before .before .before .before .before .mark-expr .ensures) (c .before .q .given .1)), c .before .before .before .before .before .mark-expr .kept .1 .0 ∙ c .before .before .before .before .before .before .before .before .loop .inv .2)
+
+mark-exprs-same-length-2 : (t : ℕ) → mark-exprs-lts.Need-same-length-2 (mark-exprs-calls t) (mark-exprs-at t) mark-exprs.Post mark-exprs-Inv-loop mark-exprs-μ-loop
+mark-exprs-same-length-2 t c = c .before .loop .inv .2
+
+mark-exprs-returns-2 : (t : ℕ) → mark-exprs-lts.Need-returns-2 (mark-exprs-calls t) (mark-exprs-at t) mark-exprs.Post mark-exprs-Inv-loop mark-exprs-μ-loop
+mark-exprs-returns-2 t c = c .before .loop .inv .0 _ _ (all-none _ _ _ expr _ _ _ (c .loop-test .left))
+
+mark-kids-mark-preds-requires : (t : ℕ) → mark-kids-lts.Need-mark-preds-requires (mark-kids-calls t) (mark-kids-at t) mark-kids.Post
+mark-kids-mark-preds-requires t c κs = omega arith
+
+mark-kids-enum-known-p : (t : ℕ) → mark-kids-lts.Need-enum-known-p (mark-kids-calls t) (mark-kids-at t) mark-kids.Post
+mark-kids-enum-known-p t c = search needs
+
+mark-kids-enum-told : (t : ℕ) → mark-kids-lts.Need-enum-told (mark-kids-calls t) (mark-kids-at t) mark-kids.Post
+mark-kids-enum-told t c = search needs
+
+mark-kids-same-length : (t : ℕ) → mark-kids-lts.Need-same-length (mark-kids-calls t) (mark-kids-at t) mark-kids.Post
+mark-kids-same-length t c = c .before .before .before .before .mark-preds .kept .1 .0
+
+mark-kids-returns : (t : ℕ) → mark-kids-lts.Need-returns (mark-kids-calls t) (mark-kids-at t) mark-kids.Post
+mark-kids-returns t c = both-stop _ _ _ (replicate (c .before .before .before .before .before .before .before .before .args .preds) pred) (replicate (c .before .before .before .before .before .before .before .before .args .exprs) expr) _ _ _ _ _ (c .before .before .before .before .mark-preds .ensures) (c .enum-told .given .1)
+
+mark-kids-mark-exprs-requires : (t : ℕ) → mark-kids-lts.Need-mark-exprs-requires (mark-kids-calls t) (mark-kids-at t) mark-kids.Post
+mark-kids-mark-exprs-requires t c κs = let h = rises-all _ _ _ _ _ _ _ (c .before .before .before .before .before .before .mark-preds .ensures) (c .before .before .p .given .1) in omega arith
+
+mark-kids-same-length-2 : (t : ℕ) → mark-kids-lts.Need-same-length-2 (mark-kids-calls t) (mark-kids-at t) mark-kids.Post
+mark-kids-same-length-2 t c = c .before .before .mark-exprs .kept .1 .0 ∙ c .before .before .before .before .before .before .before .before .before .mark-preds .kept .1 .0
+
+mark-kids-returns-2 : (t : ℕ) → mark-kids-lts.Need-returns-2 (mark-kids-calls t) (mark-kids-at t) mark-kids.Post
+mark-kids-returns-2 t c = both-go _ _ _ (replicate (c .before .before .before .before .before .before .before .before .before .before .before .before .before .args .preds) pred) (replicate (c .before .before .before .before .before .before .before .before .before .before .before .before .before .args .exprs) expr) _ _ _ _ _ _ _ (c .before .before .before .before .before .before .before .before .before .mark-preds .ensures) (c .before .before .before .before .before .p .given .1) (c .before .before .mark-exprs .ensures)
+
+mark-pred-returns : (t : ℕ) → mark-pred-lts.Need-returns (mark-pred-calls t) (mark-pred-at t) mark-pred.Post
+mark-pred-returns t c = too-deep pred _ _ _ _ _ _ (c .if1 .taken)
+
+mark-pred-returns-2 : (t : ℕ) → mark-pred-lts.Need-returns-2 (mark-pred-calls t) (mark-pred-at t) mark-pred.Post
+mark-pred-returns-2 t c = past-end pred _ _ _ _ _ _ (c .if2 .taken)
+
+mark-pred-mul-tag : (t : ℕ) → mark-pred-lts.Need-mul-tag (mark-pred-calls t) (mark-pred-at t) mark-pred.Post
+mark-pred-mul-tag t c = search needs
+
+mark-pred-shared-slice-read-tag : (t : ℕ) → mark-pred-lts.Need-shared-slice-read-tag (mark-pred-calls t) (mark-pred-at t) mark-pred.Post
+mark-pred-shared-slice-read-tag t c = search needs
+
+mark-pred-add-own-words : (t : ℕ) → mark-pred-lts.Need-add-own-words (mark-pred-calls t) (mark-pred-at t) mark-pred.Post
+mark-pred-add-own-words t c = search needs
+
+mark-pred-pred-shape-requires : (t : ℕ) → mark-pred-lts.Need-pred-shape-requires (mark-pred-calls t) (mark-pred-at t) mark-pred.Post
+mark-pred-pred-shape-requires t c κs = search needs
+
+mark-pred-own-words-requires : (t : ℕ) → mark-pred-lts.Need-own-words-requires (mark-pred-calls t) (mark-pred-at t) mark-pred.Post
+mark-pred-own-words-requires t c κs = search needs
+
+mark-pred-enum-known-p : (t : ℕ) → mark-pred-lts.Need-enum-known-p (mark-pred-calls t) (mark-pred-at t) mark-pred.Post
+mark-pred-enum-known-p t c = search needs
+
+mark-pred-enum-told : (t : ℕ) → mark-pred-lts.Need-enum-told (mark-pred-calls t) (mark-pred-at t) mark-pred.Post
+mark-pred-enum-told t c = search needs
+
+mark-pred-returns-3 : (t : ℕ) → mark-pred-lts.Need-returns-3 (mark-pred-calls t) (mark-pred-at t) mark-pred.Post
+mark-pred-returns-3 t c = no-own pred _ _ _ (c .before .before .before .before .before .if2 .left) (c .before .before .before .pred-shape .ensures) (c .before .before .own-words .ensures) _ _ _ (c .before .before .before .before .before .before .if1 .left) (c .enum-told .given .1)
+
+mark-pred-mark-tag-requires : (t : ℕ) → mark-pred-lts.Need-mark-tag-requires (mark-pred-calls t) (mark-pred-at t) mark-pred.Post
+mark-pred-mark-tag-requires t c κs = omega arith
+
+mark-pred-sub-mark-kids : (t : ℕ) → mark-pred-lts.Need-sub-mark-kids (mark-pred-calls t) (mark-pred-at t) mark-pred.Post
+mark-pred-sub-mark-kids t c = search needs
+
+mark-pred-add-mark-kids : (t : ℕ) → mark-pred-lts.Need-add-mark-kids (mark-pred-calls t) (mark-pred-at t) mark-pred.Post
+mark-pred-add-mark-kids t c = let w = few _ _ _ _ _ _ _ (c .before .before .before .before .before .before .before .before .own-words .ensures) (c .before .before .before .before .before .before .p .given .1) in omega arith
+
+mark-pred-mark-kids-requires : (t : ℕ) → mark-pred-lts.Need-mark-kids-requires (mark-pred-calls t) (mark-pred-at t) mark-pred.Post
+mark-pred-mark-kids-requires t c κs = let w = few _ _ _ _ _ _ _ (c .before .before .before .before .before .before .before .before .own-words .ensures) (c .before .before .before .before .before .before .p .given .1) in let h = kids-after pred _ _ 0 (c .before .before .before .before .before .before .before .before .before .before .before .if2 .left) (c .before .before .before .before .before .before .before .before .before .pred-shape .ensures) (c .before .before .before .before .before .before .before .before .own-words .ensures) _ _ _ _ (c .before .before .before .before .before .before .p .given .1) in omega arith
+
+mark-pred-same-length : (t : ℕ) → mark-pred-lts.Need-same-length (mark-pred-calls t) (mark-pred-at t) mark-pred.Post
+mark-pred-same-length t c = c .before .before .mark-kids .kept .1 .0 ∙ c .before .before .before .before .before .before .mark-tag .kept .0
+
+mark-pred-returns-4 : (t : ℕ) → mark-pred-lts.Need-returns-4 (mark-pred-calls t) (mark-pred-at t) mark-pred.Post
+mark-pred-returns-4 t c = a-form pred _ _ _ (c .before .before .before .before .before .before .before .before .before .before .before .before .before .before .if2 .left) (c .before .before .before .before .before .before .before .before .before .before .before .before .pred-shape .ensures) (c .before .before .before .before .before .before .before .before .before .before .before .own-words .ensures) _ _ _ _ _ _ _ _ _ (c .before .before .before .before .before .before .before .before .before .before .before .before .before .before .before .if1 .left) (c .before .before .before .before .before .before .before .before .before .p .given .1) (c .before .before .before .before .before .before .mark-tag .ensures) (c .before .before .mark-kids .ensures)
+
+abbrev mark-preds-Inv-loop : mark-preds-lts.InvT-loop
+mark-preds-Inv-loop row marks₀ at n depth under p₀ left₀ marks p left = ((b : List ℕ) (r : Step) → ToldAll p under (decodeAll (λ s l. decode depth s l) (replicate left pred) (drop p row)) marks b r → ToldAll at under (decodeAll (λ s l. decode depth s l) (replicate n pred) (drop at row)) marks₀ b r) × (at ≤ p) × (length marks ≡ length marks₀)
+
+abbrev mark-preds-μ-loop : mark-preds-lts.MeasureT-loop
+mark-preds-μ-loop row marks₀ at n depth under p₀ left₀ marks p left = left
+
+mark-preds-loop-holds : (t : ℕ) → mark-preds-lts.Need-loop-holds (mark-preds-calls t) (mark-preds-at t) mark-preds.Post mark-preds-Inv-loop mark-preds-μ-loop
+mark-preds-loop-holds t c = (λ b r t. t, le-refl _, refl)
+
+mark-preds-mark-pred-requires : (t : ℕ) → mark-preds-lts.Need-mark-pred-requires (mark-preds-calls t) (mark-preds-at t) mark-preds.Post mark-preds-Inv-loop mark-preds-μ-loop
+mark-preds-mark-pred-requires t c κs = omega arith
+
+mark-preds-enum-known-q : (t : ℕ) → mark-preds-lts.Need-enum-known-q (mark-preds-calls t) (mark-preds-at t) mark-preds.Post mark-preds-Inv-loop mark-preds-μ-loop
+mark-preds-enum-known-q t c = search needs
+
+mark-preds-enum-told : (t : ℕ) → mark-preds-lts.Need-enum-told (mark-preds-calls t) (mark-preds-at t) mark-preds.Post mark-preds-Inv-loop mark-preds-μ-loop
+mark-preds-enum-told t c = search needs
+
+mark-preds-same-length : (t : ℕ) → mark-preds-lts.Need-same-length (mark-preds-calls t) (mark-preds-at t) mark-preds.Post mark-preds-Inv-loop mark-preds-μ-loop
+mark-preds-same-length t c = c .before .before .before .before .mark-pred .kept .1 .0 ∙ c .before .before .before .before .before .before .before .loop .inv .2
+
+mark-preds-returns : (t : ℕ) → mark-preds-lts.Need-returns (mark-preds-calls t) (mark-preds-at t) mark-preds.Post mark-preds-Inv-loop mark-preds-μ-loop
+mark-preds-returns t c = c .before .before .before .before .before .before .before .loop .inv .0 _ _ (all-stop _ _ _ pred _ _ _ _ _ _ (c .before .before .before .before .before .before .loop-test .taken) (c .before .before .before .before .mark-pred .ensures) (c .enum-told .given .1))
+
+mark-preds-sub-left : (t : ℕ) → mark-preds-lts.Need-sub-left (mark-preds-calls t) (mark-preds-at t) mark-preds.Post mark-preds-Inv-loop mark-preds-μ-loop
+mark-preds-sub-left t c = search needs
+
+mark-preds-loop-less : (t : ℕ) → mark-preds-lts.Need-loop-less (mark-preds-calls t) (mark-preds-at t) mark-preds.Post mark-preds-Inv-loop mark-preds-μ-loop
+mark-preds-loop-less t c = search needs
+
+mark-preds-loop-again : (t : ℕ) → mark-preds-lts.Need-loop-again (mark-preds-calls t) (mark-preds-at t) mark-preds.Post mark-preds-Inv-loop mark-preds-μ-loop
+mark-preds-loop-again t c = (λ b r t. c .before .before .before .before .before .before .before .before .loop .inv .0 b r (all-more _ _ _ pred _ _ _ _ _ _ (c .before .before .before .before .before .before .before .loop-test .taken) (c .before .before .before .before .before .mark-pred .ensures) (c .before .q .given .1) b r t), le-trans (c .before .before .before .before .before .before .before .before .loop .inv .1) (rises _ _ _ _ _ _ _ (c .before .before .before .before .before .mark-pred .ensures) (c .before .q .given .1)), c .before .before .before .before .before .mark-pred .kept .1 .0 ∙ c .before .before .before .before .before .before .before .before .loop .inv .2)
+
+mark-preds-same-length-2 : (t : ℕ) → mark-preds-lts.Need-same-length-2 (mark-preds-calls t) (mark-preds-at t) mark-preds.Post mark-preds-Inv-loop mark-preds-μ-loop
+mark-preds-same-length-2 t c = c .before .loop .inv .2
+
+mark-preds-returns-2 : (t : ℕ) → mark-preds-lts.Need-returns-2 (mark-preds-calls t) (mark-preds-at t) mark-preds.Post mark-preds-Inv-loop mark-preds-μ-loop
+mark-preds-returns-2 t c = c .before .loop .inv .0 _ _ (all-none _ _ _ pred _ _ _ (c .loop-test .left))
+
+pub +mark-expr+mark-exprs+mark-kids+mark-pred+mark-preds-spec : {M : Type 1} → statement M
++mark-expr+mark-exprs+mark-kids+mark-pred+mark-preds-spec =
+    close μ-mark-expr μ-mark-exprs μ-mark-kids μ-mark-pred μ-mark-preds
+    (λ t. mark-expr-lts.spec (mark-expr-calls t) (mark-expr-at t) mark-expr.Post (mark-expr-returns t) (mark-expr-returns-2 t) (mark-expr-mul-tag t) (mark-expr-shared-slice-read-tag t) (mark-expr-add-own-words t) (mark-expr-expr-shape-requires t) (mark-expr-own-words-requires t) (mark-expr-enum-known-p t) (mark-expr-enum-told t) (mark-expr-returns-3 t) (mark-expr-mark-tag-requires t) (mark-expr-sub-mark-kids t) (mark-expr-add-mark-kids t) (mark-expr-mark-kids-requires t) (mark-expr-same-length t) (mark-expr-returns-4 t))
+    (λ t. mark-exprs-lts.spec (mark-exprs-calls t) (mark-exprs-at t) mark-exprs.Post mark-exprs-Inv-loop mark-exprs-μ-loop (mark-exprs-loop-holds t) (mark-exprs-mark-expr-requires t) (mark-exprs-enum-known-q t) (mark-exprs-enum-told t) (mark-exprs-same-length t) (mark-exprs-returns t) (mark-exprs-sub-left t) (mark-exprs-loop-less t) (mark-exprs-loop-again t) (mark-exprs-same-length-2 t) (mark-exprs-returns-2 t))
+    (λ t. mark-kids-lts.spec (mark-kids-calls t) (mark-kids-at t) mark-kids.Post (mark-kids-mark-preds-requires t) (mark-kids-enum-known-p t) (mark-kids-enum-told t) (mark-kids-same-length t) (mark-kids-returns t) (mark-kids-mark-exprs-requires t) (mark-kids-same-length-2 t) (mark-kids-returns-2 t))
+    (λ t. mark-pred-lts.spec (mark-pred-calls t) (mark-pred-at t) mark-pred.Post (mark-pred-returns t) (mark-pred-returns-2 t) (mark-pred-mul-tag t) (mark-pred-shared-slice-read-tag t) (mark-pred-add-own-words t) (mark-pred-pred-shape-requires t) (mark-pred-own-words-requires t) (mark-pred-enum-known-p t) (mark-pred-enum-told t) (mark-pred-returns-3 t) (mark-pred-mark-tag-requires t) (mark-pred-sub-mark-kids t) (mark-pred-add-mark-kids t) (mark-pred-mark-kids-requires t) (mark-pred-same-length t) (mark-pred-returns-4 t))
+    (λ t. mark-preds-lts.spec (mark-preds-calls t) (mark-preds-at t) mark-preds.Post mark-preds-Inv-loop mark-preds-μ-loop (mark-preds-loop-holds t) (mark-preds-mark-pred-requires t) (mark-preds-enum-known-q t) (mark-preds-enum-told t) (mark-preds-same-length t) (mark-preds-returns t) (mark-preds-sub-left t) (mark-preds-loop-less t) (mark-preds-loop-again t) (mark-preds-same-length-2 t) (mark-preds-returns-2 t))

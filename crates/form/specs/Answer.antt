@@ -1,0 +1,85 @@
+-- What a call answers: number, length and output row, in document 01's order of refusals; and the answers of the checks.
+use mathlib.Core.Bool.{Bool, true, false, _&&_}
+use mathlib.Core.List.{List, [], _∷_, _++_, map}
+use mathlib.Core.Option.{Option, none as absent, some}
+use Prim.Native.Nat.{ℕ}
+use lib.Dec.{leb, eqb}
+use lib.ListN.{length, drop}
+use Rattle.form.specs.Form.{Form, pick, encode}
+use Rattle.form.specs.Tag.{Sort}
+use Rattle.form.specs.Decode.{Whole, one, not-one, rowForm, Found, found, missing, formOf}
+use Rattle.form.specs.Lists.{Entry, wordOf, listOf, goodNames}
+use Rattle.form.specs.declared.lists.ListKind.{ListKind}
+use Rattle.form.specs.declared.lists.ListKind.the-variants.{Pairs, Places}
+use Rattle.form.specs.declared.answer.Kind.{Kind}
+use Rattle.form.specs.declared.answer.Answer.{Answer}
+use Rattle.form.specs.declared.answer.Answer.the-variants.{Done, No}
+
+-- the row that is answered, or the number of a refusal
+pub data Outcome : Type 0 where
+  answer : List ℕ → Outcome
+  refusal : ℕ → Outcome
+
+-- as the code answers it, and the output row afterwards: a refusal leaves it as it was, an answer the words past its length
+abbrev pub told : Outcome → Answer
+told (answer ws) = Done (length ws)
+told (refusal n) = No n
+
+abbrev pub written : Outcome → List ℕ → List ℕ
+written (answer ws) out = ws ++ drop (length ws) out
+written (refusal n) out = out
+
+-- document 01's number and length for each case of the code's answer
+abbrev pub number : Answer → ℕ
+number (Done n) = 0
+number (No k) = k
+
+abbrev pub lengthOf : Answer → ℕ
+lengthOf (Done n) = n
+lengthOf (No k) = 0
+
+-- a row's 1 and 2, then what follows
+abbrev pub within : List ℕ → Outcome → Outcome
+within row o = pick (leb (length row) 8192) o (refusal 1)
+
+abbrev pub ofFound : (Sort → Form → Outcome) → Found → Outcome
+ofFound go (found s f) = go s f
+ofFound go missing = refusal 2
+
+abbrev pub ofList : (List Entry → Outcome) → Option (List Entry) → Outcome
+ofList go (some es) = go es
+ofList go absent = refusal 2
+
+abbrev pub withForm : Kind → List ℕ → (Sort → Form → Outcome) → Outcome
+withForm kind row go = within row (ofFound go (formOf kind row))
+
+abbrev pub withList : ListKind → List ℕ → (List Entry → Outcome) → Outcome
+withList kind row go = within row (ofList go (listOf kind row))
+
+-- 15: the work row has under 16,384 words
+abbrev pub withWork : ℕ → Outcome → Outcome
+withWork work o = pick (leb 16384 work) o (refusal 15)
+
+abbrev pub needs : ℕ → Bool → Outcome → Outcome
+needs n b o = pick b o (refusal n)
+
+-- the result: 7 where its row is outside the limits, 14 where the output row is shorter
+abbrev pub isOne : Whole → Bool
+isOne (one f) = true
+isOne not-one = false
+
+unfoldable pub finish : Sort → ℕ → Form → Outcome
+finish s room g = needs 7 (isOne (rowForm s (encode g))) (needs 14 (leb (length (encode g)) room) (answer (encode g)))
+
+-- the checks: of a form, and of the three lists (4 for the names, 5 for the number of places)
+unfoldable pub checkOutcome : Kind → List ℕ → Outcome
+checkOutcome kind row = withForm kind row (λ s f. answer [])
+
+unfoldable pub namesOutcome : List ℕ → Outcome
+namesOutcome row = within row (needs 4 (goodNames row) (answer []))
+
+unfoldable pub pairsOutcome : List ℕ → Outcome
+pairsOutcome row = withList Pairs row (λ es. needs 4 (goodNames (map wordOf es)) (answer []))
+
+unfoldable pub placesOutcome : ℕ → List ℕ → Outcome
+placesOutcome n row = withList Places row (λ es. needs 5 (leb n 32 && eqb (length es) n) (answer []))

@@ -1,0 +1,120 @@
+-- What a row says: the form at its front, and whether it is exactly one form within the limits.
+use mathlib.Core.Bool.{Bool, true, false}
+use mathlib.Core.List.{List, [], _∷_, _++_}
+use Prim.Native.Nat.{ℕ, zero, suc}
+use lib.Dec.{leb, eqb}
+use lib.ListN.{length}
+use Rattle.form.specs.Form.{Leaf, free, bound, Form, leaf, node, Forms, none, more, pick, between}
+use Rattle.form.specs.Tag.{Sort, expr, pred, Own, ask, kids, wrong, own, sorts}
+use Rattle.form.specs.declared.answer.Kind.{Kind}
+use Rattle.form.specs.declared.answer.Kind.the-variants.{Expression, Predicate, Either}
+
+-- what was read after a tag: own words, declared names, the numbers of predicates and of expressions, and the words left
+pub data Head : Type 0 where
+  head : List ℕ → List ℕ → ℕ → ℕ → List ℕ → Head
+  bad : Head
+
+abbrev pub addWord : ℕ → Head → Head
+addWord w (head o ds p e r) = head (w ∷ o) ds p e r
+addWord w bad = bad
+
+abbrev pub addName : ℕ → Head → Head
+addName w (head o ds p e r) = head o (w ∷ ds) p e r
+addName w bad = bad
+
+abbrev pub only : Bool → Head → Head
+only true h = h
+only false h = bad
+
+abbrev pub names : ℕ → ℕ → ℕ → List ℕ → Head
+names zero p e ws = head [] [] p e ws
+names (suc n) p e [] = bad
+names (suc n) p e (w ∷ ws) = let h = addName w (names n p e ws) in only (between 0 65535 w) h
+
+unfoldable pub read : Own → List ℕ → Head
+read (ask lo hi k) [] = bad
+read (ask lo hi k) (w ∷ ws) = let h = addWord w (read (k w) ws) in only (between lo hi w) h
+read (kids n p e) ws = names n p e ws
+read wrong ws = bad
+
+-- a form and the words after it; several forms and the words after them
+pub data Got : Type 0 where
+  got : Form → List ℕ → Got
+  no-form : Got
+
+pub data Gots : Type 0 where
+  gots : Forms → List ℕ → Gots
+  no-forms : Gots
+
+abbrev pub first : List ℕ → ℕ
+first [] = 0
+first (w ∷ ws) = w
+
+abbrev pub leafAt : ℕ → ℕ → Leaf
+leafAt t n = pick (eqb t 1) (free n) (bound n)
+
+abbrev pub isLeaf : ℕ → Bool
+isLeaf zero = false
+isLeaf (suc zero) = true
+isLeaf (suc (suc zero)) = true
+isLeaf (suc (suc (suc t))) = false
+
+abbrev pub make : ℕ → List ℕ → List ℕ → Forms → Form
+make t o ds ks = pick (isLeaf t) (leaf (leafAt t (first o))) (node t o ds ks)
+
+abbrev pub addForm : Form → Gots → Gots
+addForm f (gots fs r) = gots (more f fs) r
+addForm f no-forms = no-forms
+
+abbrev pub close : ℕ → List ℕ → List ℕ → Gots → Got
+close t o ds (gots ks r) = got (make t o ds ks) r
+close t o ds no-forms = no-form
+
+abbrev pub chain : Got → (List ℕ → Gots) → Gots
+chain (got f r) k = addForm f (k r)
+chain no-form k = no-forms
+
+unfoldable pub decodeAll : (Sort → List ℕ → Got) → List Sort → List ℕ → Gots
+decodeAll rec [] ws = gots none ws
+decodeAll rec (s ∷ ss) ws = chain (rec s ws) (λ r. decodeAll rec ss r)
+
+abbrev pub branch : (Sort → List ℕ → Got) → ℕ → Head → Got
+branch rec t (head o ds p e r) = close t o ds (decodeAll rec (sorts p e) r)
+branch rec t bad = no-form
+
+-- the form of the sort at the front of the row, at most so deep (a leaf is 1)
+unfoldable pub decode : ℕ → Sort → List ℕ → Got
+decode zero s ws = no-form
+decode (suc d) s [] = no-form
+decode (suc d) s (t ∷ ws) = branch (λ s′ ws′. decode d s′ ws′) t (read (own s t) ws)
+
+-- a row that is exactly one form of the sort: at most 8,192 words, at most 64 deep
+pub data Whole : Type 0 where
+  one : Form → Whole
+  not-one : Whole
+
+abbrev pub whole : Got → Whole
+whole (got f []) = one f
+whole (got f (w ∷ r)) = not-one
+whole no-form = not-one
+
+unfoldable pub rowForm : Sort → List ℕ → Whole
+rowForm s row = let w = whole (decode 64 s row) in pick (leb (length row) 8192) w not-one
+
+-- a row that is one form of the kind asked for, and its sort
+pub data Found : Type 0 where
+  found : Sort → Form → Found
+  missing : Found
+
+abbrev pub asSort : Sort → Whole → Found
+asSort s (one f) = found s f
+asSort s not-one = missing
+
+abbrev pub either : Found → Found → Found
+either (found s f) o = found s f
+either missing o = o
+
+unfoldable pub formOf : Kind → List ℕ → Found
+formOf Expression row = asSort expr (rowForm expr row)
+formOf Predicate row = asSort pred (rowForm pred row)
+formOf Either row = either (asSort expr (rowForm expr row)) (asSort pred (rowForm pred row))

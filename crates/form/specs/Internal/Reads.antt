@@ -1,0 +1,124 @@
+-- What the code's parts answer, by what is read at a position of the row; and the marks of a form: at the tag of each name and index one
+-- more than the number of declarations that are open there.
+use mathlib.Core.Path.{_≡_}
+use mathlib.Core.List.{List, [], _∷_}
+use Prim.Native.Nat.{ℕ, zero, suc, _+_}
+use mathlib.Core.Bool.{Bool, true, false, _&&_}
+use mathlib.Core.Option.{Option, none as absent, some}
+use lib.Dec.{leb}
+use lib.ListN.{length, set, take, replicate}
+use Rattle.form.specs.Form.{Leaf, Form, leaf, node, Forms, none, more, pick, between, encode, encodeAll}
+use Rattle.form.specs.Decode.{Head, head, bad, Got, got, no-form, Gots, gots, no-forms, isLeaf, Found, found, missing}
+use Rattle.form.specs.Tag.{Sort, expr, shapeOf}
+use Rattle.form.specs.Lists.{Place, kept, filled, Entry, entry, wordOf, entryWords, member, distinct}
+use Rattle.form.specs.declared.answer.Kind.{Kind}
+use Rattle.form.specs.declared.answer.Kind.the-variants.{Expression, Predicate, Either}
+use Rattle.form.specs.declared.tag.Shape.{Shape}
+use Rattle.form.specs.declared.tag.Shape.the-variants.{Unknown, Plain, Name, Value, Exprs, Preds, Apply, Compr, Quant}
+use Rattle.form.specs.declared.lists.Table.{Table}
+use Rattle.form.specs.declared.lists.Listed.{Listed}
+use Rattle.form.specs.declared.head.Step.{Step}
+use Rattle.form.specs.declared.head.Step.the-variants.{End, Bad}
+use Rattle.form.specs.declared.head.Word.{Word}
+use Rattle.form.specs.declared.head.Word.the-variants.{Is, Not}
+use Rattle.form.specs.declared.head.Head as code
+use Rattle.form.specs.declared.head.Head.the-variants.{Kids, None}
+
+unfoldable pub wordAt : ℕ → ℕ → List ℕ → Word
+wordAt lo hi [] = Not
+wordAt lo hi (w ∷ ws) = pick (between lo hi w) (Is w) Not
+
+unfoldable pub headAt : ℕ → Head → code.Head
+headAt at (head o ds p e r) = Kids (at + (length o + length ds)) p e (length ds)
+headAt at bad = None
+
+unfoldable pub namesAt : ℕ → Head → Step
+namesAt at (head o ds p e r) = End (at + length ds)
+namesAt at bad = Bad
+
+-- the list l with the marks of a form that stands at `at` under u declarations
+unfoldable mutual
+  pub mark : Form → ℕ → ℕ → List ℕ → List ℕ
+  mark (leaf x) at u l = set l at (suc u)
+  mark (node t o ds ks) at u l = markAll ks (at + suc (length o + length ds)) (length ds + u) l
+
+  pub markAll : Forms → ℕ → ℕ → List ℕ → List ℕ
+  markAll none at u l = l
+  markAll (more f fs) at u l = markAll fs (at + length (encode f)) u (mark f at u l)
+
+unfoldable pub markTag : ℕ → ℕ → ℕ → List ℕ → List ℕ
+markTag t at u l = pick (isLeaf t) (set l at (suc u)) l
+
+-- a reader at `at` answers r and leaves the marks b, where they were a
+unfoldable pub Told : ℕ → ℕ → Got → List ℕ → List ℕ → Step → Type 0
+Told at u (got f x) a b r = (r ≡ End (at + length (encode f))) × (b ≡ mark f at u a)
+Told at u no-form a b r = r ≡ Bad
+
+unfoldable pub ToldAll : ℕ → ℕ → Gots → List ℕ → List ℕ → Step → Type 0
+ToldAll at u (gots fs x) a b r = (r ≡ End (at + length (encodeAll fs))) × (b ≡ markAll fs at u a)
+ToldAll at u no-forms a b r = r ≡ Bad
+
+unfoldable pub Marked : Found → List ℕ → List ℕ → Type 0
+Marked (found s f) a b = b ≡ mark f 0 0 a
+Marked missing a b = Unit {0}
+
+-- which sort a row is read as
+abbrev pub known : Shape → Bool
+known Unknown = false
+known (Plain p e) = true
+known Name = true
+known Value = true
+known (Exprs m) = true
+known (Preds m) = true
+known Apply = true
+known Compr = true
+known Quant = true
+
+abbrev pub knownAt : List ℕ → Bool
+knownAt [] = false
+knownAt (t ∷ ws) = known (shapeOf expr t)
+
+unfoldable pub asExpr : Kind → List ℕ → Bool
+asExpr Expression row = true
+asExpr Predicate row = false
+asExpr Either row = knownAt row
+
+-- entries of lists: their marks, their table, and what the code's parts answer
+abbrev pub markPlace : Place → ℕ → List ℕ → List ℕ
+markPlace kept at l = l
+markPlace (filled f) at l = mark f at 0 l
+
+unfoldable pub markEntry : Entry → ℕ → List ℕ → List ℕ
+markEntry (entry w p) at l = markPlace p (at + 1) l
+
+unfoldable pub markEntries : List Entry → ℕ → List ℕ → List ℕ
+markEntries [] at l = l
+markEntries (e ∷ es) at l = markEntries es (at + length (entryWords e)) (markEntry e at l)
+
+unfoldable pub ToldEntry : ℕ → Option (Entry × List ℕ) → List ℕ → List ℕ → Step → Type 0
+ToldEntry at (some x) a b r = (r ≡ End (at + length (entryWords (x .0)))) × (b ≡ markEntry (x .0) at a)
+ToldEntry at absent a b r = r ≡ Bad
+
+unfoldable pub emptyTable : Table
+emptyTable = record { words = replicate 32 0; starts = replicate 32 0; ends = replicate 32 0; n = 0 }
+
+unfoldable pub addRow : Table → ℕ → ℕ → ℕ → Table
+addRow t w s e = record { words = set (t .words) (t .n) w; starts = set (t .starts) (t .n) s; ends = set (t .ends) (t .n) e; n = t .n + 1 }
+
+unfoldable pub tabled : List Entry → ℕ → Table → Table
+tabled [] at t = t
+tabled (e ∷ es) at t = tabled es (at + length (entryWords e)) (addRow t (wordOf e) (at + 1) (at + length (entryWords e)))
+
+-- the entries from a position on, added to the table t
+unfoldable pub ListingFrom : ℕ → Table → Option (List Entry) → List ℕ → List ℕ → Listed → Type 0
+ListingFrom at t (some es) a b r = (r ≡ record { ok = true; table = tabled es at t }) × (b ≡ markEntries es at a)
+ListingFrom at t absent a b r = r .ok ≡ false
+
+abbrev pub Listing : Option (List Entry) → List ℕ → List ℕ → Listed → Type 0
+Listing o a b r = ListingFrom 0 emptyTable o a b r
+
+unfoldable pub memberOf : ℕ → List ℕ → Bool
+memberOf m ns = member m ns
+
+unfoldable pub goodTable : Table → Bool
+goodTable t = leb (t .n) 32 && distinct (take (t .n) (t .words))

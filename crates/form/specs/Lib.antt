@@ -1,0 +1,6 @@
+pub mod Form
+pub mod Tag
+pub mod Decode
+pub mod Lists
+pub mod Answer
+pub mod Internal

@@ -1,0 +1,27 @@
+// What every public function takes and answers.
+
+// The length of the answer, or the number of a refusal.
+pub enum Answer {
+    Done(usize),
+    No(u32),
+}
+
+// Which kind of form is asked for.
+pub enum Kind {
+    Expression,
+    Predicate,
+    Either,
+}
+
+// The limits of a row: words, depth, a name or index, declarations of one quantifier.
+pub struct Limit {
+    pub value: usize,
+}
+
+impl Limit {
+    pub const WORDS: usize = 8192;
+    pub const DEPTH: u32 = 64;
+    pub const NAME: u32 = 65535;
+    pub const DECLARATIONS: u32 = 32;
+    pub const WORD: u32 = 4294967295;
+}

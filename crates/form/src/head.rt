@@ -1,0 +1,140 @@
+// What stands between a tag and its children: own words and declared names.
+use crate::answer::Limit;
+use crate::tag::Shape;
+ghost use mathlib.Core.Path.{_≡_};
+ghost use lib.ListN.{drop};
+ghost use Rattle.form.specs.Tag.{ownOf, word, exprsFrom, predsFrom, declare, ask};
+ghost use Rattle.form.specs.Decode.{read, names};
+ghost use Rattle.form.specs.Internal.Reads.{wordAt, headAt, namesAt};
+
+// Where a part of a row ends, or that it is no such part.
+pub enum Step {
+    End(usize),
+    Bad,
+}
+
+// A word within its limits, or none.
+pub enum Word {
+    Is(u32),
+    Not,
+}
+
+// Where the children begin, the number of predicates and, after them, of expressions, and the
+// number of declarations that are open in them.
+pub enum Head {
+    Kids(usize, u32, u32, u32),
+    None,
+}
+
+// The word at `at`, if it is between the limits.
+fn asked(row: &[u32], at: usize, lo: u32, hi: u32) -> Word
+    ensures { λ r. ⌜ r ≡ wordAt lo hi (drop at (now (row .entry))) ⌝ }
+{
+    if row.len() <= at {
+        return Word::Not;
+    }
+    let w = row[at];
+    if w < lo {
+        return Word::Not;
+    }
+    if hi < w {
+        return Word::Not;
+    }
+    Word::Is(w)
+}
+
+// One word of at most hi, and no children.
+fn word_head(row: &[u32], at: usize, hi: u32) -> Head
+    ensures { λ r. ⌜ r ≡ headAt at (read (word hi) (drop at (now (row .entry)))) ⌝ }
+{
+    let Word::Is(w) = asked(row, at, 0, hi) else {
+        return Head::None;
+    };
+    Head::Kids(at + 1, 0, 0, 0)
+}
+
+// A count of at least min, of expressions.
+fn exprs_head(row: &[u32], at: usize, min: u32) -> Head
+    ensures { λ r. ⌜ r ≡ headAt at (read (exprsFrom min) (drop at (now (row .entry)))) ⌝ }
+{
+    let Word::Is(n) = asked(row, at, min, Limit::WORD) else {
+        return Head::None;
+    };
+    Head::Kids(at + 1, 0, n, 0)
+}
+
+// A count of at least min, of predicates.
+fn preds_head(row: &[u32], at: usize, min: u32) -> Head
+    ensures { λ r. ⌜ r ≡ headAt at (read (predsFrom min) (drop at (now (row .entry)))) ⌝ }
+{
+    let Word::Is(n) = asked(row, at, min, Limit::WORD) else {
+        return Head::None;
+    };
+    Head::Kids(at + 1, n, 0, 0)
+}
+
+// A name, then a count of expressions.
+fn apply_head(row: &[u32], at: usize) -> Head
+    ensures { λ r. ⌜ r ≡ headAt at (read (ask 0 65535 (λ n. exprsFrom 0)) (drop at (now (row .entry)))) ⌝ }
+{
+    let Word::Is(w) = asked(row, at, 0, Limit::NAME) else {
+        return Head::None;
+    };
+    exprs_head(row, at + 1, 0)
+}
+
+// Where n names end.
+fn names_end(row: &[u32], at: usize, n: u32) -> Step
+    ensures { λ r. ⌜ r ≡ namesAt at (names n 0 0 (drop at (now (row .entry)))) ⌝ }
+{
+    let mut p = at;
+    let mut left = n;
+    while 0 < left {
+        let Word::Is(w) = asked(row, p, 0, Limit::NAME) else {
+            return Step::Bad;
+        };
+        p += 1;
+        left -= 1;
+    }
+    Step::End(p)
+}
+
+// The declarations of a quantifier: one predicate and so many expressions follow.
+fn bound_head(row: &[u32], at: usize, exprs: u32) -> Head
+    ensures { λ r. ⌜ r ≡ headAt at (read (declare exprs) (drop at (now (row .entry)))) ⌝ }
+{
+    let Word::Is(n) = asked(row, at, 1, Limit::DECLARATIONS) else {
+        return Head::None;
+    };
+    let Step::End(p) = names_end(row, at + 1, n) else {
+        return Head::None;
+    };
+    Head::Kids(p, 1, exprs, n)
+}
+
+// The form word of a comprehension, from 0 to 3, and its declarations.
+fn compr_head(row: &[u32], at: usize) -> Head
+    ensures { λ r. ⌜ r ≡ headAt at (read (ask 0 3 (λ n. declare 1)) (drop at (now (row .entry)))) ⌝ }
+{
+    let Word::Is(w) = asked(row, at, 0, 3) else {
+        return Head::None;
+    };
+    bound_head(row, at + 1, 1)
+}
+
+// What stands after a tag of the shape, before its children.
+pub fn own_words(row: &[u32], at: usize, shape: Shape) -> Head
+    ensures { λ r. ⌜ r ≡ headAt at (read (ownOf shape) (drop at (now (row .entry)))) ⌝ }
+{
+    match shape {
+        Shape::Unknown => Head::None,
+        Shape::Plain(preds, exprs) => Head::Kids(at, preds, exprs, 0),
+        Shape::Name => word_head(row, at, Limit::NAME),
+        Shape::Value => word_head(row, at, Limit::WORD),
+        Shape::Exprs(min) => exprs_head(row, at, min),
+        Shape::Preds(min) => preds_head(row, at, min),
+        Shape::Apply => apply_head(row, at),
+        Shape::Compr => compr_head(row, at),
+        Shape::Quant => bound_head(row, at, 0),
+    }
+}

@@ -1,0 +1,121 @@
+// The readers of expressions and of predicates, which call one another over the word row. They also mark each name and index with the
+// number of declarations that are open there.
+use crate::answer::Limit;
+use crate::head::Head;
+use crate::head::Step;
+use crate::head::own_words;
+use crate::tag::expr_shape;
+use crate::tag::pred_shape;
+ghost use mathlib.Core.Path.{_≡_};
+ghost use Prim.Native.Nat.{_+_, _*_, _^_, _<_};
+ghost use lib.ListN.{drop, replicate};
+ghost use Rattle.form.specs.Tag.{expr, pred, sorts};
+ghost use Rattle.form.specs.Decode.{decode, decodeAll};
+ghost use Rattle.form.specs.Internal.Reads.{markTag, Told, ToldAll};
+
+// Marks the tag at `at`, if it is that of a name or an index.
+fn mark_tag(marks: &mut [u32], at: usize, tag: u32, under: u32)
+    requires { ⌜ under + 1 < 2 ^ 32 ⌝ }
+    ensures { λ _. ⌜ now (marks .exit) ≡ markTag tag at under (now (marks .entry)) ⌝ }
+{
+    if tag == 0 {
+        return;
+    }
+    if 2 < tag {
+        return;
+    }
+    if at < marks.len() {
+        marks[at] = under + 1;
+    }
+}
+
+// An expression at `at`, under so many open declarations.
+pub fn mark_expr(row: &[u32], marks: &mut [u32], at: usize, depth: u32, under: u32) -> Step
+    requires { ⌜ under + 32 * depth < 2 ^ 32 ⌝ }
+    ensures { λ r. ⌜ Told at under (decode depth expr (drop at (now (row .entry)))) (now (marks .entry)) (now (marks .exit)) r ⌝ }
+{
+    if depth == 0 {
+        return Step::Bad;
+    }
+    if row.len() <= at {
+        return Step::Bad;
+    }
+    let tag = row[at];
+    let Head::Kids(p, preds, exprs, binds) = own_words(row, at + 1, expr_shape(tag)) else {
+        return Step::Bad;
+    };
+    mark_tag(marks, at, tag, under);
+    mark_kids(row, marks, p, preds, exprs, depth - 1, under + binds)
+}
+
+// A predicate at `at`, under so many open declarations.
+pub fn mark_pred(row: &[u32], marks: &mut [u32], at: usize, depth: u32, under: u32) -> Step
+    requires { ⌜ under + 32 * depth < 2 ^ 32 ⌝ }
+    ensures { λ r. ⌜ Told at under (decode depth pred (drop at (now (row .entry)))) (now (marks .entry)) (now (marks .exit)) r ⌝ }
+{
+    if depth == 0 {
+        return Step::Bad;
+    }
+    if row.len() <= at {
+        return Step::Bad;
+    }
+    let tag = row[at];
+    let Head::Kids(p, preds, exprs, binds) = own_words(row, at + 1, pred_shape(tag)) else {
+        return Step::Bad;
+    };
+    mark_tag(marks, at, tag, under);
+    mark_kids(row, marks, p, preds, exprs, depth - 1, under + binds)
+}
+
+// So many predicates, then so many expressions.
+fn mark_kids(
+    row: &[u32],
+    marks: &mut [u32],
+    at: usize,
+    preds: u32,
+    exprs: u32,
+    depth: u32,
+    under: u32,
+) -> Step
+    requires { ⌜ under + 32 * depth < 2 ^ 32 ⌝ }
+    ensures { λ r. ⌜ ToldAll at under (decodeAll (λ s l. decode depth s l) (sorts preds exprs) (drop at (now (row .entry)))) (now (marks .entry)) (now (marks .exit)) r ⌝ }
+{
+    let Step::End(p) = mark_preds(row, marks, at, preds, depth, under) else {
+        return Step::Bad;
+    };
+    mark_exprs(row, marks, p, exprs, depth, under)
+}
+
+// n expressions in a row.
+fn mark_exprs(row: &[u32], marks: &mut [u32], at: usize, n: u32, depth: u32, under: u32) -> Step
+    requires { ⌜ under + 32 * depth < 2 ^ 32 ⌝ }
+    ensures { λ r. ⌜ ToldAll at under (decodeAll (λ s l. decode depth s l) (replicate n expr) (drop at (now (row .entry)))) (now (marks .entry)) (now (marks .exit)) r ⌝ }
+{
+    let mut p = at;
+    let mut left = n;
+    while 0 < left {
+        let Step::End(q) = mark_expr(row, marks, p, depth, under) else {
+            return Step::Bad;
+        };
+        p = q;
+        left -= 1;
+    }
+    Step::End(p)
+}
+
+// n predicates in a row.
+fn mark_preds(row: &[u32], marks: &mut [u32], at: usize, n: u32, depth: u32, under: u32) -> Step
+    requires { ⌜ under + 32 * depth < 2 ^ 32 ⌝ }
+    ensures { λ r. ⌜ ToldAll at under (decodeAll (λ s l. decode depth s l) (replicate n pred) (drop at (now (row .entry)))) (now (marks .entry)) (now (marks .exit)) r ⌝ }
+{
+    let mut p = at;
+    let mut left = n;
+    while 0 < left {
+        let Step::End(q) = mark_pred(row, marks, p, depth, under) else {
+            return Step::Bad;
+        };
+        p = q;
+        left -= 1;
+    }
+    Step::End(p)
+}
