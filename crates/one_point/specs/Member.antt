@@ -1,0 +1,76 @@
+-- Membership: an element in a comprehension becomes an existence, its equalities offered to the places.
+use mathlib.Core.Bool.{Bool, true, false, not, _&&_}
+use mathlib.Core.List.{List, [], _∷_}
+use mathlib.Core.Option.{Option, none as absent, some}
+use Prim.Native.Nat.{ℕ, suc, _-_}
+use lib.Dec.{eqb}
+use lib.ListN.{length, getD}
+use Rattle.form.specs.Form.{Leaf, Form, leaf, node, Forms, none, more, pick, count}
+use Rattle.form.specs.Lists.{Place, kept, filled}
+use Rattle.form.specs.Answer.{Outcome, withWork, withForm}
+use Rattle.form.specs.declared.answer.Kind.the-variants.{Predicate}
+use Rattle.subst.specs.Walk.{lift}
+use Rattle.subst.specs.Fill.{quantify}
+use Rattle.one_point.specs.Replacement.{Taken, taken, nothing, accept}
+use Rattle.one_point.specs.Split.{isNil, parts, equal}
+use Rattle.one_point.specs.Partial.{noPlaces, setPlace, front, instantiatePartial}
+use Rattle.one_point.specs.Point.{ofResult}
+
+-- places filled so far, and the parts that were not accepted
+pub data Offers : Type 0 where
+  offers : List Place → Forms → Offers
+
+abbrev pub isFree : Place → Bool
+isFree kept = true
+isFree (filled e) = false
+
+abbrev pub leave : Form → Offers → Offers
+leave f (offers ps fs) = offers ps (more f fs)
+
+abbrev pub freeAt : ℕ → ℕ → List Place → Bool
+freeAt n i ps = isFree (getD ps (n - suc i) kept)
+
+-- each part in order, offered to the places that earlier parts left free
+abbrev pub offerNext : ℕ → Form → List Place → Taken → (List Place → Offers) → Offers
+offerNext n f ps (taken i e) later = let passed = leave f (later ps) in pick (freeAt n i ps) (later (setPlace n i e ps)) passed
+offerNext n f ps nothing later = leave f (later ps)
+
+unfoldable pub offerAll : ℕ → List (Form × Form) → List Place → Offers
+offerAll n [] ps = offers ps none
+offerAll n (p ∷ rest) ps = offerNext n (equal (p .0) (p .1)) ps (accept n (p .0) (p .1)) (λ qs. offerAll n rest qs)
+
+-- guard and unaccepted parts joined, the guard first; the guard alone if there are none
+abbrev pub withGuard : Form → Forms → Form
+withGuard g none = g
+withGuard g (more f fs) = node 351 (count (more g (more f fs)) ∷ []) [] (more g (more f fs))
+
+abbrev pub anyFilled : List Place → Bool
+anyFilled ps = not (eqb (front ps) (length ps))
+
+abbrev pub fillOffers : List ℕ → Form → Offers → Form
+fillOffers ns g (offers ps fs) =
+    pick (anyFilled ps) (instantiatePartial 852 ns ps (withGuard g fs)) (quantify 852 ns (withGuard g fs))
+
+-- the element shifted up by the declarations, equal to the comprehension's value
+abbrev pub memberOf : Form → List ℕ → Form → Form → Form
+memberOf element ns guard value =
+    let n = length ns in
+    fillOffers ns guard (offerAll n (parts value (lift n element)) (noPlaces n))
+
+-- 107 with 803 on its right
+abbrev pub inSet : Form → Form → Option Form
+inSet element (leaf x) = absent
+inSet element (node t o ns none) = absent
+inSet element (node t o ns (more g none)) = absent
+inSet element (node t o ns (more g (more v none))) = pick (eqb t 803) (some (memberOf element ns g v)) absent
+inSet element (node t o ns (more g (more v (more h hs)))) = absent
+
+unfoldable pub membership : Form → Option Form
+membership (leaf x) = absent
+membership (node t o ds none) = absent
+membership (node t o ds (more l none)) = absent
+membership (node t o ds (more l (more r none))) = pick (eqb t 107 && isNil ds) (inSet l r) absent
+membership (node t o ds (more l (more r (more f fs)))) = absent
+
+unfoldable pub memberOutcome : List ℕ → ℕ → ℕ → Outcome
+memberOutcome row work room = withWork work (withForm Predicate row (λ s f. ofResult room (membership f)))

@@ -1,0 +1,132 @@
+-- One point's scan of the body: the first equality that the rule of Places accepts, and what is left of the body. What is passed before it
+-- is rebuilt, what follows it is copied.
+use mathlib.Core.Bool.{Bool, true, false, not, _&&_, _||_}
+use mathlib.Core.List.{List, [], _∷_}
+use mathlib.Core.Option.{Option, none as absent, some}
+use Prim.Native.Nat.{ℕ}
+use lib.Dec.{eqb}
+use Rattle.form.specs.Form.{Leaf, Form, leaf, node, Forms, none, more, pick, count}
+use Rattle.one_point.specs.Replacement.{Taken, taken, nothing, accept}
+use Rattle.one_point.specs.Split.{isTwo, isNil, parts, equal}
+
+-- the equality taken, if any, and what is left: nothing where the node vanished
+pub data Scan : Type 0 where
+  scanned : Taken → Option Form → Scan
+
+pub data Scans : Type 0 where
+  scans : Taken → List (Option Form) → Scans
+
+-- negating a not takes the not away
+abbrev pub negate : Form → Form
+negate (leaf x) = node 8 [] [] (more (leaf x) none)
+negate (node t o ds none) = node 8 [] [] (more (node t o ds none) none)
+negate (node t o [] (more f fs)) = pick (eqb t 8) f (node 8 [] [] (more (node t o [] (more f fs)) none))
+negate (node t o (d ∷ ds) (more f fs)) = node 8 [] [] (more (node t o (d ∷ ds) (more f fs)) none)
+
+-- an associative node of what is left: of no child it is gone, of one it is that child
+abbrev pub present : List (Option Form) → Forms
+present [] = none
+present (absent ∷ gs) = present gs
+present (some g ∷ gs) = more g (present gs)
+
+abbrev pub joined : ℕ → Forms → Option Form
+joined t none = absent
+joined t (more f none) = some f
+joined t (more f (more g fs)) = some (node t (count (more f (more g fs)) ∷ []) [] (more f (more g fs)))
+
+-- 251 without its left is its right, without its right the negated left
+abbrev pub implies : Option Form → Option Form → Option Form
+implies absent r = r
+implies (some l) absent = some (negate l)
+implies (some l) (some r) = some (node 251 [] [] (more l (more r none)))
+
+abbrev pub firstOf : List (Option Form) → Option Form
+firstOf [] = absent
+firstOf (g ∷ gs) = g
+
+abbrev pub implied : List (Option Form) → Option Form
+implied [] = absent
+implied (l ∷ gs) = implies l (firstOf gs)
+
+abbrev pub negated : Option Form → Option Form
+negated absent = absent
+negated (some f) = some (negate f)
+
+-- what the scan does at a node: under true it enters 351 and takes 101, under false it enters 352 and 251; 8 turns it round
+pub data Role : Type 0 where
+  junction implication negation equality other : Role
+
+abbrev pub roleOf : ℕ → Bool → Role
+roleOf t b =
+    pick (eqb t 8) negation
+    (pick (eqb t 351 && b || eqb t 352 && not b) junction (pick (eqb t 251 && not b) implication (pick (eqb t 101 && b) equality other)))
+
+-- 251 and 101 have two children, 8 has one
+abbrev pub suits : Role → Forms → Bool
+suits junction ks = true
+suits implication ks = isTwo ks
+suits negation ks = eqb (count ks) 1
+suits equality ks = isTwo ks
+suits other ks = true
+
+abbrev pub role : ℕ → List ℕ → Forms → Bool → Role
+role t ds ks b = pick (isNil ds && suits (roleOf t b) ks) (roleOf t b) other
+
+abbrev pub firstPolarity : Role → Bool → Bool
+firstPolarity junction b = b
+firstPolarity implication b = not b
+firstPolarity negation b = not b
+firstPolarity equality b = b
+firstPolarity other b = b
+
+-- the parts of an equality, offered in order
+abbrev pub copied : List (Form × Form) → List (Option Form)
+copied [] = []
+copied (p ∷ ps) = some (equal (p .0) (p .1)) ∷ copied ps
+
+abbrev pub before : Option Form → Scans → Scans
+before g (scans x gs) = scans x (g ∷ gs)
+
+abbrev pub offerPart : Form → Form → Taken → List (Form × Form) → Scans → Scans
+offerPart l r (taken i e) ps later = scans (taken i e) (absent ∷ copied ps)
+offerPart l r nothing ps later = before (some (equal l r)) later
+
+unfoldable pub offerParts : ℕ → List (Form × Form) → Scans
+offerParts n [] = scans nothing []
+offerParts n (p ∷ ps) = offerPart (p .0) (p .1) (accept n (p .0) (p .1)) ps (offerParts n ps)
+
+abbrev pub sidesOf : Forms → List (Form × Form)
+sidesOf none = []
+sidesOf (more l none) = []
+sidesOf (more l (more r ks)) = parts l r
+
+-- children in order; after the first equality taken they are copied
+abbrev pub copies : Forms → List (Option Form)
+copies none = []
+copies (more f fs) = some f ∷ copies fs
+
+abbrev pub follow : Scan → Forms → Scans → Scans
+follow (scanned (taken i e) g) fs later = scans (taken i e) (g ∷ copies fs)
+follow (scanned nothing g) fs later = before g later
+
+abbrev pub with : (List (Option Form) → Option Form) → Scans → Scan
+with f (scans x gs) = scanned x (f gs)
+
+abbrev pub rebuild : ℕ → Role → ℕ → Form → Forms → Scans → Scan
+rebuild n junction t f ks rs = with (λ gs. joined t (present gs)) rs
+rebuild n implication t f ks rs = with implied rs
+rebuild n negation t f ks rs = with (λ gs. negated (firstOf gs)) rs
+rebuild n equality t f ks rs = with (λ gs. joined 351 (present gs)) (offerParts n (sidesOf ks))
+rebuild n other t f ks rs = scanned nothing (some f)
+
+unfoldable mutual
+  -- for n declarations, with a polarity
+  pub scan : ℕ → Bool → Form → Scan
+  scan n b (leaf x) = scanned nothing (some (leaf x))
+  scan n b (node t o ds ks) =
+      rebuild n (role t ds ks b) t (node t o ds ks) ks (scanAll n (firstPolarity (role t ds ks b) b) b ks)
+
+  -- the first child with one polarity, the others with another
+  pub scanAll : ℕ → Bool → Bool → Forms → Scans
+  scanAll n p q none = scans nothing []
+  scanAll n p q (more f fs) = follow (scan n p f) fs (scanAll n q q fs)

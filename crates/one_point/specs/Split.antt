@@ -1,0 +1,34 @@
+-- An equality of two pairs, split left to right and as deep as both sides are pairs: the sides of its parts.
+use mathlib.Core.Bool.{Bool, true, false, _&&_}
+use mathlib.Core.List.{List, [], _∷_, _++_}
+use Prim.Native.Nat.{ℕ}
+use lib.Dec.{eqb}
+use Rattle.form.specs.Form.{Leaf, Form, leaf, node, Forms, none, more, pick}
+
+abbrev pub isTwo : Forms → Bool
+isTwo none = false
+isTwo (more l none) = false
+isTwo (more l (more r none)) = true
+isTwo (more l (more r (more f fs))) = false
+
+abbrev pub isNil : List ℕ → Bool
+isNil [] = true
+isNil (d ∷ ds) = false
+
+abbrev pub isPair : ℕ → List ℕ → Forms → Bool
+isPair t ds ks = eqb t 201 && (isNil ds && isTwo ks)
+
+unfoldable mutual
+  pub parts : Form → Form → List (Form × Form)
+  parts (leaf x) r = (leaf x, r) ∷ []
+  parts (node t o ds ks) (leaf y) = (node t o ds ks, leaf y) ∷ []
+  parts (node t o ds ks) (node u p es js) =
+      pick (isPair t ds ks && isPair u es js) (partsAll ks js) ((node t o ds ks, node u p es js) ∷ [])
+
+  pub partsAll : Forms → Forms → List (Form × Form)
+  partsAll none js = []
+  partsAll (more f fs) none = []
+  partsAll (more f fs) (more g gs) = parts f g ++ partsAll fs gs
+
+abbrev pub equal : Form → Form → Form
+equal l r = node 101 [] [] (more l (more r none))

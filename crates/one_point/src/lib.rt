@@ -1,0 +1,2 @@
+// The one-point rule and membership: replacements for bound identifiers, found and filled.
+pub mod replacements;

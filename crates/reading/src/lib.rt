@@ -1,0 +1,1 @@
+// Readings, and the truth that one point keeps: definitions and theorems, no code.

@@ -1,0 +1,35 @@
+-- Lift: a part of the base row or of the work row.
+use mathlib.Core.Bool.{Bool, true, false, _||_}
+use mathlib.Core.List.{List, []}
+use Prim.Native.Nat.{ℕ}
+use lib.Dec.{leb, eqb}
+use lib.ListN.{length}
+use Rattle.form.specs.Form.{Form, pick}
+use Rattle.form.specs.Decode.{Found, found, missing, formOf}
+use Rattle.form.specs.Answer.{Outcome, answer, refusal, finish}
+use Rattle.form.specs.declared.answer.Kind.the-variants.{Either}
+use Rattle.subst.specs.Walk.{lift}
+use Rattle.subst.specs.Dangling.{closed}
+
+-- all of the base; a copy, at the start of the work row; nothing
+pub data Part : Type 0 where
+  base : Part
+  copy : List ℕ → Part
+  empty : Part
+
+abbrev pub ofCopy : Outcome → Part
+ofCopy (answer ws) = copy ws
+ofCopy (refusal n) = empty
+
+abbrev pub liftFound : ℕ → ℕ → Found → Part
+liftFound depth room (found s f) = let c = ofCopy (finish s room (lift depth f)) in pick (eqb depth 0 || closed f) base c
+liftFound depth room missing = empty
+
+-- the base's row, the depth, the length of the work row
+unfoldable pub liftPart : List ℕ → ℕ → ℕ → Part
+liftPart row depth work = pick (leb (length row) 8192) (liftFound depth work (formOf Either row)) empty
+
+abbrev pub partWords : List ℕ → Part → List ℕ
+partWords row base = row
+partWords row (copy ws) = ws
+partWords row empty = []

@@ -1,0 +1,38 @@
+-- Shift: a signed offset is added to each dangling index; one that would come below its depth is a capture.
+use mathlib.Core.Bool.{Bool, true}
+use mathlib.Core.List.{List}
+use Prim.Native.Nat.{ℕ, suc, _-_}
+use lib.Dec.{leb}
+use lib.IntN.{ℤ, pos, negsuc}
+use Rattle.form.specs.Form.{Leaf, free, bound, Form, leaf, pick}
+use Rattle.form.specs.Tag.{Sort}
+use Rattle.form.specs.Answer.{Outcome, refusal, withForm, finish}
+use Rattle.form.specs.declared.answer.Kind.the-variants.{Either}
+use Rattle.subst.specs.Walk.{Outer, named, dangling, lift, subst, each}
+
+-- by n down: every dangling index is at least n
+abbrev pub reaches : ℕ → ℕ → Outer → Bool
+reaches n k (named m) = true
+reaches n k (dangling j) = leb n j
+
+abbrev pub fall : ℕ → Outer → Form
+fall n (named m) = leaf (free m)
+fall n (dangling j) = leaf (bound (j - n))
+
+abbrev pub lower : ℕ → Form → Form
+lower n f = subst (fall n) f
+
+pub data Shifted : Type 0 where
+  shifted : Form → Shifted
+  captured : Shifted
+
+unfoldable pub shift : ℤ → Form → Shifted
+shift (pos n) f = shifted (lift n f)
+shift (negsuc n) f = pick (each (reaches (suc n)) 0 f) (shifted (lower (suc n) f)) captured
+
+abbrev pub ofShifted : Sort → ℕ → Shifted → Outcome
+ofShifted s room (shifted g) = finish s room g
+ofShifted s room captured = refusal 6
+
+unfoldable pub shiftOutcome : List ℕ → ℤ → ℕ → Outcome
+shiftOutcome row offset room = withForm Either row (λ s f. ofShifted s room (shift offset f))

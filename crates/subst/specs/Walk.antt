@@ -1,0 +1,76 @@
+-- One traversal for every rewriting: an identifier that a declaration inside binds stays; each other one, an outer identifier, becomes what
+-- the action says of it at its depth. A second collects over the outer identifiers.
+use mathlib.Core.Bool.{Bool, true, _&&_}
+use Prim.Native.Nat.{ℕ, zero, suc, _+_}
+use lib.ListN.{length}
+use Rattle.form.specs.Form.{Leaf, free, bound, Form, leaf, node, Forms, none, more}
+
+-- index i under k open declarations: bound there, or dangling as i - k
+pub data Binding : Type 0 where
+  inside : Binding
+  outside : ℕ → Binding
+
+abbrev pub binding : ℕ → ℕ → Binding
+binding zero i = outside i
+binding (suc k) zero = inside
+binding (suc k) (suc i) = binding k i
+
+pub data Outer : Type 0 where
+  named : ℕ → Outer
+  dangling : ℕ → Outer
+
+abbrev pub walkIndex : (ℕ → Outer → Form) → ℕ → ℕ → Binding → Form
+walkIndex act k i inside = leaf (bound i)
+walkIndex act k i (outside j) = act k (dangling j)
+
+abbrev pub walkLeaf : (ℕ → Outer → Form) → ℕ → Leaf → Form
+walkLeaf act k (free n) = act k (named n)
+walkLeaf act k (bound i) = walkIndex act k i (binding k i)
+
+unfoldable mutual
+  pub walk : (ℕ → Outer → Form) → ℕ → Form → Form
+  walk act k (leaf x) = walkLeaf act k x
+  walk act k (node t o ds ks) = node t o ds (walkAll act (length ds + k) ks)
+
+  pub walkAll : (ℕ → Outer → Form) → ℕ → Forms → Forms
+  walkAll act k none = none
+  walkAll act k (more f fs) = more (walk act k f) (walkAll act k fs)
+
+-- shifted up by n; a substitution, each replacement lifted by the depth at which it comes to stand
+abbrev pub up : ℕ → ℕ → Outer → Form
+up n k (named m) = leaf (free m)
+up n k (dangling j) = leaf (bound (k + (j + n)))
+
+abbrev pub lift : ℕ → Form → Form
+lift n f = walk (up n) 0 f
+
+abbrev pub put : (Outer → Form) → ℕ → Outer → Form
+put σ k x = lift k (σ x)
+
+abbrev pub subst : (Outer → Form) → Form → Form
+subst σ f = walk (put σ) 0 f
+
+-- what p says of each outer identifier at its depth, in row order, put together
+abbrev pub collectIndex : {A : Type 0} → A → (ℕ → Outer → A) → ℕ → Binding → A
+collectIndex e p k inside = e
+collectIndex e p k (outside j) = p k (dangling j)
+
+abbrev pub collectLeaf : {A : Type 0} → A → (ℕ → Outer → A) → ℕ → Leaf → A
+collectLeaf e p k (free n) = p k (named n)
+collectLeaf e p k (bound i) = collectIndex e p k (binding k i)
+
+unfoldable mutual
+  pub collect : {A : Type 0} → A → (A → A → A) → (ℕ → Outer → A) → ℕ → Form → A
+  collect e join p k (leaf x) = collectLeaf e p k x
+  collect e join p k (node t o ds ks) = collectAll e join p (length ds + k) ks
+
+  pub collectAll : {A : Type 0} → A → (A → A → A) → (ℕ → Outer → A) → ℕ → Forms → A
+  collectAll e join p k none = e
+  collectAll e join p k (more f fs) = join (collect e join p k f) (collectAll e join p k fs)
+
+-- does p hold of each outer identifier?
+abbrev pub each : (ℕ → Outer → Bool) → ℕ → Form → Bool
+each p k f = collect true _&&_ p k f
+
+abbrev pub eachAll : (ℕ → Outer → Bool) → ℕ → Forms → Bool
+eachAll p k fs = collectAll true _&&_ p k fs

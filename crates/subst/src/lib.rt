@@ -1,0 +1,1 @@
+// Substitutions that respect binding depth.
