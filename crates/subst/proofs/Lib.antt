@@ -1,1 +1,8 @@
 pub mod WalkLaws
+pub mod LimitLaws
+pub mod RowLaws
+pub mod ItemLaws
+pub mod CheckedLaws
+pub mod SameLengthLaws
+pub mod SignedLaws
+pub mod ShiftLaws

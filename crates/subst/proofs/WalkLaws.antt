@@ -90,7 +90,7 @@ abbrev pub self : ℕ → Outer → Form
 self k (named m) = leaf (free m)
 self k (dangling j) = leaf (bound (k + j))
 
-binding-back : (k i j : ℕ) → binding k i ≡ outside j → k + j ≡ i
+pub binding-back : (k i j : ℕ) → binding k i ≡ outside j → k + j ≡ i
 binding-back zero i j e = zero-add j ∙ cc
 binding-back (suc k) zero j e = cc
 binding-back (suc k) (suc i) j e = suc-add k j ∙ ap suc (binding-back k i j e)

@@ -6,3 +6,4 @@ pub mod Free
 pub mod Bind
 pub mod Fill
 pub mod Prune
+pub mod Internal

@@ -1,1 +1,3 @@
 // Substitutions that respect binding depth.
+pub mod items;
+pub mod shift;

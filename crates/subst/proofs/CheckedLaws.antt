@@ -1,0 +1,110 @@
+-- A row that the check took, with its marks: what every rewriting starts from; and refusals passed on. Assumes nothing.
+use mathlib.Core.Path.{_≡_, refl, ap, sym, _∙_}
+use mathlib.Core.Bool.{Bool, true, false}
+use mathlib.Core.List.{List, [], _∷_, _++_, append-nil}
+use Prim.Native.Nat.{ℕ, _≤_, _<_}
+use borrow.Author.Tests.{le-leb, lt-leb, leb-true}
+use lib.Dec.{leb}
+use lib.ListN.{length, replicate}
+use Rattle.form.specs.Form.{Form, pick, encode}
+use Rattle.form.specs.Tag.{Sort, expr, pred}
+use Rattle.form.specs.Decode.{Got, got, no-form, Whole, one, not-one, whole, decode, rowForm, Found, found, missing, asSort, either, formOf}
+use Rattle.form.specs.Answer.{Outcome, answer, refusal, told, written, withForm, checkOutcome}
+use Rattle.form.specs.Internal.Reads.{mark, Marked}
+use Rattle.form.specs.declared.answer.Kind.{Kind}
+use Rattle.form.specs.declared.answer.Kind.the-variants.{Expression, Predicate, Either}
+use Rattle.form.specs.declared.answer.Answer.{Answer}
+use Rattle.form.specs.declared.answer.Answer.the-variants.{Done, No}
+use Rattle.form.proofs.DecodeLaws.{clash, Ok, decode-sound}
+
+-- a row that is one form
+pub row-one : (s : Sort) (row : List ℕ) (f : Form) → rowForm s row ≡ one f → (length row ≤ 8192) × (row ≡ encode f) × Ok 64 s f
+unfolding rowForm
+row-one s row f e = go (leb (length row) 8192) refl (decode 64 s row) refl e
+  where
+    go : (b : Bool) → leb (length row) 8192 ≡ b → (g : Got) → decode 64 s row ≡ g → pick b (whole g) not-one ≡ one f → (length row ≤ 8192) × (row ≡ encode f) × Ok 64 s f
+    go true q (got g []) d e =
+        let z : g ≡ f = cc in
+        let (w, o) = decode-sound 64 s row f [] (rw z at d) in
+        (leb-true (length row) 8192 q, w ∙ append-nil (encode f), o)
+    go true q (got g (x ∷ r)) d e = absurd (clash cc)
+    go true q no-form d e = absurd (clash cc)
+    go false q g d e = absurd (clash cc)
+
+module _ (row : List ℕ) (s : Sort) (f : Form) where
+  abbrev Exact : Type 0
+  Exact = (length row ≤ 8192) × (row ≡ encode f) × Ok 64 s f
+
+  sort-row : (s′ : Sort) (w : Whole) → rowForm s′ row ≡ w → asSort s′ w ≡ found s f → Exact
+  sort-row s′ (one g) q e = let z : s′ ≡ s = cc in let y : g ≡ f = cc in rw (z, y) at (row-one s′ row g q)
+  sort-row s′ not-one q e = absurd (clash cc)
+
+  either-row : (a : Whole) → rowForm expr row ≡ a → either (asSort expr a) (asSort pred (rowForm pred row)) ≡ found s f → Exact
+  either-row (one g) q e = sort-row expr (one g) q e
+  either-row not-one q e = sort-row pred (rowForm pred row) refl e
+
+  pub found-row : (kind : Kind) → formOf kind row ≡ found s f → Exact
+  unfolding formOf
+  found-row Expression e = sort-row expr (rowForm expr row) refl e
+  found-row Predicate e = sort-row pred (rowForm pred row) refl e
+  found-row Either e = either-row (rowForm expr row) refl e
+
+-- what is known of a row that the check took: m are its marks, made in n words that held 0
+pub record Checked (kind : Kind) (row m : List ℕ) (n : ℕ) : Type 0 where
+  pub sort : Sort
+  pub form : Form
+  pub is-found : formOf kind row ≡ found sort form
+  pub short : length row ≤ 8192
+  pub words : row ≡ encode form
+  pub ok : Ok 64 sort form
+  pub marks : m ≡ mark form 0 0 (replicate n 0)
+
+abbrev Came : Found → Answer → Type 0
+Came (found s f) r = r ≡ Done 0
+Came missing r = r ≡ No 2
+
+module _ (kind : Kind) (row : List ℕ) where
+  -- the answer of the check, taken apart
+  check-by : (o : Found) → formOf kind row ≡ o → length row ≤ 8192 → (r : Answer) → r ≡ told (checkOutcome kind row) → Came o r
+  unfolding checkOutcome
+  check-by (found s f) e h r q = rw (le-leb (length row) 8192 h, e) at q
+  check-by missing e h r q = rw (le-leb (length row) 8192 h, e) at q
+
+  pub is-missing : (r : Answer) (k : ℕ) → length row ≤ 8192 → r ≡ told (checkOutcome kind row) → r ≡ No k → formOf kind row ≡ missing
+  is-missing r k h q e = go (formOf kind row) refl (check-by (formOf kind row) refl h r q)
+    where
+      go : (o : Found) → formOf kind row ≡ o → Came o r → formOf kind row ≡ missing
+      go (found s f) p c = absurd (clash cc)
+      go missing p c = p
+
+  module _ (m : List ℕ) (n : ℕ) (before : List ℕ) (zero-marks : before ≡ replicate n 0) where
+    marks-of : (s : Sort) (f : Form) → formOf kind row ≡ found s f → Marked (formOf kind row) before m → Checked kind row m n
+    unfolding Marked
+    marks-of s f e k =
+        let (l, w, o) = found-row row s f kind e in
+        record { sort = s; form = f; is-found = e; short = l; words = w; ok = o; marks = rw (e, zero-marks) at k }
+
+    pub checked : (r : Answer) (j : ℕ) → length row ≤ 8192 → r ≡ told (checkOutcome kind row) → r ≡ Done j → Marked (formOf kind row) before m → Checked kind row m n
+    checked r j h q e k = go (formOf kind row) refl (check-by (formOf kind row) refl h r q)
+      where
+        go : (o : Found) → formOf kind row ≡ o → Came o r → Checked kind row m n
+        go (found s f) p c = marks-of s f p k
+        go missing p c = absurd (clash cc)
+
+-- a row's own refusals, whatever is done with the form
+module _ (kind : Kind) (row : List ℕ) (go : Sort → Form → Outcome) where
+  pub too-long : 8192 < length row → withForm kind row go ≡ refusal 1
+  too-long h = rw (lt-leb (length row) 8192 h)
+
+  pub no-form-there : length row ≤ 8192 → formOf kind row ≡ missing → withForm kind row go ≡ refusal 2
+  no-form-there h e = rw (le-leb (length row) 8192 h, e)
+
+  pub form-there : (s : Sort) (f : Form) → length row ≤ 8192 → formOf kind row ≡ found s f → withForm kind row go ≡ go s f
+  form-there s f h e = rw (le-leb (length row) 8192 h, e)
+
+-- a refusal, and an answer passed on
+pub refused : (o : Outcome) (n m : ℕ) (out : List ℕ) → o ≡ refusal n → m ≡ n → (No m ≡ told o) × (out ≡ written o out)
+refused o n m out e q = rw (e, q) (refl, refl)
+
+pub passed : (o p : Outcome) (r : Answer) (out out′ : List ℕ) → o ≡ p → (r ≡ told o) × (out′ ≡ written o out) → (r ≡ told p) × (out′ ≡ written p out)
+passed o p r out out′ e h = rw e at h

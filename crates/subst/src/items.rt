@@ -1,0 +1,90 @@
+// A row and its marks, item by item: the words that stay, and the names and indices with their depth.
+ghost use mathlib.Core.Path.{_≡_};
+ghost use Prim.Native.Nat.{_<_};
+ghost use lib.ListN.{length, drop};
+ghost use Rattle.subst.specs.Internal.Items.{itemAt, items, sizeOf, wordsOf, allItems, itemIn, store};
+
+// A word that stays, or a name or index: its depth, tag and number.
+pub enum Item {
+    Plain(u32),
+    Ident(u32, u32, u32),
+}
+
+// The item that begins at i.
+pub fn item_at(row: &[u32], marks: &[u32], i: usize) -> Item
+    requires { ⌜ i < length (now row) ⌝ }
+    ensures { λ r. ⌜ r ≡ itemAt (drop i (now (row .entry))) (drop i (now (marks .entry))) ⌝ }
+{
+    let w = row[i];
+    if marks.len() <= i {
+        return Item::Plain(w);
+    }
+    let m = marks[i];
+    if m == 0 {
+        return Item::Plain(w);
+    }
+    if row.len() <= i + 1 {
+        return Item::Plain(w);
+    }
+    Item::Ident(m - 1, w, row[i + 1])
+}
+
+pub fn size_of(it: Item) -> usize
+    ensures { λ r. ⌜ r ≡ sizeOf it ⌝ }
+{
+    match it {
+        Item::Plain(w) => 1,
+        Item::Ident(k, t, v) => 2,
+    }
+}
+
+// The words of an item, stored at i.
+pub fn put_item(out: &mut [u32], i: usize, it: Item)
+    requires { ⌜ i < length (now out) ⌝ }
+    ensures { λ _. ⌜ now (out .exit) ≡ store (now (out .entry)) i (wordsOf it) ⌝ }
+{
+    match it {
+        Item::Plain(w) => {
+            out[i] = w;
+        }
+        Item::Ident(k, t, v) => {
+            out[i] = t;
+            if i + 1 < out.len() {
+                out[i + 1] = v;
+            }
+        }
+    }
+}
+
+// Whether an index that dangles does so by at least lo, and is below hi.
+fn item_in(lo: u32, hi: u32, it: Item) -> bool
+    ensures { λ r. ⌜ r ≡ itemIn lo hi it ⌝ }
+{
+    let Item::Ident(k, t, v) = it else {
+        return true;
+    };
+    if t != 2 {
+        return true;
+    }
+    if v < k {
+        return true;
+    }
+    if v - k < lo {
+        return false;
+    }
+    v < hi
+}
+
+pub fn all_in(row: &[u32], marks: &[u32], lo: u32, hi: u32) -> bool
+    ensures { λ r. ⌜ r ≡ allItems (itemIn lo hi) (items (now (row .entry)) (now (marks .entry))) ⌝ }
+{
+    let mut i = 0;
+    while i < row.len() {
+        let it = item_at(row, marks, i);
+        if !item_in(lo, hi, it) {
+            return false;
+        }
+        i += size_of(it);
+    }
+    true
+}
