@@ -140,7 +140,7 @@ abbrev pub turn : Bool → Bool → Bool
 turn true x = x
 turn false x = not x
 
-turn-twice : (b x : Bool) → turn b (turn b x) ≡ x
+pub turn-twice : (b x : Bool) → turn b (turn b x) ≡ x
 turn-twice true x = refl
 turn-twice false x = Bool·not-not x
 

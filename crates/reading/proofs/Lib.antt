@@ -1,3 +1,9 @@
 pub mod Same
 pub mod ValueLaws
 pub mod Exists
+pub mod PartsLaws
+pub mod ScanLaws
+pub mod ScanTruth
+pub mod FillLaws
+pub mod OnePointLaws
+pub mod PointTruth
