@@ -7,3 +7,4 @@ pub mod ScanTruth
 pub mod FillLaws
 pub mod OnePointLaws
 pub mod PointTruth
+pub mod Worked
