@@ -1,19 +1,19 @@
 -- Quantifiers by one question: is there a choice from the ranges? Both operators are this question, as it stands (852) or turned round (851),
 -- and putting declarations round a form asks it of them all. Assumes nothing.
 use mathlib.Core.Path.{_≡_, refl, ap, _∙_, sym, fun-ext}
-use mathlib.Core.List.{List, [], _∷_, _++_, map, map-append, append-nil}
+use mathlib.Core.List.{List, [], _∷_, _++_, map, map-append}
 use mathlib.Core.Bool.{Bool, true, false, not, _&&_, _||_, or-assoc, or-false, and-false, and-true, and-assoc, Bool·not-not}
-use Prim.Native.Nat.{ℕ, zero, suc, _+_}
+use Prim.Native.Nat.{ℕ, suc, _+_}
 use native.Mathlib.Nat.{zero-add}
 use native.Mathlib.Omega.{arith}
 use lib.Dec.{eqb, eqb→eq}
 use lib.IntN.{ℤ}
 use lib.ListN.{length}
-use Rattle.form.specs.Form.{Leaf, Form, leaf, node, Forms, none, more, pick}
+use Rattle.form.specs.Form.{Form, leaf, node, none, more, pick}
 use Rattle.form.proofs.DecodeLaws.{clash}
 use Rattle.subst.specs.Fill.{Quantified, quantifier, other, quantified, quantify}
 use Rattle.one_point.specs.Partial.{joinWith, putRound}
-use Rattle.reading.specs.Reading.{Reading, truth, same, meaning, valueOf, first, every, some, bodies, Env, cons, flat, over, value, values}
+use Rattle.reading.specs.Reading.{Reading, truth, same, meaning, valueOf, first, every, some, Env, cons, flat, over, value}
 use Rattle.reading.specs.Premise.{has, push}
 use Rattle.reading.proofs.Same.{truth-bit, same-equal}
 
@@ -57,7 +57,8 @@ every-over r g (d ∷ ds) ρ =
     every-flat (λ v. over r ds (cons v ρ) g) (λ v. exOver r ds (cons v ρ) (λ η. not (g η))) (λ v. every-over r g ds (cons v ρ)) (r d)
 
 -- what is computed from each choice may be computed under it
-map-flat : {A B : Type 0} (f : A → B) (h : ℤ → List A) (k : ℤ → List B) → ((v : ℤ) → map f (h v) ≡ k v) → (vs : List ℤ) → map f (flat h vs) ≡ flat k vs
+map-flat : {A B : Type 0} (f : A → B) (h : ℤ → List A) (k : ℤ → List B) → ((v : ℤ) → map f (h v) ≡ k v) → (vs : List ℤ)
+    → map f (flat h vs) ≡ flat k vs
 map-flat f h k e [] = refl
 map-flat f h k e (v ∷ vs) = map-append f (h v) (flat h vs) ∙ rw (e v, map-flat f h k e vs)
 
@@ -205,7 +206,8 @@ module _ (b : Bool) (R : Reading) (ρ : Env) (ns : List ℕ) (g : Form) where
           (quantify-truth b R ρ (ns ++ ds) f
           ∙ asks-append b R ρ ns ds (λ θ. truth (value R θ f)) ∙ ap (λ k. asks b R ρ ns k) (fun-ext (λ η. sym (node-truth b R η o ds f))))
 
-      by : (z : Bool) → eqb u (tagOf b) ≡ z → truth (value R ρ (pick z (quantify (tagOf b) (ns ++ ds) f) (quantify (tagOf b) ns g))) ≡ asks b R ρ ns (λ θ. truth (value R θ g))
+      by : (z : Bool) → eqb u (tagOf b) ≡ z
+          → truth (value R ρ (pick z (quantify (tagOf b) (ns ++ ds) f) (quantify (tagOf b) ns g))) ≡ asks b R ρ ns (λ θ. truth (value R θ g))
       by true z =
           let (o, q, h) = quantified-node g u ds f e in
           joined (eqb→eq u (tagOf b) (rw z tt)) o q

@@ -1,15 +1,15 @@
 -- One declaration filled, those after it kept: the value of what is filled, and the places that one point fills. Assumes nothing.
 use mathlib.Core.Path.{_≡_, refl, ap, _∙_, sym}
-use mathlib.Core.Bool.{Bool, true}
+use mathlib.Core.Bool.{true}
 use mathlib.Core.List.{List, [], _∷_, _++_, map, reverse, reverseAux, reverseAux-eq}
 use Prim.Native.Nat.{ℕ, zero, suc, _+_, _-_, _<_, _≤_}
-use native.Mathlib.Nat.{zero-add, add-zero, add-suc, suc-add}
+use native.Mathlib.Nat.{zero-add, add-zero, suc-add}
 use native.Mathlib.Omega.{arith}
 use lib.Dec.{leb→le}
 use lib.IntN.{ℤ, pos}
-use lib.ListN.{length, take, drop, set, replicate, length-replicate, replicate-append-replicate}
-use lib.Seq.{set-split, drop-at}
-use Rattle.form.specs.Form.{Leaf, free, bound, Form, leaf, node}
+use lib.ListN.{length, drop, set, replicate, length-replicate}
+use lib.Seq.{drop-at}
+use Rattle.form.specs.Form.{bound, Form, leaf}
 use Rattle.form.specs.Lists.{Place, kept, filled}
 use Rattle.subst.specs.Walk.{Outer, named, dangling, walk, up, lift, put, subst}
 use Rattle.subst.specs.Shift.{reaches, fall, lower}
@@ -63,7 +63,8 @@ module _ (R : Reading) (e : Form) (η : Env) (c : List ℤ) where
       rw (reverse-filled e (length c), keptCount-kept (length c))
       (fillIndex-value R e η (push c η) (length c) (lift-value R c η e) (push-add c η) c 0 (λ x. rw zero-add) j)
 
-  pub fill-value : (f : Form) → value R (push c η) (subst (fillFor (filled e ∷ replicate (length c) kept)) f) ≡ value R (push c (cons (value R η e) η)) f
+  pub fill-value : (f : Form)
+      → value R (push c η) (subst (fillFor (filled e ∷ replicate (length c) kept)) f) ≡ value R (push c (cons (value R η e) η)) f
   fill-value f = subst-value R (fillFor (filled e ∷ replicate (length c) kept)) (push c (cons (value R η e) η)) (push c η) fillFor-value f
 
 -- one place filled, j before it and i after it
@@ -89,7 +90,9 @@ module _ (n i : ℕ) (e : Form) (lt : i < n) where
   front-is = rw places-are (front-filled (n - suc i) e (replicate i kept))
 
   pub rest-is : (m : ℕ) → map (lowerPlace m) (drop (n - suc i) (setPlace n i e (noPlaces n))) ≡ filled (lower m e) ∷ replicate i kept
-  rest-is m = rw (places-are, drop-at (replicate (n - suc i) kept) (filled e ∷ replicate i kept) (n - suc i) (length-replicate (n - suc i) kept)) (ap (λ z. filled (lower m e) ∷ z) (lower-kept m i))
+  rest-is m =
+      rw (places-are, drop-at (replicate (n - suc i) kept) (filled e ∷ replicate i kept) (n - suc i) (length-replicate (n - suc i) kept))
+      (ap (λ z. filled (lower m e) ∷ z) (lower-kept m i))
 
 -- shifted down and lifted again: the same, where no index is below
 fall-lift : (n k : ℕ) (x : Outer) → reaches n k x ≡ true → walk (up n) k (put (fall n) k x) ≡ self k x

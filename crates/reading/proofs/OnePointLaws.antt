@@ -1,22 +1,22 @@
 -- Why one point keeps the truth: of a quantifier's declarations one is tied to a value that its range has. Assumes of the body that it is an
 -- equation joined to a rest, and of the replacement that its value is in range.
-use mathlib.Core.Path.{_≡_, refl, ap, _∙_, sym, fun-ext}
+use mathlib.Core.Path.{_≡_, refl, ap, _∙_, sym}
 use mathlib.Core.List.{List, [], _∷_, _++_}
 use mathlib.Core.Bool.{Bool, true, false, not, _&&_}
-use Prim.Native.Nat.{ℕ, zero, suc, _+_}
+use Prim.Native.Nat.{ℕ, suc, _+_}
 use native.Mathlib.Nat.{add-zero}
 use native.Mathlib.Omega.{arith}
 use lib.IntN.{ℤ}
 use lib.ListN.{length, length-append, replicate}
-use Rattle.form.specs.Form.{Leaf, Form, leaf, node, Forms, none, more}
-use Rattle.form.specs.Lists.{Place, kept, filled}
+use Rattle.form.specs.Form.{Form, node, none, more}
+use Rattle.form.specs.Lists.{kept, filled}
 use Rattle.subst.specs.Walk.{lift, subst}
 use Rattle.subst.specs.Fill.{quantify, fillFor}
 use Rattle.one_point.specs.Partial.{putRound}
 use Rattle.reading.specs.Reading.{Reading, truth, same, Env, cons, value}
 use Rattle.reading.specs.Premise.{has, push}
 use Rattle.reading.proofs.ValueLaws.{push-add, lift-value}
-use Rattle.reading.proofs.Exists.{exOver, exOver-same, exOver-append, exOver-point, exOver-on, turn, turn-twice, tagOf, asks, node-truth, quantify-truth, putRound-truth}
+use Rattle.reading.proofs.Exists.{exOver, exOver-same, exOver-append, exOver-point, exOver-on, turn, turn-twice, tagOf, node-truth, quantify-truth, putRound-truth}
 use Rattle.reading.proofs.ScanLaws.{tied}
 use Rattle.reading.proofs.FillLaws.{fill-value}
 
@@ -58,7 +58,8 @@ module _ (b : Bool) (R : Reading) (ρ : Env) (o ds : List ℕ) (d : ℕ) (es : L
   fillAt : Env → Bool
   fillAt θ = turn b (truth (value R θ filledForm))
 
-  at-choice : (η : Env) (v : ℤ) (c : List ℤ) → length c ≡ length es → bodyAt (push c (cons v η)) ≡ (same v (value R η e) && restAt (push c (cons v η)))
+  at-choice : (η : Env) (v : ℤ) (c : List ℤ) → length c ≡ length es
+      → bodyAt (push c (cons v η)) ≡ (same v (value R η e) && restAt (push c (cons v η)))
   unfolding bodyAt restAt
   at-choice η v c q =
       ap (turn b) (split (push c (cons v η))) ∙ turn-tied b _ (truth (value R (push c (cons v η)) rest))
@@ -69,7 +70,8 @@ module _ (b : Bool) (R : Reading) (ρ : Env) (o ds : List ℕ) (d : ℕ) (es : L
   at-fill η c q = ap (λ z. turn b (truth z)) (sym (filled-rest R e η (length es) c (omega arith) rest))
 
   -- the target's declaration and what follows it, where the replacement is in range
-  at-target : (η : Env) → has (value R η e) (R .range d) ≡ true → exOver (R .range) (d ∷ es) η bodyAt ≡ turn b (truth (value R η (quantify (tagOf b) es filledForm)))
+  at-target : (η : Env) → has (value R η e) (R .range d) ≡ true
+      → exOver (R .range) (d ∷ es) η bodyAt ≡ turn b (truth (value R η (quantify (tagOf b) es filledForm)))
   unfolding fillAt
   at-target η m =
       exOver-point (R .range) d es η (value R η e) bodyAt restAt (at-choice η) m

@@ -1,23 +1,25 @@
 -- An equality of two pairs has the truth of its parts together: in every reading two pairs are equal exactly if both parts are. Assumes nothing.
-use mathlib.Core.Path.{_≡_, refl, ap, _∙_, sym}
+use mathlib.Core.Path.{_≡_, refl, _∙_, sym}
 use mathlib.Core.List.{List, [], _∷_, _++_}
 use mathlib.Core.Bool.{Bool, true, false, _&&_, and-true, and-assoc}
 use Prim.Native.Nat.{ℕ}
 use lib.Dec.{eqb, eqb→eq}
 use lib.IntN.{ℤ}
-use Rattle.form.specs.Form.{Leaf, Form, leaf, node, Forms, none, more, pick}
-use Rattle.one_point.specs.Split.{isTwo, isNil, isPair, parts, partsAll, equal}
+use Rattle.form.specs.Form.{Form, leaf, node, Forms, none, more, pick}
+use Rattle.one_point.specs.Split.{isTwo, isNil, isPair, parts, partsAll}
 use Rattle.subst.proofs.WalkLaws.{and-left, and-right}
 use Rattle.reading.specs.Reading.{Reading, truth, same, Meaning, equality, meaning, valueOf, Env, value, values}
 use Rattle.reading.proofs.Same.{truth-bit, not-true, same-refl, same-equal, different}
 
 module _ (R : Reading) (θ : Env) where
   -- a node that declares nothing
-  pub node-value : (t : ℕ) (o : List ℕ) (ks : Forms) (m : Meaning) → meaning t ≡ m → value R θ (node t o [] ks) ≡ valueOf R m t o [] (values R θ ks ∷ [])
+  pub node-value : (t : ℕ) (o : List ℕ) (ks : Forms) (m : Meaning) → meaning t ≡ m
+      → value R θ (node t o [] ks) ≡ valueOf R m t o [] (values R θ ks ∷ [])
   unfolding value
   node-value t o ks m q = rw q
 
-  pub equal-value : (t : ℕ) (o : List ℕ) (l r : Form) → meaning t ≡ equality → truth (value R θ (node t o [] (more l (more r none)))) ≡ same (value R θ l) (value R θ r)
+  pub equal-value : (t : ℕ) (o : List ℕ) (l r : Form) → meaning t ≡ equality
+      → truth (value R θ (node t o [] (more l (more r none)))) ≡ same (value R θ l) (value R θ r)
   unfolding valueOf value
   equal-value t o l r q = rw (node-value t o (more l (more r none)) equality q, truth-bit)
 
@@ -46,13 +48,15 @@ module _ (R : Reading) (θ : Env) where
   pair-same a b c d false t p q =
       not-true (same (R .pair a b) (R .pair c d)) (λ e. different a c p (R .pair-left a b c d (same-equal (R .pair a b) (R .pair c d) e)))
 
-  pair-value : (t : ℕ) (o : List ℕ) (l r : Form) → eqb t 201 ≡ true → value R θ (node t o [] (more l (more r none))) ≡ R .pair (value R θ l) (value R θ r)
+  pair-value : (t : ℕ) (o : List ℕ) (l r : Form) → eqb t 201 ≡ true
+      → value R θ (node t o [] (more l (more r none))) ≡ R .pair (value R θ l) (value R θ r)
   unfolding value valueOf meaning
   pair-value t o l r q =
       let z : t ≡ 201 = eqb→eq t 201 (rw q tt) in
       rw z
 
-  two-alike : (t u : ℕ) (o p ds es : List ℕ) (ks js : Forms) → eqb t 201 ≡ true → eqb u 201 ≡ true → (isNil ds && isTwo ks) ≡ true → (isNil es && isTwo js) ≡ true
+  two-alike : (t u : ℕ) (o p ds es : List ℕ) (ks js : Forms) → eqb t 201 ≡ true → eqb u 201 ≡ true → (isNil ds && isTwo ks) ≡ true
+      → (isNil es && isTwo js) ≡ true
       → alike (values R θ ks) (values R θ js) ≡ same (value R θ (node t o ds ks)) (value R θ (node u p es js))
   unfolding value
   two-alike t u o p (d ∷ ds) es ks js a b x y = cc

@@ -1,25 +1,25 @@
 -- One point keeps the truth, in every reading and of every form that it reduces. Assumes only the premise: the replacement's value lies in the
 -- range of the declaration that it replaces.
 use mathlib.Core.Path.{_≡_, refl, ap, _∙_, sym, fun-ext}
-use mathlib.Core.List.{List, [], _∷_, _++_}
+use mathlib.Core.List.{List, _∷_}
 use mathlib.Core.Option.{Option, none as absent, some}
 use mathlib.Core.Bool.{Bool, true, false, not, _||_, or-false, Bool·not-not}
-use Prim.Native.Nat.{ℕ, zero, suc, _+_, _-_, _<_}
+use Prim.Native.Nat.{ℕ, suc, _-_, _<_}
 use native.Mathlib.Omega.{arith}
 use lib.Dec.{eqb, eqb→eq, ltb→lt}
 use lib.ListN.{length, take, drop, getD, replicate, length-drop}
 use lib.Seq.{split-at, drop-cons}
-use Rattle.form.specs.Form.{Leaf, Form, leaf, node, Forms, none, more}
-use Rattle.form.specs.Lists.{Place, kept, filled}
+use Rattle.form.specs.Form.{Form, node, none, more}
+use Rattle.form.specs.Lists.{kept, filled}
 use Rattle.form.proofs.DecodeLaws.{clash}
 use Rattle.subst.specs.Walk.{lift, subst}
 use Rattle.subst.specs.Shift.{lower}
 use Rattle.subst.specs.Fill.{Quantified, quantifier, other, quantified, quantify, fillFor, fill}
-use Rattle.one_point.specs.Replacement.{above, Taken, taken, nothing}
+use Rattle.one_point.specs.Replacement.{above, taken, nothing}
 use Rattle.one_point.specs.Scan.{Scan, scanned, scan}
-use Rattle.one_point.specs.Partial.{noPlaces, setPlace, front, putRound, instantiatePartial}
+use Rattle.one_point.specs.Partial.{noPlaces, setPlace, putRound, instantiatePartial}
 use Rattle.one_point.specs.Point.{polarity, restOf, reduce, reduceQuantified, onePoint}
-use Rattle.reading.specs.Reading.{Reading, truth, same, every, meaning, valueOf, Env, over, value, holds}
+use Rattle.reading.specs.Reading.{Reading, truth, same, meaning, valueOf, Env, value, holds}
 use Rattle.reading.specs.Premise.{has, readInBody, inRange, takenIn, premiseOf, premise}
 use Rattle.reading.proofs.Exists.{exOver, every-over, tagOf, quantified-node}
 use Rattle.reading.proofs.ScanLaws.{tied, Good, leftTruth}
@@ -85,11 +85,12 @@ module _ (R : Reading) where
       let g = tied-at b R n body i e x found (R .index) .0 in
       let lt : i < n = ltb→lt i n (rw (g .0) tt) in
       let len = after-length t ns i e body lt in
+      let after : Form → Form = λ z. putRound (tagOf b) (take j ns) (quantify (tagOf b) (drop (suc j) ns) z) in
       rw (q, reduced-is (tagOf b) ns i e (restOf b x) lt)
       (ap (λ z. holds R (node (tagOf b) o z (more body none))) (split-at ns j 0 (omega arith))
       ∙ one-point b R (R .index) o (take j ns) (getD ns j 0) (drop (suc j) ns) body (restOf b x) (lower (suc i) e)
       (split-at-target b R n body i e x found (length (drop (suc j) ns)) len) (in-range R ns i e (g .1) within)
-      ∙ ap (λ m. holds R (putRound (tagOf b) (take j ns) (quantify (tagOf b) (drop (suc j) ns) (subst (fillFor (filled (lower (suc i) e) ∷ replicate m kept)) (restOf b x))))) len)
+      ∙ ap (λ m. holds R (after (subst (fillFor (filled (lower (suc i) e) ∷ replicate m kept)) (restOf b x)))) len)
 
   polarity-tag : (t : ℕ) (b : Bool) → eqb t 852 ≡ b → (eqb t 851 || b) ≡ true → t ≡ tagOf b
   polarity-tag t true q h = eqb→eq t 852 (rw q tt)
@@ -102,7 +103,8 @@ module _ (R : Reading) where
       let k : instantiatePartial t ns (setPlace (length ns) i e (noPlaces (length ns))) (restOf (polarity t) x) ≡ g = cc in
       reduce-keeps (polarity t) t o ns body i e x (polarity-tag t (polarity t) refl z) q (rw q at h) ∙ ap (holds R) k
 
-  quantified-keeps : (f g : Form) (q : Quantified) → quantified f ≡ q → reduceQuantified q ≡ some g → premiseOf R q (takenIn q) ≡ true → holds R f ≡ holds R g
+  quantified-keeps : (f g : Form) (q : Quantified) → quantified f ≡ q → reduceQuantified q ≡ some g → premiseOf R q (takenIn q) ≡ true
+      → holds R f ≡ holds R g
   quantified-keeps f g other e r h = absurd (clash cc)
   quantified-keeps f g (quantifier t ns body) e r h =
       let (o, p, z) = quantified-node f t ns body e in

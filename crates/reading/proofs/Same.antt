@@ -1,6 +1,6 @@
 -- The test of equality on whole numbers: it holds exactly of equal numbers, and in both directions alike. Truths read back. Assumes nothing.
 use mathlib.Core.Path.{_≡_, refl, ap}
-use mathlib.Core.Bool.{Bool, true, false, _&&_}
+use mathlib.Core.Bool.{Bool, true, false}
 use Prim.Native.Nat.{ℕ, zero, suc}
 use lib.Dec.{T, eqb, eqb→eq, eqb-refl, eqb·zero-suc, eqb·suc-zero, eqb·suc-suc}
 use lib.IntN.{ℤ, pos, negsuc}

@@ -3,18 +3,15 @@
 use mathlib.Core.Path.{_≡_, refl, ap, _∙_, sym}
 use mathlib.Core.List.{List, [], _∷_}
 use mathlib.Core.Option.{Option, none as absent, some}
-use mathlib.Core.Bool.{Bool, true, false, not, _&&_, _||_, and-true, and-false, or-false, and-assoc, or-assoc, Bool·not-not}
-use Prim.Native.Nat.{ℕ, zero, suc}
-use native.Mathlib.Omega.{arith}
+use mathlib.Core.Bool.{Bool, true, false, not, _&&_, _||_, and-true, or-false, and-assoc, or-assoc, Bool·not-not}
+use Prim.Native.Nat.{ℕ}
 use lib.Dec.{ltb, eqb, eqb→eq}
 use lib.IntN.{ℤ}
-use Rattle.form.specs.Form.{Leaf, free, bound, Form, leaf, node, Forms, none, more, pick, count}
-use Rattle.form.proofs.DecodeLaws.{clash}
-use Rattle.one_point.specs.Replacement.{Side, left, right, sideOf, Offer, offer, no-offer, indexOf, offerOf, above, Taken, taken, nothing, allowed, ofOffer, accept}
-use Rattle.one_point.specs.Split.{isTwo, parts, equal}
-use Rattle.one_point.specs.Scan.{Scan, scanned, Scans, scans, negate, present, joined, implies, firstOf, implied, negated, Role, junction, implication, negation, equality, other, roleOf, suits, firstPolarity, copied, before, offerPart, offerParts, copies, follow, with, rebuild, scan, scanAll}
-use Rattle.reading.specs.Reading as reading
-use Rattle.reading.specs.Reading.{Reading, truth, truths, every, same, Meaning, meaning, valueOf, Env, value, values}
+use Rattle.form.specs.Form.{free, bound, Form, leaf, node, Forms, none, more, pick, count}
+use Rattle.one_point.specs.Replacement.{left, right, offer, indexOf, offerOf, above, Taken, taken, nothing, allowed, ofOffer, accept}
+use Rattle.one_point.specs.Split.{parts, equal}
+use Rattle.one_point.specs.Scan.{Scan, scanned, Scans, scans, negate, present, joined, implies, firstOf, implied, negated, copied, offerPart, offerParts, copies, follow, with}
+use Rattle.reading.specs.Reading.{Reading, truth, truths, every, some as anyTrue, same, Meaning, conjunction, disjunction, meaning, valueOf, Env, value, values}
 use Rattle.reading.proofs.Same.{truth-bit, same-comm}
 use Rattle.reading.proofs.Exists.{turn}
 use Rattle.reading.proofs.PartsLaws.{node-value, equal-value, allSame, parts-value}
@@ -97,21 +94,22 @@ module _ (R : Reading) (θ : Env) (n : ℕ) where
 
   -- a 351 under true, a 352 under false
   abbrev pub junctionOf : Bool → Meaning
-  junctionOf true = reading.conjunction
-  junctionOf false = reading.disjunction
+  junctionOf true = conjunction
+  junctionOf false = disjunction
 
   every-all : (vs : List ℤ) → every (truths vs) ≡ all true vs
   every-all [] = refl
   every-all (v ∷ vs) = rw (every-all vs)
 
-  some-all : (vs : List ℤ) → reading.some (truths vs) ≡ all false vs
+  some-all : (vs : List ℤ) → anyTrue (truths vs) ≡ all false vs
   some-all [] = refl
   some-all (v ∷ vs) = rw (some-all vs)
 
-  pub junction-value : (b : Bool) (t : ℕ) (o : List ℕ) (ks : Forms) → meaning t ≡ junctionOf b → truth (value R θ (node t o [] ks)) ≡ all b (values R θ ks)
+  pub junction-value : (b : Bool) (t : ℕ) (o : List ℕ) (ks : Forms) → meaning t ≡ junctionOf b
+      → truth (value R θ (node t o [] ks)) ≡ all b (values R θ ks)
   unfolding valueOf
-  junction-value true t o ks q = rw (node-value R θ t o ks reading.conjunction q) (truth-bit (every (truths (values R θ ks))) ∙ every-all (values R θ ks))
-  junction-value false t o ks q = rw (node-value R θ t o ks reading.disjunction q) (truth-bit (reading.some (truths (values R θ ks))) ∙ some-all (values R θ ks))
+  junction-value true t o ks q = rw (node-value R θ t o ks conjunction q) (truth-bit (every (truths (values R θ ks))) ∙ every-all (values R θ ks))
+  junction-value false t o ks q = rw (node-value R θ t o ks disjunction q) (truth-bit (anyTrue (truths (values R θ ks))) ∙ some-all (values R θ ks))
 
   joined-value : (b : Bool) (t : ℕ) (fs : Forms) → meaning t ≡ junctionOf b → leftTruth b (joined t fs) ≡ all b (values R θ fs)
   unfolding value
@@ -125,7 +123,8 @@ module _ (R : Reading) (θ : Env) (n : ℕ) where
   present-value b (absent ∷ gs) = present-value b gs ∙ sym (unit-both b (leftAll b gs))
   present-value b (some g ∷ gs) = rw (present-value b gs)
 
-  pub rejoin-tied : (b : Bool) (f : Form) (t : ℕ) (s : Scans) → meaning t ≡ junctionOf b → TiedAll b (truth (value R θ f)) s → Tied b f (with (λ gs. joined t (present gs)) s)
+  pub rejoin-tied : (b : Bool) (f : Form) (t : ℕ) (s : Scans) → meaning t ≡ junctionOf b → TiedAll b (truth (value R θ f)) s
+      → Tied b f (with (λ gs. joined t (present gs)) s)
   rejoin-tied b f t (scans x gs) q h = rw (joined-value b t (present gs) q ∙ present-value b gs) h
 
   copies-value : (b : Bool) (fs : Forms) → leftAll b (copies fs) ≡ all b (values R θ fs)
@@ -171,7 +170,8 @@ module _ (R : Reading) (θ : Env) (n : ℕ) where
       rw (q, not-value o f none, negated-value b g) (ties-not b (truth (value R θ f)) (leftTruth (not b) g) nothing h)
 
   -- an implication, under false
-  implies-value : (o : List ℕ) (l r : Form) → truth (value R θ (node 251 o [] (more l (more r none)))) ≡ (not (truth (value R θ l)) || truth (value R θ r))
+  implies-value : (o : List ℕ) (l r : Form)
+      → truth (value R θ (node 251 o [] (more l (more r none)))) ≡ (not (truth (value R θ l)) || truth (value R θ r))
   unfolding value valueOf meaning
   implies-value o l r = truth-bit (not (truth (value R θ l)) || truth (value R θ r))
 

@@ -2,14 +2,14 @@
 use mathlib.Core.Path.{_≡_, refl}
 use mathlib.Core.List.{List, [], _∷_}
 use mathlib.Core.Bool.{Bool, true, false, not, _&&_, _||_, and-true, and-false, or-false}
-use Prim.Native.Nat.{ℕ, zero, suc}
+use Prim.Native.Nat.{ℕ, suc}
 use native.Mathlib.Omega.{arith}
 use lib.Dec.{eqb, eqb→eq}
-use Rattle.form.specs.Form.{Leaf, Form, leaf, node, Forms, none, more, pick, count}
+use Rattle.form.specs.Form.{Form, leaf, node, Forms, none, more, pick, count}
 use Rattle.form.proofs.DecodeLaws.{clash}
 use Rattle.subst.proofs.WalkLaws.{and-left}
 use Rattle.one_point.specs.Split.{isTwo}
-use Rattle.one_point.specs.Scan.{Scan, joined, present, firstOf, implied, negated, Role, junction, implication, negation, equality, other, roleOf, suits, role, firstPolarity, sidesOf, offerParts, with, rebuild, scan, scanAll}
+use Rattle.one_point.specs.Scan.{Scan, joined, present, firstOf, implied, negated, Role, junction, implication, negation, equality, other, roleOf, suits, firstPolarity, sidesOf, offerParts, with, rebuild, scan, scanAll}
 use Rattle.reading.specs.Reading.{Reading, meaning, Env, value, values}
 use Rattle.reading.proofs.ScanLaws.{Tied, TiedAll, all, junctionOf, junction-value, rejoin-tied, follow-tied, negated-tied, implied-tied, equality-tied}
 

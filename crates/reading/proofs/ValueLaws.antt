@@ -9,7 +9,7 @@ use lib.ListN.{length}
 use Rattle.form.specs.Form.{Leaf, free, bound, Form, leaf, node, Forms, none, more}
 use Rattle.subst.specs.Walk.{Binding, inside, outside, binding, Outer, named, dangling, walkIndex, walkLeaf, walk, walkAll, up, lift, put, subst}
 use Rattle.subst.proofs.WalkLaws.{binding-add}
-use Rattle.reading.specs.Reading.{Reading, meaning, valueOf, Env, cons, flat, over, leafValue, value, values}
+use Rattle.reading.specs.Reading.{Reading, meaning, valueOf, Env, flat, over, leafValue, value, values}
 use Rattle.reading.specs.Premise.{push}
 
 abbrev pub outerValue : Reading → Env → Outer → ℤ
@@ -64,7 +64,8 @@ module _ (R : Reading) (act : ℕ → Outer → Form) (ρ η : Env)
     keepAll (more f fs) c k e = rw (keep f c k e, keepAll fs c k e)
 
 -- the shift lemma
-lift-right : (R : Reading) (c : List ℤ) (ρ : Env) (b : List ℤ) (x : Outer) → value R (push b (push c ρ)) (up (length c) (length b) x) ≡ outerValue R ρ x
+lift-right : (R : Reading) (c : List ℤ) (ρ : Env) (b : List ℤ) (x : Outer)
+    → value R (push b (push c ρ)) (up (length c) (length b) x) ≡ outerValue R ρ x
 unfolding value
 lift-right R c ρ b (named n) = refl
 lift-right R c ρ b (dangling j) = push-add b (push c ρ) (j + length c) ∙ rw add-comm (push-add c ρ j)

@@ -3,12 +3,12 @@
 use mathlib.Core.Path.{_≡_, refl, ap, _∙_, sym}
 use mathlib.Core.List.{List, [], _∷_}
 use mathlib.Core.Option.{some}
-use mathlib.Core.Bool.{Bool, true, false}
+use mathlib.Core.Bool.{true, false}
 use Prim.Native.Nat.{ℕ, zero, suc, _+_}
 use native.Mathlib.Omega.{arith}
 use lib.Dec.{eqb}
 use lib.IntN.{ℤ, pos, negsuc}
-use Rattle.form.specs.Form.{Leaf, free, bound, Form, leaf, node, Forms, none, more, pick}
+use Rattle.form.specs.Form.{free, bound, Form, leaf, node, Forms, none, more, pick}
 use Rattle.subst.specs.Walk.{walk, collect}
 use Rattle.subst.specs.Fill.{quantified, fill}
 use Rattle.one_point.specs.Replacement.{accept}
