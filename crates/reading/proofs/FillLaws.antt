@@ -106,9 +106,14 @@ fall-lift n k (dangling j) q =
 pub lift-lower : (i : ℕ) (e : Form) → above i e ≡ true → lift (suc i) (lower (suc i) e) ≡ e
 lift-lower i e h = undo (up (suc i)) (put (fall (suc i))) (reaches (suc i)) (fall-lift (suc i)) 0 e h
 
--- the replacement read in the body has the value of what stands for the target
+-- the replacement read in the body, whatever the target and what follows it have, has the value of what stands for the target
+read-under : (R : Reading) (i : ℕ) (e : Form) (η : Env) → above i e ≡ true → (c : List ℤ) → length c ≡ suc i
+    → value R (push c η) e ≡ value R η (lower (suc i) e)
+read-under R i e η h c q = ap (value R (push c η)) (sym (lift-lower i e h)) ∙ (rw q at (lift-value R c η (lower (suc i) e)))
+
 pub read-lowered : (R : Reading) (i : ℕ) (e : Form) (η : Env) → above i e ≡ true → readInBody R i e η ≡ value R η (lower (suc i) e)
-read-lowered R i e η h =
-    let zeros = replicate (suc i) (pos 0) in
-    ap (value R (push zeros η)) (sym (lift-lower i e h))
-    ∙ (rw (length-replicate (suc i) (pos 0)) at (lift-value R zeros η (lower (suc i) e)))
+read-lowered R i e η h = read-under R i e η h (replicate (suc i) (pos 0)) (length-replicate (suc i) (pos 0))
+
+-- so the zeros of the premise stand for any values
+pub read-any : (R : Reading) (i : ℕ) (e : Form) (η : Env) → above i e ≡ true → (c : List ℤ) → length c ≡ suc i → value R (push c η) e ≡ readInBody R i e η
+read-any R i e η h c q = read-under R i e η h c q ∙ sym (read-lowered R i e η h)
