@@ -1,0 +1,119 @@
+-- One declaration filled, those after it kept: the value of what is filled, and the places that one point fills. Assumes nothing.
+use mathlib.Core.Path.{_≡_, refl, ap, _∙_, sym}
+use mathlib.Core.Bool.{true}
+use mathlib.Core.List.{List, [], _∷_, _++_, map, reverse, reverseAux, reverseAux-eq}
+use Prim.Native.Nat.{ℕ, zero, suc, _+_, _-_, _<_, _≤_}
+use native.Mathlib.Nat.{zero-add, add-zero, suc-add}
+use native.Mathlib.Omega.{arith}
+use lib.Dec.{leb→le}
+use lib.IntN.{ℤ, pos}
+use lib.ListN.{length, drop, set, replicate, length-replicate}
+use lib.Seq.{drop-at}
+use Rattle.form.specs.Form.{bound, Form, leaf}
+use Rattle.form.specs.Lists.{Place, kept, filled}
+use Rattle.subst.specs.Walk.{Outer, named, dangling, walk, up, lift, put, subst}
+use Rattle.subst.specs.Shift.{reaches, fall, lower}
+use Rattle.subst.specs.Fill.{keptCount, keptNames, fillIndex, fillFor}
+use Rattle.subst.proofs.WalkLaws.{binding-add, self, undo}
+use Rattle.one_point.specs.Replacement.{above}
+use Rattle.one_point.specs.Partial.{noPlaces, setPlace, front, lowerPlace}
+use Rattle.reading.specs.Reading.{Reading, Env, cons, value}
+use Rattle.reading.specs.Premise.{push, readInBody}
+use Rattle.reading.proofs.ValueLaws.{outerValue, push-add, lift-value, subst-value}
+
+-- index j, with b the values of the declarations kept inside the filled one
+module _ (R : Reading) (e : Form) (η ρ : Env) (m : ℕ) (there : value R ρ (lift m e) ≡ value R η e) (past : (x : ℕ) → ρ (m + x) ≡ η x) where
+  fillIndex-value : (b : List ℤ) (k : ℕ) → ((x : ℕ) → ρ (k + x) ≡ push b η x) → (j : ℕ)
+      → value R ρ (fillIndex m k (replicate (length b) kept ++ (filled e ∷ [])) j) ≡ push b (cons (value R η e) η) j
+  unfolding value
+  fillIndex-value [] k h zero = there
+  fillIndex-value [] k h (suc j) = past j
+  fillIndex-value (v ∷ b) k h zero = rw add-zero at (h 0)
+  fillIndex-value (v ∷ b) k h (suc j) =
+      fillIndex-value b (suc k)
+      (λ x.
+      let z : suc k + x ≡ k + suc x = omega arith in
+      rw z (h (suc x)))
+      j
+
+-- the places from the innermost outwards
+reverse-kept : (n m : ℕ) → reverseAux (replicate n kept) (replicate m kept) ≡ replicate (n + m) kept
+reverse-kept zero m = rw zero-add
+reverse-kept (suc n) m =
+    let z : suc n + m ≡ n + suc m = omega arith in
+    reverse-kept n (suc m) ∙ rw z
+
+reverse-filled : (e : Form) (n : ℕ) → reverse (filled e ∷ replicate n kept) ≡ replicate n kept ++ (filled e ∷ [])
+reverse-filled e n = reverseAux-eq (replicate n kept) (filled e ∷ []) ∙ ap (λ z. z ++ (filled e ∷ [])) (rw add-zero at (reverse-kept n 0))
+
+keptCount-kept : (n : ℕ) → keptCount (replicate n kept) ≡ n
+keptCount-kept zero = refl
+keptCount-kept (suc n) = ap suc (keptCount-kept n)
+
+pub keptNames-kept : (ns : List ℕ) → keptNames (replicate (length ns) kept) ns ≡ ns
+keptNames-kept [] = refl
+keptNames-kept (n ∷ ns) = ap (λ z. n ∷ z) (keptNames-kept ns)
+
+-- the filled form under the values c of what is kept: the form, with the replacement's value put in
+module _ (R : Reading) (e : Form) (η : Env) (c : List ℤ) where
+  fillFor-value : (x : Outer) → value R (push c η) (fillFor (filled e ∷ replicate (length c) kept) x) ≡ outerValue R (push c (cons (value R η e) η)) x
+  unfolding value
+  fillFor-value (named n) = refl
+  fillFor-value (dangling j) =
+      rw (reverse-filled e (length c), keptCount-kept (length c))
+      (fillIndex-value R e η (push c η) (length c) (lift-value R c η e) (push-add c η) c 0 (λ x. rw zero-add) j)
+
+  pub fill-value : (f : Form)
+      → value R (push c η) (subst (fillFor (filled e ∷ replicate (length c) kept)) f) ≡ value R (push c (cons (value R η e) η)) f
+  fill-value f = subst-value R (fillFor (filled e ∷ replicate (length c) kept)) (push c (cons (value R η e) η)) (push c η) fillFor-value f
+
+-- one place filled, j before it and i after it
+front-filled : (j : ℕ) (e : Form) (ps : List Place) → front (replicate j kept ++ (filled e ∷ ps)) ≡ j
+front-filled zero e ps = refl
+front-filled (suc j) e ps = ap suc (front-filled j e ps)
+
+lower-kept : (m n : ℕ) → map (lowerPlace m) (replicate n kept) ≡ replicate n kept
+lower-kept m zero = refl
+lower-kept m (suc n) = ap (λ z. kept ∷ z) (lower-kept m n)
+
+set-filled : (j i : ℕ) (e : Form) → set (replicate (j + suc i) kept) j (filled e) ≡ replicate j kept ++ (filled e ∷ replicate i kept)
+set-filled zero i e = rw zero-add
+set-filled (suc j) i e = rw suc-add (ap (λ z. kept ∷ z) (set-filled j i e))
+
+module _ (n i : ℕ) (e : Form) (lt : i < n) where
+  pub places-are : setPlace n i e (noPlaces n) ≡ replicate (n - suc i) kept ++ (filled e ∷ replicate i kept)
+  places-are =
+      let z : n ≡ n - suc i + suc i = omega arith in
+      ap (λ m. set (replicate m kept) (n - suc i) (filled e)) z ∙ set-filled (n - suc i) i e
+
+  pub front-is : front (setPlace n i e (noPlaces n)) ≡ n - suc i
+  front-is = rw places-are (front-filled (n - suc i) e (replicate i kept))
+
+  pub rest-is : (m : ℕ) → map (lowerPlace m) (drop (n - suc i) (setPlace n i e (noPlaces n))) ≡ filled (lower m e) ∷ replicate i kept
+  rest-is m =
+      rw (places-are, drop-at (replicate (n - suc i) kept) (filled e ∷ replicate i kept) (n - suc i) (length-replicate (n - suc i) kept))
+      (ap (λ z. filled (lower m e) ∷ z) (lower-kept m i))
+
+-- shifted down and lifted again: the same, where no index is below
+fall-lift : (n k : ℕ) (x : Outer) → reaches n k x ≡ true → walk (up n) k (put (fall n) k x) ≡ self k x
+unfolding walk
+fall-lift n k (named m) q = refl
+fall-lift n k (dangling j) q =
+    let a : 0 + (j - n + k) ≡ k + (j - n) = omega arith in
+    let l : n ≤ j = leb→le n j (rw q tt) in
+    rw (a, binding-add) (ap (λ z. leaf (bound z)) (omega arith))
+
+pub lift-lower : (i : ℕ) (e : Form) → above i e ≡ true → lift (suc i) (lower (suc i) e) ≡ e
+lift-lower i e h = undo (up (suc i)) (put (fall (suc i))) (reaches (suc i)) (fall-lift (suc i)) 0 e h
+
+-- the replacement read in the body, whatever the target and what follows it have, has the value of what stands for the target
+read-under : (R : Reading) (i : ℕ) (e : Form) (η : Env) → above i e ≡ true → (c : List ℤ) → length c ≡ suc i
+    → value R (push c η) e ≡ value R η (lower (suc i) e)
+read-under R i e η h c q = ap (value R (push c η)) (sym (lift-lower i e h)) ∙ (rw q at (lift-value R c η (lower (suc i) e)))
+
+pub read-lowered : (R : Reading) (i : ℕ) (e : Form) (η : Env) → above i e ≡ true → readInBody R i e η ≡ value R η (lower (suc i) e)
+read-lowered R i e η h = read-under R i e η h (replicate (suc i) (pos 0)) (length-replicate (suc i) (pos 0))
+
+-- so the zeros of the premise stand for any values
+pub read-any : (R : Reading) (i : ℕ) (e : Form) (η : Env) → above i e ≡ true → (c : List ℤ) → length c ≡ suc i → value R (push c η) e ≡ readInBody R i e η
+read-any R i e η h c q = read-under R i e η h c q ∙ sym (read-lowered R i e η h)

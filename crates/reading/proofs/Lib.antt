@@ -1,0 +1,10 @@
+pub mod Same
+pub mod ValueLaws
+pub mod Exists
+pub mod PartsLaws
+pub mod ScanLaws
+pub mod ScanTruth
+pub mod FillLaws
+pub mod OnePointLaws
+pub mod PointTruth
+pub mod Worked
