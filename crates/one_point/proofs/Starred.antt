@@ -10,10 +10,10 @@ use Rattle.form.specs.Lists.{entryOf, entries, listOf, distinct, goodNames}
 use Rattle.form.specs.Answer.{Outcome, answer, refusal, finish}
 use Rattle.subst.specs.Walk.{walk, collect}
 use Rattle.subst.specs.Shift as S
-use Rattle.subst.specs.Free.{substitute, freeOutcome}
+use Rattle.replace.specs.Free.{substitute, freeOutcome}
 use Rattle.subst.specs.Bind as B
-use Rattle.subst.specs.Fill as F
-use Rattle.subst.specs.Prune as P
+use Rattle.replace.specs.Fill as F
+use Rattle.replace.specs.Prune as P
 use Rattle.one_point.specs.Replacement.{accept}
 use Rattle.one_point.specs.Split.{parts}
 use Rattle.one_point.specs.Scan.{offerParts, scan}

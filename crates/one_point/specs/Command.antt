@@ -4,10 +4,10 @@ use Prim.Native.Nat.{ℕ}
 use lib.IntN.{ℤ}
 use Rattle.form.specs.Answer.{Outcome}
 use Rattle.subst.specs.Shift.{shiftOutcome}
-use Rattle.subst.specs.Free.{freeOutcome}
+use Rattle.replace.specs.Free.{freeOutcome}
 use Rattle.subst.specs.Bind.{bindOutcome}
-use Rattle.subst.specs.Fill.{fillOutcome}
-use Rattle.subst.specs.Prune.{pruneOutcome}
+use Rattle.replace.specs.Fill.{fillOutcome}
+use Rattle.replace.specs.Prune.{pruneOutcome}
 use Rattle.one_point.specs.Point.{pointOutcome}
 use Rattle.one_point.specs.Member.{memberOutcome}
 

@@ -10,7 +10,7 @@ use Rattle.form.specs.Lists.{Place, kept, filled}
 use Rattle.form.specs.Answer.{Outcome, withWork, withForm}
 use Rattle.form.specs.declared.answer.Kind.the-variants.{Predicate}
 use Rattle.subst.specs.Walk.{lift}
-use Rattle.subst.specs.Fill.{quantify}
+use Rattle.replace.specs.Fill.{quantify}
 use Rattle.one_point.specs.Replacement.{Taken, taken, nothing, accept}
 use Rattle.one_point.specs.Split.{isNil, parts, equal}
 use Rattle.one_point.specs.Partial.{noPlaces, setPlace, front, instantiatePartial}

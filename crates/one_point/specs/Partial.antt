@@ -7,7 +7,7 @@ use lib.ListN.{length, take, drop, set, replicate}
 use Rattle.form.specs.Form.{Form, pick}
 use Rattle.form.specs.Lists.{Place, kept, filled}
 use Rattle.subst.specs.Shift.{lower}
-use Rattle.subst.specs.Fill.{Quantified, quantifier, other, quantified, quantify, fill}
+use Rattle.replace.specs.Fill.{Quantified, quantifier, other, quantified, quantify, fill}
 
 abbrev pub noPlaces : ℕ → List Place
 noPlaces n = replicate n kept

@@ -11,7 +11,7 @@ use lib.IntN.{ℤ}
 use lib.ListN.{length}
 use Rattle.form.specs.Form.{Form, leaf, node, none, more, pick}
 use Rattle.form.proofs.DecodeLaws.{clash}
-use Rattle.subst.specs.Fill.{Quantified, quantifier, other, quantified, quantify}
+use Rattle.replace.specs.Fill.{Quantified, quantifier, other, quantified, quantify}
 use Rattle.one_point.specs.Partial.{joinWith, putRound}
 use Rattle.reading.specs.Reading.{Reading, truth, same, meaning, valueOf, first, every, some, Env, cons, flat, over, value}
 use Rattle.reading.specs.Premise.{has, push}

@@ -13,7 +13,7 @@ use Rattle.form.specs.Form.{bound, Form, leaf}
 use Rattle.form.specs.Lists.{Place, kept, filled}
 use Rattle.subst.specs.Walk.{Outer, named, dangling, walk, up, lift, put, subst}
 use Rattle.subst.specs.Shift.{reaches, fall, lower}
-use Rattle.subst.specs.Fill.{keptCount, keptNames, fillIndex, fillFor}
+use Rattle.replace.specs.Fill.{keptCount, keptNames, fillIndex, fillFor}
 use Rattle.subst.proofs.WalkLaws.{binding-add, self, undo}
 use Rattle.one_point.specs.Replacement.{above}
 use Rattle.one_point.specs.Partial.{noPlaces, setPlace, front, lowerPlace}

@@ -11,7 +11,7 @@ use lib.ListN.{length, length-append, replicate}
 use Rattle.form.specs.Form.{Form, node, none, more}
 use Rattle.form.specs.Lists.{kept, filled}
 use Rattle.subst.specs.Walk.{lift, subst}
-use Rattle.subst.specs.Fill.{quantify, fillFor}
+use Rattle.replace.specs.Fill.{quantify, fillFor}
 use Rattle.one_point.specs.Partial.{putRound}
 use Rattle.reading.specs.Reading.{Reading, truth, same, Env, cons, value}
 use Rattle.reading.specs.Premise.{has, push}

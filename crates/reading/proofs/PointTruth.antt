@@ -14,7 +14,7 @@ use Rattle.form.specs.Lists.{kept, filled}
 use Rattle.form.proofs.DecodeLaws.{clash}
 use Rattle.subst.specs.Walk.{lift, subst}
 use Rattle.subst.specs.Shift.{lower}
-use Rattle.subst.specs.Fill.{Quantified, quantifier, other, quantified, quantify, fillFor, fill}
+use Rattle.replace.specs.Fill.{Quantified, quantifier, other, quantified, quantify, fillFor, fill}
 use Rattle.one_point.specs.Replacement.{above, taken, nothing}
 use Rattle.one_point.specs.Scan.{Scan, scanned, scan}
 use Rattle.one_point.specs.Partial.{noPlaces, setPlace, putRound, instantiatePartial}

@@ -10,7 +10,7 @@ use lib.Dec.{eqb}
 use lib.IntN.{ℤ, pos, negsuc}
 use Rattle.form.specs.Form.{free, bound, Form, leaf, node, Forms, none, more, pick}
 use Rattle.subst.specs.Walk.{walk, collect}
-use Rattle.subst.specs.Fill.{quantified, fill}
+use Rattle.replace.specs.Fill.{quantified, fill}
 use Rattle.one_point.specs.Replacement.{accept}
 use Rattle.one_point.specs.Split.{parts, equal}
 use Rattle.one_point.specs.Scan.{offerParts, scan}

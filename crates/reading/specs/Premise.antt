@@ -6,7 +6,7 @@ use Prim.Native.Nat.{ℕ, suc, _-_}
 use lib.IntN.{ℤ, pos}
 use lib.ListN.{length, take, getD, replicate}
 use Rattle.form.specs.Form.{Form}
-use Rattle.subst.specs.Fill.{Quantified, quantifier, other, quantified}
+use Rattle.replace.specs.Fill.{Quantified, quantifier, other, quantified}
 use Rattle.one_point.specs.Replacement.{Taken, taken, nothing}
 use Rattle.one_point.specs.Scan.{Scan, scanned, scan}
 use Rattle.one_point.specs.Point.{polarity}

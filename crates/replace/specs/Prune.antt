@@ -9,8 +9,8 @@ use Rattle.form.specs.Tag.{pred}
 use Rattle.form.specs.Lists.{Place, kept, filled}
 use Rattle.form.specs.Answer.{Outcome, withForm, needs, finish}
 use Rattle.form.specs.declared.answer.Kind.the-variants.{Predicate}
 use Rattle.subst.specs.Walk.{Outer, named, dangling, each}
-use Rattle.subst.specs.Fill.{keptCount, fill, ofQuantified, quantified}
+use Rattle.replace.specs.Fill.{keptCount, fill, ofQuantified, quantified}
 
 abbrev pub isNot : ℕ → ℕ → Outer → Bool
 isNot i k (named m) = true

@@ -1,0 +1,1 @@
+// Replacements that change a form's length: free substitution, filling of declarations, pruning.
