@@ -6,7 +6,7 @@ use Prim.Native.Nat.{ℕ, zero, suc, _≤_, _<_}
 use native.Mathlib.Omega.{arith}
 use borrow.Author.Tests.{le-leb, lt-leb}
 use lib.Dec.{leb}
-use lib.ListN.{length, length-append}
+use lib.ListN.{length, getD, length-append}
 use Rattle.form.specs.Form.{Form, pick, encode}
 use Rattle.form.specs.Tag.{Sort, expr, pred, own, ownOf, shapeOf}
 use Rattle.form.specs.Decode.{read, Got, got, no-form, branch, decode, Whole, one, not-one, whole, rowForm, Found, found, missing, asSort, either, formOf}
@@ -61,6 +61,17 @@ sort-of [] true e = absurd (clash cc)
 sort-of [] false e = rw (no-whole expr [] refl)
 sort-of (t ∷ ws) true e = rw (no-whole pred (t ∷ ws) (unknown-no pred 64 t ws (one-table t (known-is (shapeOf expr t) e)))) (either-missing (asSort expr (rowForm expr (t ∷ ws))))
 sort-of (t ∷ ws) false e = rw (no-whole expr (t ∷ ws) (unknown-no expr 64 t ws (known-not (shapeOf expr t) e)))
+
+-- by the first tag, if there is one
+pub by-none : (row : List ℕ) → length row ≡ 0 → asExpr Either row ≡ false
+unfolding asExpr
+by-none [] h = refl
+by-none (t ∷ ws) h = absurd (omega arith)
+
+pub by-tag : (row : List ℕ) (x : Shape) → (length row ≡ 0 → ⊥) → x ≡ shapeOf expr (getD row 0 0) → asExpr Either row ≡ known x
+unfolding asExpr
+by-tag [] x h e = absurd (h refl)
+by-tag (t ∷ ws) x h e = rw e
 
 -- the sort that the code reads the row as
 abbrev pub sortFor : Bool → Sort

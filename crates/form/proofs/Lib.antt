@@ -3,3 +3,4 @@ pub mod Ranges
 pub mod HeadLaws
 pub mod ReaderLaws
 pub mod CheckLaws
+pub mod ListLaws

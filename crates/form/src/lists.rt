@@ -4,9 +4,9 @@ use crate::answer::Limit;
 use crate::head::Step;
 use crate::reader::mark_expr;
 ghost use mathlib.Core.Path.{_≡_};
-ghost use Prim.Native.Nat.{_<_, _≤_};
+ghost use Prim.Native.Nat.{_+_, _<_};
 ghost use lib.ListN.{length, drop};
-ghost use Rattle.form.specs.Lists.{entryOf, listOf, distinct, goodNames};
+ghost use Rattle.form.specs.Lists.{placeEntry, entryOf, listOf, distinct, goodNames};
 ghost use Rattle.form.specs.Answer.{told, namesOutcome, pairsOutcome, placesOutcome};
 ghost use Rattle.form.specs.Internal.Reads.{ToldEntry, Listing, emptyTable, addRow, memberOf, goodTable};
 
@@ -62,6 +62,20 @@ impl Table {
     }
 }
 
+// A place at p, whose word is w: where it ends.
+fn place_at(row: &[u32], marks: &mut [u32], p: usize, w: u32) -> Step
+    requires { ⌜ p < length (now row) ⌝ }
+    ensures { λ r. ⌜ ToldEntry p (placeEntry w (drop (p + 1) (now (row .entry)))) (now (marks .entry)) (now (marks .exit)) r ⌝ }
+{
+    if w == 0 {
+        return Step::End(p + 1);
+    }
+    if 1 < w {
+        return Step::Bad;
+    }
+    mark_expr(row, marks, p + 1, Limit::DEPTH, 0)
+}
+
 // One entry of a list at p: where it ends.
 fn entry_at(row: &[u32], kind: ListKind, marks: &mut [u32], p: usize) -> Step
     ensures { λ r. ⌜ ToldEntry p (entryOf kind (drop p (now (row .entry)))) (now (marks .entry)) (now (marks .exit)) r ⌝ }
@@ -69,16 +83,10 @@ fn entry_at(row: &[u32], kind: ListKind, marks: &mut [u32], p: usize) -> Step
     if row.len() <= p {
         return Step::Bad;
     }
-    let w = row[p];
-    if let ListKind::Places = kind {
-        if w == 0 {
-            return Step::End(p + 1);
-        }
-        if 1 < w {
-            return Step::Bad;
-        }
+    match kind {
+        ListKind::Pairs => mark_expr(row, marks, p + 1, Limit::DEPTH, 0),
+        ListKind::Places => place_at(row, marks, p, row[p]),
     }
-    mark_expr(row, marks, p + 1, Limit::DEPTH, 0)
 }
 
 // The entries of the row, if it is such a list; the names and indices of their expressions are marked. The marks are a work row: what

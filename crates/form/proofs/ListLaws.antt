@@ -1,0 +1,275 @@
+-- The lists: a row is read as entries one after another, and the code's table holds them. Assumes nothing.
+use mathlib.Core.Path.{_≡_, refl, ap, sym, _∙_}
+use mathlib.Core.Bool.{Bool, true, false, not, _&&_}
+use mathlib.Core.List.{List, [], _∷_, _++_, append-assoc, map}
+use mathlib.Core.Option.{Option, none as absent, some}
+use Prim.Native.Nat.{ℕ, zero, suc, _+_, _≤_, _<_}
+use native.Mathlib.Numerals.{add-one}
+use native.Mathlib.Omega.{arith}
+use borrow.Author.Tests.{le-leb, lt-leb, leb-true, leb-false, eq-eqb, ne-eqb}
+use lib.Dec.{leb, eqb}
+use lib.ListN.{length, getD, take, drop, set, length-append, length-set, length-map}
+use lib.Seq.{drop-drop, drop-append-seam, take-suc-set}
+use Rattle.form.specs.Form.{Form, pick, encode}
+use Rattle.form.specs.Tag.{expr}
+use Rattle.form.specs.Decode.{Got, got, no-form, decode}
+use Rattle.form.specs.Lists.{Place, kept, filled, Entry, entry, wordOf, withExpr, placeEntry, entryOf, addEntry, andThen, entries, listOf, entryWords, encodeList, distinct, goodNames}
+use Rattle.form.specs.Answer.{told, answer, namesOutcome, pairsOutcome, placesOutcome}
+use Rattle.form.specs.Internal.Reads.{Told, mark, markEntry, markEntries, ToldEntry, emptyTable, addRow, tabled, ListingFrom, Listing, memberOf, goodTable}
+use Rattle.form.specs.declared.answer.Answer.the-variants.{Done, No}
+use Rattle.form.specs.declared.lists.ListKind.{ListKind}
+use Rattle.form.specs.declared.lists.ListKind.the-variants.{Pairs, Places}
+use Rattle.form.specs.declared.lists.Table.{Table}
+use Rattle.form.specs.declared.lists.Listed.{Listed}
+use Rattle.form.specs.declared.head.Step.{Step}
+use Rattle.form.specs.declared.head.Step.the-variants.{End, Bad}
+use Rattle.form.proofs.DecodeLaws.{clash, Ok, decode-encode, decode-sound}
+use Rattle.form.proofs.HeadLaws.{gone, here}
+
+-- names, one after another
+module _ (ns : List ℕ) (m i : ℕ) where
+  pub member-here : i < length ns → getD ns i 0 ≡ m → memberOf m (drop i ns) ≡ true
+  unfolding memberOf
+  member-here low e = rw (here ns i low, eq-eqb (getD ns i 0) m e)
+
+  pub member-on : i < length ns → (getD ns i 0 ≡ m → ⊥) → memberOf m (drop i ns) ≡ memberOf m (drop (i + 1) ns)
+  unfolding memberOf
+  member-on low e = rw (here ns i low, ne-eqb (getD ns i 0) m e)
+
+  pub member-end : length ns ≤ i → memberOf m (drop i ns) ≡ false
+  unfolding memberOf
+  member-end h = rw (gone ns i h)
+
+module _ (ns : List ℕ) (i : ℕ) (low : i < length ns) where
+  pub distinct-over : 65535 < getD ns i 0 → distinct (drop i ns) ≡ false
+  unfolding distinct
+  distinct-over h = rw (here ns i low, lt-leb (getD ns i 0) 65535 h)
+
+  pub distinct-twice : getD ns i 0 ≤ 65535 → memberOf (getD ns i 0) (drop (i + 1) ns) ≡ true → distinct (drop i ns) ≡ false
+  unfolding distinct memberOf
+  distinct-twice h e = rw (here ns i low, le-leb (getD ns i 0) 65535 h, e)
+
+  pub distinct-on : getD ns i 0 ≤ 65535 → memberOf (getD ns i 0) (drop (i + 1) ns) ≡ false → distinct (drop i ns) ≡ distinct (drop (i + 1) ns)
+  unfolding distinct memberOf
+  distinct-on h e = rw (here ns i low, le-leb (getD ns i 0) 65535 h, e)
+
+pub distinct-end : (ns : List ℕ) (i : ℕ) → length ns ≤ i → distinct (drop i ns) ≡ true
+unfolding distinct
+distinct-end ns i h = rw (gone ns i h)
+
+pub many-names : (ns : List ℕ) → 32 < length ns → goodNames ns ≡ false
+unfolding goodNames
+many-names ns h = rw (lt-leb (length ns) 32 h)
+
+pub few-good : (ns : List ℕ) → length ns ≤ 32 → goodNames ns ≡ distinct ns
+unfolding goodNames
+few-good ns h = rw (le-leb (length ns) 32 h)
+
+-- an entry that the kind can have: with a pair an expression, at a place 0 alone or 1 and an expression
+abbrev pub Good : ListKind → Entry → Type 0
+Good Pairs (entry w kept) = ⊥
+Good Pairs (entry w (filled f)) = Ok 64 expr f
+Good Places (entry w kept) = w ≡ 0
+Good Places (entry w (filled f)) = (w ≡ 1) × Ok 64 expr f
+
+abbrev pub GoodAll : ListKind → List Entry → Type 0
+GoodAll kind [] = Unit {0}
+GoodAll kind (e ∷ es) = Good kind e × GoodAll kind es
+
+with-sound : (kind : ListKind) (w : ℕ) (ws : List ℕ) (g : Got) → ((f : Form) → Ok 64 expr f → Good kind (entry w (filled f))) → decode 64 expr ws ≡ g → (x : Entry × List ℕ) → withExpr w g ≡ some x
+    → (w ∷ ws ≡ entryWords (x .0) ++ x .1) × Good kind (x .0)
+unfolding entryWords
+with-sound kind w ws (got f r) h q x e =
+    let z : (entry w (filled f), r) ≡ x = cc in
+    let y = decode-sound 64 expr ws f r q in
+    rw (← z) (ap (λ l. w ∷ l) (y .0), h f (y .1))
+with-sound kind w ws no-form h q x e = absurd (clash cc)
+
+place-sound : (w : ℕ) (ws : List ℕ) (x : Entry × List ℕ) → placeEntry w ws ≡ some x → (w ∷ ws ≡ entryWords (x .0) ++ x .1) × Good Places (x .0)
+unfolding entryWords
+place-sound zero ws x e = let z : (entry 0 kept, ws) ≡ x = cc in rw (← z) (refl, refl)
+place-sound (suc zero) ws x e = with-sound Places 1 ws (decode 64 expr ws) (λ f k. (refl, k)) refl x e
+place-sound (suc (suc w)) ws x e = absurd (clash cc)
+
+-- the words of an entry are the row's first
+pub entry-sound : (kind : ListKind) (ws : List ℕ) (x : Entry × List ℕ) → entryOf kind ws ≡ some x → (ws ≡ entryWords (x .0) ++ x .1) × Good kind (x .0)
+unfolding entryOf
+entry-sound kind [] x e = absurd (clash cc)
+entry-sound Pairs (w ∷ ws) x e = with-sound Pairs w ws (decode 64 expr ws) (λ f k. k) refl x e
+entry-sound Places (w ∷ ws) x e = place-sound w ws x e
+
+pub entry-encode : (kind : ListKind) (e : Entry) (r : List ℕ) → Good kind e → entryOf kind (entryWords e ++ r) ≡ some (e, r)
+unfolding entryOf entryWords
+entry-encode Pairs (entry w kept) r g = absurd g
+entry-encode Pairs (entry w (filled f)) r g = rw (decode-encode g r)
+entry-encode Places (entry w kept) r g = rw g
+entry-encode Places (entry w (filled f)) r g = rw (g .0, decode-encode (g .1) r)
+
+entry-long : (e : Entry) → 0 < length (entryWords e)
+unfolding entryWords
+entry-long (entry w p) = omega arith
+
+shorter : (kind : ListKind) (ws : List ℕ) (x : Entry × List ℕ) → entryOf kind ws ≡ some x → length (x .1) < length ws
+shorter kind ws x e =
+    let l = entry-long (x .0) in
+    let n = ap length (entry-sound kind ws x e .0) ∙ length-append (entryWords (x .0)) (x .1) in
+    omega arith
+
+-- what follows an entry is shorter, so the row's length is as good a bound as any larger
+and-then : (kind : ListKind) (ws : List ℕ) (z : Option (Entry × List ℕ)) → entryOf kind ws ≡ z → (h k : List ℕ → Option (List Entry)) → ((r : List ℕ) → length r < length ws → h r ≡ k r)
+    → andThen z h ≡ andThen z k
+and-then kind ws (some x) q h k s = ap (λ o. addEntry (x .0) o) (s (x .1) (shorter kind ws x q))
+and-then kind ws absent q h k s = refl
+
+entries-bound : (kind : ListKind) (n m : ℕ) (ws : List ℕ) → length ws ≤ n → length ws ≤ m → entries kind n ws ≡ entries kind m ws
+unfolding entries
+entries-bound kind zero zero ws a b = refl
+entries-bound kind zero (suc m) [] a b = refl
+entries-bound kind zero (suc m) (w ∷ ws) a b = absurd (omega arith)
+entries-bound kind (suc n) zero [] a b = refl
+entries-bound kind (suc n) zero (w ∷ ws) a b = absurd (omega arith)
+entries-bound kind (suc n) (suc m) [] a b = refl
+entries-bound kind (suc n) (suc m) (w ∷ ws) a b =
+    and-then kind (w ∷ ws) (entryOf kind (w ∷ ws)) refl (λ r. entries kind n r) (λ r. entries kind m r) (λ r l. entries-bound kind n m r (omega arith) (omega arith))
+
+-- a list is an entry and a list
+pub list-step : (kind : ListKind) (w : ℕ) (ws : List ℕ) → listOf kind (w ∷ ws) ≡ andThen (entryOf kind (w ∷ ws)) (λ r. listOf kind r)
+unfolding listOf entries
+list-step kind w ws =
+    and-then kind (w ∷ ws) (entryOf kind (w ∷ ws)) refl (λ r. entries kind (length ws) r) (λ r. listOf kind r)
+    (λ r l. entries-bound kind (length ws) (length r) r (omega arith) (omega arith))
+
+pub list-nil : (kind : ListKind) → listOf kind [] ≡ some []
+unfolding listOf entries
+list-nil kind = refl
+
+-- the list and its row
+add-sound : (e : Entry) (o : Option (List Entry)) (es : List Entry) → addEntry e o ≡ some es → (es′ : List Entry) × (o ≡ some es′) × (e ∷ es′ ≡ es)
+add-sound e (some es′) es q = (es′, refl, cc)
+add-sound e absent es q = absurd (clash cc)
+
+more-sound : (kind : ListKind) (ws : List ℕ) (x : Entry × List ℕ) (es es′ : List Entry) → x .0 ∷ es′ ≡ es → (ws ≡ entryWords (x .0) ++ x .1) × Good kind (x .0) → (x .1 ≡ encodeList es′) × GoodAll kind es′
+    → (ws ≡ encodeList es) × GoodAll kind es
+unfolding encodeList
+more-sound kind ws x es es′ q h k = rw (← q) (h .0 ∙ ap (λ l. entryWords (x .0) ++ l) (k .0), (h .1, k .1))
+
+and-sound : (kind : ListKind) (ws : List ℕ) (z : Option (Entry × List ℕ)) → entryOf kind ws ≡ z → (k : List ℕ → Option (List Entry))
+    → ((r : List ℕ) (es : List Entry) → k r ≡ some es → (r ≡ encodeList es) × GoodAll kind es) → (es : List Entry) → andThen z k ≡ some es → (ws ≡ encodeList es) × GoodAll kind es
+and-sound kind ws (some x) q k ih es e =
+    let (es′, a, b) = add-sound (x .0) (k (x .1)) es e in
+    more-sound kind ws x es es′ b (entry-sound kind ws x q) (ih (x .1) es′ a)
+and-sound kind ws absent q k ih es e = absurd (clash cc)
+
+nil-sound : (kind : ListKind) (es : List Entry) → some [] ≡ some es → ([] ≡ encodeList es) × GoodAll kind es
+unfolding encodeList
+nil-sound kind [] e = (refl, tt)
+nil-sound kind (x ∷ es) e = absurd (clash cc)
+
+entries-sound : (kind : ListKind) (n : ℕ) (ws : List ℕ) (es : List Entry) → entries kind n ws ≡ some es → (ws ≡ encodeList es) × GoodAll kind es
+unfolding entries
+entries-sound kind zero [] es e = nil-sound kind es e
+entries-sound kind zero (w ∷ ws) es e = absurd (clash cc)
+entries-sound kind (suc n) [] es e = nil-sound kind es e
+entries-sound kind (suc n) (w ∷ ws) es e = and-sound kind (w ∷ ws) (entryOf kind (w ∷ ws)) refl (λ r. entries kind n r) (λ r es′ q. entries-sound kind n r es′ q) es e
+
+pub list-sound : (kind : ListKind) (row : List ℕ) (es : List Entry) → listOf kind row ≡ some es → (row ≡ encodeList es) × GoodAll kind es
+unfolding listOf
+list-sound kind row es e = entries-sound kind (length row) row es e
+
+pub list-encode : (kind : ListKind) (es : List Entry) → GoodAll kind es → listOf kind (encodeList es) ≡ some es
+unfolding encodeList entryWords
+list-encode kind [] g = list-nil kind
+list-encode kind (entry w p ∷ es) g = list-step kind w _ ∙ rw (entry-encode kind (entry w p) (encodeList es) (g .0), list-encode kind es (g .1))
+
+-- one entry at a position, as the code reads it
+pub entry-gone : (kind : ListKind) (row : List ℕ) (p : ℕ) (a b : List ℕ) → length row ≤ p → ToldEntry p (entryOf kind (drop p row)) a b Bad
+unfolding entryOf ToldEntry
+entry-gone kind row p a b h = rw (gone row p h) refl
+
+with-told : (p w : ℕ) (g : Got) (a b : List ℕ) (r : Step) → Told (p + 1) 0 g a b r → ToldEntry p (withExpr w g) a b r
+unfolding Told ToldEntry entryWords markEntry
+with-told p w (got f x) a b r t = (t .0 ∙ ap End (omega arith), t .1)
+with-told p w no-form a b r t = t
+
+pub pair-told : (row : List ℕ) (p : ℕ) (a b : List ℕ) (r : Step) → p < length row → Told (p + 1) 0 (decode 64 expr (drop (p + 1) row)) a b r → ToldEntry p (entryOf Pairs (drop p row)) a b r
+unfolding entryOf
+pair-told row p a b r h t = rw (here row p h) (with-told p (getD row p 0) (decode 64 expr (drop (p + 1) row)) a b r t)
+
+pub place-told : (row : List ℕ) (p : ℕ) (a b : List ℕ) (r : Step) → p < length row → ToldEntry p (placeEntry (getD row p 0) (drop (p + 1) row)) a b r → ToldEntry p (entryOf Places (drop p row)) a b r
+unfolding entryOf
+place-told row p a b r h t = rw (here row p h) t
+
+pub place-kept : (p w : ℕ) (ws a : List ℕ) → w ≡ 0 → ToldEntry p (placeEntry w ws) a a (End (p + 1))
+unfolding ToldEntry entryWords markEntry
+place-kept p w ws a e = rw e (refl, refl)
+
+pub place-bad : (p w : ℕ) (ws a b : List ℕ) → 1 < w → ToldEntry p (placeEntry w ws) a b Bad
+unfolding ToldEntry
+place-bad p zero ws a b h = absurd (omega arith)
+place-bad p (suc zero) ws a b h = absurd (omega arith)
+place-bad p (suc (suc w)) ws a b h = refl
+
+pub place-filled : (p w : ℕ) (ws a b : List ℕ) (r : Step) → (w ≡ 0 → ⊥) → w ≤ 1 → Told (p + 1) 0 (decode 64 expr ws) a b r → ToldEntry p (placeEntry w ws) a b r
+place-filled p zero ws a b r n h t = absurd (n refl)
+place-filled p (suc zero) ws a b r n h t = with-told p 1 (decode 64 expr ws) a b r t
+place-filled p (suc (suc w)) ws a b r n h t = absurd (omega arith)
+
+-- the entries from a position on
+entry-end : (p : ℕ) (z : Option (Entry × List ℕ)) (a b : List ℕ) (r : Step) (q : ℕ) → ToldEntry p z a b r → r ≡ End q
+    → (x : Entry × List ℕ) × (z ≡ some x) × (q ≡ p + length (entryWords (x .0))) × (b ≡ markEntry (x .0) p a)
+unfolding ToldEntry
+entry-end p (some x) a b r q t e = (x, refl, cc (t .0), t .1)
+entry-end p absent a b r q t e = absurd (clash cc)
+
+entry-bad : (p : ℕ) (z : Option (Entry × List ℕ)) (a b : List ℕ) (r : Step) → ToldEntry p z a b r → r ≡ Bad → z ≡ absent
+unfolding ToldEntry
+entry-bad p (some x) a b r t e = let z = t .0 in absurd (clash cc)
+entry-bad p absent a b r t e = refl
+
+pub entry-rises : (p : ℕ) (z : Option (Entry × List ℕ)) (a b : List ℕ) (r : Step) (q : ℕ) → ToldEntry p z a b r → r ≡ End q → p < q
+entry-rises p z a b r q t e =
+    let (x, s, l, m) = entry-end p z a b r q t e in
+    let n = entry-long (x .0) in
+    omega arith
+
+first-word : (e : Entry) (r : List ℕ) (w : ℕ) (ws : List ℕ) → w ∷ ws ≡ entryWords e ++ r → w ≡ wordOf e
+unfolding entryWords
+first-word (entry v p) r w ws e = cc
+
+module _ (kind : ListKind) (row : List ℕ) (p : ℕ) where
+  list-here : p < length row → listOf kind (drop p row) ≡ andThen (entryOf kind (drop p row)) (λ r. listOf kind r)
+  list-here h = rw (here row p h) (list-step kind (getD row p 0) (drop (p + 1) row))
+
+  entry-rest : (x : Entry × List ℕ) → entryOf kind (drop p row) ≡ some x → x .1 ≡ drop (p + length (entryWords (x .0))) row
+  entry-rest x e = rw (← drop-drop (length (entryWords (x .0))) p row, entry-sound kind (drop p row) x e .0, drop-append-seam)
+
+  entry-word : p < length row → (x : Entry × List ℕ) → entryOf kind (drop p row) ≡ some x → getD row p 0 ≡ wordOf (x .0)
+  entry-word h x e = first-word (x .0) (x .1) (getD row p 0) (drop (p + 1) row) (sym (here row p h) ∙ entry-sound kind (drop p row) x e .0)
+
+add-listing : (p q : ℕ) (e : Entry) (o : Option (List Entry)) (t t′ : Table) (a a′ b : List ℕ) (l : Listed) → q ≡ p + length (entryWords e) → a′ ≡ markEntry e p a → t′ ≡ addRow t (wordOf e) (p + 1) q
+    → ListingFrom q t′ o a′ b l → ListingFrom p t (addEntry e o) a b l
+unfolding ListingFrom tabled markEntries
+add-listing p q e (some es) t t′ a a′ b l n m k h = rw (← n, ← m, ← k) h
+add-listing p q e absent t t′ a a′ b l n m k h = h
+
+next-listing : (p q : ℕ) (z : Option (Entry × List ℕ)) (x : Entry × List ℕ) (k : List ℕ → Option (List Entry)) (y : List ℕ) (t t′ : Table) (w : ℕ) (a a′ b : List ℕ) (l : Listed) → z ≡ some x → x .1 ≡ y → w ≡ wordOf (x .0)
+    → q ≡ p + length (entryWords (x .0)) → a′ ≡ markEntry (x .0) p a → t′ ≡ addRow t w (p + 1) q → ListingFrom q t′ (k y) a′ b l → ListingFrom p t (andThen z k) a b l
+next-listing p q z x k y t t′ w a a′ b l e r v n m u h =
+    rw e (add-listing p q (x .0) (k (x .1)) t t′ a a′ b l n m (rw v at u) (rw r h))
+
+module _ (kind : ListKind) (row : List ℕ) (p : ℕ) (low : p < length row) (t : Table) (a a′ : List ℕ) (r : Step) (told-here : ToldEntry p (entryOf kind (drop p row)) a a′ r) where
+  pub list-more : (q : ℕ) (t′ : Table) → r ≡ End q → t′ ≡ addRow t (getD row p 0) (p + 1) q → (b : List ℕ) (l : Listed)
+      → ListingFrom q t′ (listOf kind (drop q row)) a′ b l → ListingFrom p t (listOf kind (drop p row)) a b l
+  list-more q t′ e u b l h =
+      let (x, z, n, m) = entry-end p (entryOf kind (drop p row)) a a′ r q told-here e in
+      rw (list-here kind row p low)
+      (next-listing p q (entryOf kind (drop p row)) x (λ r. listOf kind r) (drop q row) t t′ (getD row p 0) a a′ b l z (entry-rest kind row p x z ∙ ap (λ n. drop n row) (sym n))
+      (entry-word kind row p low x z) n m u h)
+
+  pub list-stop : r ≡ Bad → (b : List ℕ) (l : Listed) → l .ok ≡ false → ListingFrom p t (listOf kind (drop p row)) a b l
+  unfolding ListingFrom
+  list-stop e b l h = rw (list-here kind row p low, entry-bad p (entryOf kind (drop p row)) a a′ r told-here e) h
+
+pub list-end : (kind : ListKind) (row : List ℕ) (p : ℕ) (t : Table) (a : List ℕ) → length row ≤ p → ListingFrom p t (listOf kind (drop p row)) a a (record { ok = true; table = t })
+unfolding ListingFrom tabled markEntries
+list-end kind row p t a h = rw (gone row p h, list-nil kind) (refl, refl)
