@@ -1,7 +1,7 @@
 -- The lists: a row is read as entries one after another, and the code's table holds them. Assumes nothing.
 use mathlib.Core.Path.{_≡_, refl, ap, sym, _∙_}
 use mathlib.Core.Bool.{Bool, true, false, not, _&&_}
-use mathlib.Core.List.{List, [], _∷_, _++_, append-assoc, map}
+use mathlib.Core.List.{List, [], _∷_, _++_, append-assoc, append-nil, map}
 use mathlib.Core.Option.{Option, none as absent, some}
 use Prim.Native.Nat.{ℕ, zero, suc, _+_, _≤_, _<_}
 use native.Mathlib.Numerals.{add-one}
@@ -14,7 +14,7 @@ use Rattle.form.specs.Form.{Form, pick, encode}
 use Rattle.form.specs.Tag.{expr}
 use Rattle.form.specs.Decode.{Got, got, no-form, decode}
 use Rattle.form.specs.Lists.{Place, kept, filled, Entry, entry, wordOf, withExpr, placeEntry, entryOf, addEntry, andThen, entries, listOf, entryWords, encodeList, distinct, goodNames}
-use Rattle.form.specs.Answer.{told, answer, namesOutcome, pairsOutcome, placesOutcome}
+use Rattle.form.specs.Answer.{told, answer, needs, namesOutcome, pairsOutcome, placesOutcome}
 use Rattle.form.specs.Internal.Reads.{Told, mark, markEntry, markEntries, ToldEntry, emptyTable, addRow, tabled, ListingFrom, Listing, memberOf, goodTable}
 use Rattle.form.specs.declared.answer.Answer.the-variants.{Done, No}
 use Rattle.form.specs.declared.lists.ListKind.{ListKind}
@@ -273,3 +273,146 @@ module _ (kind : ListKind) (row : List ℕ) (p : ℕ) (low : p < length row) (t 
 pub list-end : (kind : ListKind) (row : List ℕ) (p : ℕ) (t : Table) (a : List ℕ) → length row ≤ p → ListingFrom p t (listOf kind (drop p row)) a a (record { ok = true; table = t })
 unfolding ListingFrom tabled markEntries
 list-end kind row p t a h = rw (gone row p h, list-nil kind) (refl, refl)
+
+-- the table: its number of rows, and the words of the first 32
+pub row-none : emptyTable .n ≤ 0
+unfolding emptyTable
+row-none = omega arith
+
+pick-n : (b : Bool) (x y : Table) (n : ℕ) → x .n ≡ n → y .n ≡ n → pick {A = Table} b x y .n ≡ n
+pick-n true x y n p q = p
+pick-n false x y n p q = q
+
+pick-length : (b : Bool) (x y : Table) (n : ℕ) → length (x .words) ≡ n → length (y .words) ≡ n → length (pick {A = Table} b x y .words) ≡ n
+pick-length true x y n p q = p
+pick-length false x y n p q = q
+
+module _ (t : Table) (w s e : ℕ) where
+  add-n : addRow t w s e .n ≡ t .n + 1
+  unfolding addRow
+  add-n = pick-n (leb 32 (t .n)) _ _ _ refl refl
+
+  add-words : t .n < 32 → addRow t w s e .words ≡ set (t .words) (t .n) w
+  unfolding addRow
+  add-words h = rw (lt-leb 32 (t .n) h)
+
+  add-length : length (addRow t w s e .words) ≡ length (t .words)
+  unfolding addRow
+  add-length = pick-length (leb 32 (t .n)) _ _ _ refl (length-set (t .words) (t .n) w)
+
+pub row-more : (t : Table) (w s e : ℕ) (t′ : Table) → t′ ≡ addRow t w s e → t′ .n ≡ t .n + 1
+row-more t w s e t′ u = rw u (add-n t w s e)
+
+pub tabled-n : (es : List Entry) (at : ℕ) (t : Table) → tabled es at t .n ≡ t .n + length es
+unfolding tabled
+tabled-n [] at t = omega arith
+tabled-n (e ∷ es) at t =
+    let u = addRow t (wordOf e) (at + 1) (at + length (entryWords e)) in
+    tabled-n es (at + length (entryWords e)) u ∙ (let n = add-n t (wordOf e) (at + 1) (at + length (entryWords e)) in omega arith)
+
+take-more : (t u : Table) (w : ℕ) → t .n < length (t .words) → u .n ≡ t .n + 1 → u .words ≡ set (t .words) (t .n) w → take (u .n) (u .words) ≡ take (t .n) (t .words) ++ (w ∷ [])
+take-more t u w h n v = rw (n, v, add-one, take-suc-set (t .words) (t .n) w h)
+
+tabled-words : (es : List Entry) (at : ℕ) (t : Table) → t .n + length es ≤ 32 → length (t .words) ≡ 32
+    → take (tabled es at t .n) (tabled es at t .words) ≡ take (t .n) (t .words) ++ map wordOf es
+unfolding tabled
+tabled-words [] at t h l = sym (append-nil (take (t .n) (t .words)))
+tabled-words (e ∷ es) at t h l =
+    let s = at + length (entryWords e) in
+    let u = addRow t (wordOf e) (at + 1) s in
+    let n = add-n t (wordOf e) (at + 1) s in
+    let v = add-words t (wordOf e) (at + 1) s (omega arith) in
+    tabled-words es s u (omega arith) (ap length v ∙ length-set (t .words) (t .n) (wordOf e) ∙ l)
+    ∙ ap (λ l. l ++ map wordOf es) (take-more t u (wordOf e) (omega arith) n v) ∙ append-assoc (take (t .n) (t .words)) (wordOf e ∷ []) (map wordOf es)
+
+tabled-length : (es : List Entry) (at : ℕ) (t : Table) → length (tabled es at t .words) ≡ length (t .words)
+unfolding tabled
+tabled-length [] at t = refl
+tabled-length (e ∷ es) at t = tabled-length es (at + length (entryWords e)) _ ∙ add-length t (wordOf e) (at + 1) (at + length (entryWords e))
+
+pub listed-words : (es : List Entry) → length es ≤ 32 → take (tabled es 0 emptyTable .n) (tabled es 0 emptyTable .words) ≡ map wordOf es
+unfolding emptyTable
+listed-words es h = tabled-words es 0 emptyTable (omega arith) refl
+
+pub listed-n : (es : List Entry) → tabled es 0 emptyTable .n ≡ length es
+unfolding emptyTable
+listed-n es = tabled-n es 0 emptyTable ∙ omega arith
+
+pub listed-length : (es : List Entry) → length (tabled es 0 emptyTable .words) ≡ 32
+unfolding emptyTable
+listed-length es = tabled-length es 0 emptyTable
+
+good-listed : (es : List Entry) (b : Bool) → leb (length es) 32 ≡ b → goodTable (tabled es 0 emptyTable) ≡ goodNames (map wordOf es)
+unfolding goodTable goodNames
+good-listed es true e = rw (listed-words es (leb-true (length es) 32 e), listed-n es, length-map es wordOf)
+good-listed es false e = rw (listed-n es, length-map es wordOf, e)
+
+-- a list was read, or not
+pub listing-no : (o : Option (List Entry)) (a b : List ℕ) (l : Listed) → Listing o a b l → l .ok ≡ false → o ≡ absent
+unfolding ListingFrom
+listing-no (some es) a b l h e = let z = ap (λ (x : Listed). x .ok) (h .0) in absurd (clash cc)
+listing-no absent a b l h e = refl
+
+pub listing-yes : (o : Option (List Entry)) (a b : List ℕ) (l : Listed) → Listing o a b l → l .ok ≡ true → (es : List Entry) × (o ≡ some es) × (l .table ≡ tabled es 0 emptyTable) × (b ≡ markEntries es 0 a)
+unfolding ListingFrom
+listing-yes (some es) a b l h e = (es, refl, ap (λ (x : Listed). x .table) (h .0), h .1)
+listing-yes absent a b l h e = absurd (clash cc)
+
+pub listing-length : (o : Option (List Entry)) (a b : List ℕ) (l : Listed) → Listing o a b l → l .ok ≡ true → length (l .table .words) ≡ 32
+listing-length o a b l h e = let (es, p, t, m) = listing-yes o a b l h e in ap (λ (x : Table). length (x .words)) t ∙ listed-length es
+
+-- the answers: names, pairs, places
+module _ (row : List ℕ) where
+  pub names-long : 8192 < length row → No 1 ≡ told (namesOutcome row)
+  unfolding namesOutcome
+  names-long h = rw (lt-leb (length row) 8192 h)
+
+  pub names-answer : length row ≤ 8192 → (v g : Bool) → g ≡ goodNames row → g ≡ v → told (needs 4 v (answer [])) ≡ told (namesOutcome row)
+  unfolding namesOutcome
+  names-answer h v g e k = rw (le-leb (length row) 8192 h, ← e, k)
+
+  pub pairs-long : 8192 < length row → No 1 ≡ told (pairsOutcome row)
+  unfolding pairsOutcome
+  pairs-long h = rw (lt-leb (length row) 8192 h)
+
+  pub places-long : (n : ℕ) → 8192 < length row → No 1 ≡ told (placesOutcome n row)
+  unfolding placesOutcome
+  places-long n h = rw (lt-leb (length row) 8192 h)
+
+  module _ (h : length row ≤ 8192) (a b : List ℕ) (l : Listed) where
+    pub pairs-none : Listing (listOf Pairs row) a b l → l .ok ≡ false → No 2 ≡ told (pairsOutcome row)
+    unfolding pairsOutcome
+    pairs-none t e = rw (le-leb (length row) 8192 h, listing-no (listOf Pairs row) a b l t e)
+
+    pairs-some : (es : List Entry) → listOf Pairs row ≡ some es → l .table ≡ tabled es 0 emptyTable → (v : Bool) → goodTable (l .table) ≡ v → told (needs 4 v (answer [])) ≡ told (pairsOutcome row)
+    unfolding pairsOutcome
+    pairs-some es o t v e = rw (le-leb (length row) 8192 h, o, ← good-listed es (leb (length es) 32) refl, ← t, e)
+
+    pub pairs-answer : Listing (listOf Pairs row) a b l → l .ok ≡ true → (v g : Bool) → g ≡ goodTable (l .table) → g ≡ v → told (needs 4 v (answer [])) ≡ told (pairsOutcome row)
+    pairs-answer t e v g k q =
+        let (es, o, u, m) = listing-yes (listOf Pairs row) a b l t e in
+        pairs-some es o u v (sym k ∙ q)
+
+    pub places-none : (n : ℕ) → Listing (listOf Places row) a b l → l .ok ≡ false → No 2 ≡ told (placesOutcome n row)
+    unfolding placesOutcome
+    places-none n t e = rw (le-leb (length row) 8192 h, listing-no (listOf Places row) a b l t e)
+
+    places-some : (n : ℕ) (es : List Entry) → listOf Places row ≡ some es → l .table ≡ tabled es 0 emptyTable → (v : Bool) → (leb n 32 && eqb (l .table .n) n) ≡ v
+        → told (needs 5 v (answer [])) ≡ told (placesOutcome n row)
+    unfolding placesOutcome
+    places-some n es o t v e = rw (le-leb (length row) 8192 h, o, ← listed-n es, ← t, e)
+
+    module _ (n : ℕ) (t : Listing (listOf Places row) a b l) (e : l .ok ≡ true) where
+      places-answer : (v : Bool) → (leb n 32 && eqb (l .table .n) n) ≡ v → told (needs 5 v (answer [])) ≡ told (placesOutcome n row)
+      places-answer v q =
+          let (es, o, u, m) = listing-yes (listOf Places row) a b l t e in
+          places-some n es o u v q
+
+      pub places-over : 32 < n → No 5 ≡ told (placesOutcome n row)
+      places-over g = places-answer false (rw (lt-leb n 32 g))
+
+      pub places-other : n ≤ 32 → (l .table .n ≡ n → ⊥) → No 5 ≡ told (placesOutcome n row)
+      places-other g d = places-answer false (rw (le-leb n 32 g, ne-eqb (l .table .n) n d))
+
+      pub places-done : n ≤ 32 → l .table .n ≡ n → Done 0 ≡ told (placesOutcome n row)
+      places-done g d = places-answer true (rw (le-leb n 32 g, eq-eqb (l .table .n) n d))
