@@ -4,3 +4,5 @@ pub mod HeadLaws
 pub mod ReaderLaws
 pub mod CheckLaws
 pub mod ListLaws
+pub mod TableLaws
+pub mod RowLaws

@@ -5,7 +5,7 @@ use native.Mathlib.Omega.{arith}
 use borrow.Author.Needs.{needs}
 use lib.ListN.{length, drop}
 use Rattle.form.specs.Lists.{distinct}
-use Rattle.form.proofs.ListLaws.{distinct-over, distinct-twice, distinct-on, distinct-end}
+use Rattle.form.proofs.TableLaws.{distinct-over, distinct-twice, distinct-on, distinct-end}
 use Rattle.form.proofs.lists.are_distinct.Statement.{statement}
 use Rattle.form.proofs.lists.are_distinct.Tie as tie
 use Rattle.form.proofs.lists.are_distinct.Reads as reads

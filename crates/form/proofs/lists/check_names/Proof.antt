@@ -1,7 +1,7 @@
 -- `form::lists::check_names` meets its contract. Assumes nothing.
 use mathlib.Core.Bool.{true, false}
 use borrow.Author.Tests.{not-true, not-false}
-use Rattle.form.proofs.ListLaws.{names-long, names-answer}
+use Rattle.form.proofs.TableLaws.{names-long, names-answer}
 use borrow.Author.Needs.{needs}
 use Rattle.form.proofs.lists.check_names.Statement.{statement}
 use Rattle.form.proofs.lists.check_names.Tie as tie

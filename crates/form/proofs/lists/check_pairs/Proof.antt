@@ -1,7 +1,7 @@
 -- `form::lists::check_pairs` meets its contract. Assumes nothing.
 use mathlib.Core.Bool.{true, false}
 use borrow.Author.Tests.{not-true, not-false}
-use Rattle.form.proofs.ListLaws.{listing-length, pairs-long, pairs-none, pairs-answer}
+use Rattle.form.proofs.TableLaws.{pairs-long, pairs-none, pairs-answer}
 use borrow.Author.Needs.{needs}
 use Rattle.form.proofs.lists.check_pairs.Statement.{statement}
 use Rattle.form.proofs.lists.check_pairs.Tie as tie
@@ -23,7 +23,7 @@ returns-2 : tie.Need-returns-2
 returns-2 c = pairs-none _ (c .before .before .before .before .before .if1 .left) _ _ _ (c .before .before .before .mark-list .ensures) (not-true _ (c .if2 .taken))
 
 good-table-requires : tie.Need-good-table-requires
-good-table-requires c κs = listing-length _ _ _ _ (c .before .before .before .mark-list .ensures) (not-false _ (c .if2 .left))
+good-table-requires c κs = search needs
 
 returns-3 : tie.Need-returns-3
 returns-3 c = pairs-answer _ (c .before .before .before .before .before .before .before .if1 .left) _ _ _ (c .before .before .before .before .before .mark-list .ensures) (not-false _ (c .before .before .if2 .left)) false _ (c .before .good-table .ensures) (not-true _ (c .if3 .taken))

@@ -1,6 +1,6 @@
 -- `form::lists::check_places` meets its contract. Assumes nothing.
 use borrow.Author.Tests.{not-true, not-false}
-use Rattle.form.proofs.ListLaws.{places-long, places-none, places-over, places-other, places-done}
+use Rattle.form.proofs.TableLaws.{places-long, places-none, places-over, places-other, places-done}
 use borrow.Author.Needs.{needs}
 use Rattle.form.proofs.lists.check_places.Statement.{statement}
 use Rattle.form.proofs.lists.check_places.Tie as tie

@@ -1,5 +1,5 @@
 -- `form::lists::entry_at` meets its contract. Assumes nothing.
-use Rattle.form.proofs.ListLaws.{entry-gone, pair-told, place-told}
+use Rattle.form.proofs.TableLaws.{entry-gone, pair-told, place-told}
 use borrow.Author.Needs.{needs}
 use Rattle.form.proofs.lists.entry_at.Statement.{statement}
 use Rattle.form.proofs.lists.entry_at.Tie as tie

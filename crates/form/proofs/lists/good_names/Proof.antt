@@ -1,6 +1,6 @@
 -- `form::lists::good_names` meets its contract. Assumes nothing.
 use mathlib.Core.Path.{sym, _∙_}
-use Rattle.form.proofs.ListLaws.{many-names, few-good}
+use Rattle.form.proofs.TableLaws.{many-names, few-good}
 use borrow.Author.Needs.{needs}
 use Rattle.form.proofs.lists.good_names.Statement.{statement}
 use Rattle.form.proofs.lists.good_names.Tie as tie

@@ -4,7 +4,7 @@ use Prim.Native.Nat.{_-_}
 use native.Mathlib.Omega.{arith}
 use lib.ListN.{length, drop}
 use Rattle.form.specs.Internal.Reads.{memberOf}
-use Rattle.form.proofs.ListLaws.{member-here, member-on, member-end}
+use Rattle.form.proofs.TableLaws.{member-here, member-on, member-end}
 use Rattle.form.proofs.lists.has_from.Statement.{statement}
 use Rattle.form.proofs.lists.has_from.Tie as tie
 use Rattle.form.proofs.lists.has_from.Reads as reads

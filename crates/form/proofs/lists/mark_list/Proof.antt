@@ -8,7 +8,7 @@ use lib.ListN.{length, drop}
 use Rattle.form.specs.Lists.{listOf}
 use Rattle.form.specs.Internal.Reads.{emptyTable, ListingFrom}
 use Rattle.form.specs.declared.lists.Listed.{Listed}
-use Rattle.form.proofs.ListLaws.{entry-rises, list-more, list-stop, list-end, row-none, row-more}
+use Rattle.form.proofs.TableLaws.{entry-rises, list-more, list-stop, list-end, row-none, row-more}
 use Rattle.form.proofs.lists.mark_list.Statement.{statement}
 use Rattle.form.proofs.lists.mark_list.Tie as tie
 use Rattle.form.proofs.lists.mark_list.Reads as reads

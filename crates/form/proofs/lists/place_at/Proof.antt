@@ -1,5 +1,5 @@
 -- `form::lists::place_at` meets its contract. Assumes nothing.
-use Rattle.form.proofs.ListLaws.{place-kept, place-bad, place-filled}
+use Rattle.form.proofs.TableLaws.{place-kept, place-bad, place-filled}
 use borrow.Author.Needs.{needs}
 use Rattle.form.proofs.lists.place_at.Statement.{statement}
 use Rattle.form.proofs.lists.place_at.Tie as tie
