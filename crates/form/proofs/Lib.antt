@@ -6,3 +6,4 @@ pub mod CheckLaws
 pub mod ListLaws
 pub mod TableLaws
 pub mod RowLaws
+pub mod TagTable
