@@ -24,7 +24,7 @@ use Rattle.form.proofs.ReaderLaws.{told-end, told-bad}
 use Rattle.form.proofs.Ranges.{one-table}
 
 -- a tag that begins expressions begins no predicate: a row is read as the sort that its first tag says
-unknown-no : (s : Sort) (d t : ℕ) (ws : List ℕ) → shapeOf s t ≡ Unknown → decode d s (t ∷ ws) ≡ no-form
+pub unknown-no : (s : Sort) (d t : ℕ) (ws : List ℕ) → shapeOf s t ≡ Unknown → decode d s (t ∷ ws) ≡ no-form
 unfolding decode own ownOf read
 unknown-no s zero t ws e = refl
 unknown-no s (suc d) t ws e = rw e
@@ -43,7 +43,7 @@ known-not Quant e = absurd (clash cc)
 known-is : (x : Shape) → known x ≡ true → x ≡ Unknown → ⊥
 known-is x e q = let z : _≡_ {A = ℕ} 0 1 = cc in omega arith
 
-no-whole : (s : Sort) (row : List ℕ) → decode 64 s row ≡ no-form → rowForm s row ≡ not-one
+pub no-whole : (s : Sort) (row : List ℕ) → decode 64 s row ≡ no-form → rowForm s row ≡ not-one
 unfolding rowForm
 no-whole s row e = rw e (go (leb (length row) 8192))
   where

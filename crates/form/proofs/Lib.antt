@@ -3,3 +3,7 @@ pub mod Ranges
 pub mod HeadLaws
 pub mod ReaderLaws
 pub mod CheckLaws
+pub mod ListLaws
+pub mod TableLaws
+pub mod RowLaws
+pub mod TagTable

@@ -102,8 +102,11 @@ ToldEntry at absent a b r = r ≡ Bad
 unfoldable pub emptyTable : Table
 emptyTable = record { words = replicate 32 0; starts = replicate 32 0; ends = replicate 32 0; n = 0 }
 
+-- one row more; past 32 only their number grows
 unfoldable pub addRow : Table → ℕ → ℕ → ℕ → Table
-addRow t w s e = record { words = set (t .words) (t .n) w; starts = set (t .starts) (t .n) s; ends = set (t .ends) (t .n) e; n = t .n + 1 }
+addRow t w s e =
+    pick (leb 32 (t .n)) (record { words = t .words; starts = t .starts; ends = t .ends; n = t .n + 1 })
+    (record { words = set (t .words) (t .n) w; starts = set (t .starts) (t .n) s; ends = set (t .ends) (t .n) e; n = t .n + 1 })
 
 unfoldable pub tabled : List Entry → ℕ → Table → Table
 tabled [] at t = t

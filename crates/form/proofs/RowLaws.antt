@@ -1,0 +1,79 @@
+-- A row is at most one form, and it is the row of that form. Assumes nothing.
+use mathlib.Core.Path.{_≡_, refl, sym, _∙_}
+use mathlib.Core.Bool.{Bool, true, false}
+use mathlib.Core.List.{List, [], _∷_, _++_, append-nil}
+use Prim.Native.Nat.{ℕ, _≤_}
+use borrow.Author.Tests.{le-leb, leb-true}
+use lib.Dec.{leb}
+use lib.ListN.{length}
+use Rattle.form.specs.Form.{Form, pick, encode}
+use Rattle.form.specs.Tag.{Sort, expr, pred, shapeOf}
+use Rattle.form.specs.Decode.{Got, got, no-form, decode, Whole, one, not-one, whole, rowForm, Found, found, missing, asSort, either, formOf}
+use Rattle.form.specs.declared.answer.Kind.{Kind}
+use Rattle.form.specs.declared.answer.Kind.the-variants.{Expression, Predicate, Either}
+use Rattle.form.specs.declared.tag.Shape.the-variants.{Unknown}
+use Rattle.form.proofs.DecodeLaws.{clash, Ok, decode-encode, decode-sound}
+use Rattle.form.proofs.CheckLaws.{unknown-no, no-whole}
+use Rattle.form.proofs.Ranges.{one-table}
+
+within : (b : Bool) (w : Whole) (f : Form) → pick b w not-one ≡ one f → (b ≡ true) × (w ≡ one f)
+within true w f e = (refl, e)
+within false w f e = absurd (clash cc)
+
+whole-exact : (s : Sort) (row : List ℕ) (f : Form) (g : Got) → decode 64 s row ≡ g → whole g ≡ one f → (row ≡ encode f) × Ok 64 s f
+whole-exact s row f (got f′ []) q e =
+    let z : f′ ≡ f = cc in
+    let y = decode-sound 64 s row f′ [] q in
+    rw (← z) (y .0 ∙ append-nil (encode f′), y .1)
+whole-exact s row f (got f′ (w ∷ r)) q e = absurd (clash cc)
+whole-exact s row f no-form q e = absurd (clash cc)
+
+module _ (s : Sort) (row : List ℕ) (f : Form) (e : rowForm s row ≡ one f) where
+  pub row-exact : (row ≡ encode f) × Ok 64 s f
+  unfolding rowForm
+  row-exact = whole-exact s row f (decode 64 s row) refl (within (leb (length row) 8192) (whole (decode 64 s row)) f e .1)
+
+  pub row-short : length row ≤ 8192
+  unfolding rowForm
+  row-short = leb-true (length row) 8192 (within (leb (length row) 8192) (whole (decode 64 s row)) f e .0)
+
+pub row-encode : {s : Sort} {f : Form} → Ok 64 s f → length (encode f) ≤ 8192 → rowForm s (encode f) ≡ one f
+unfolding rowForm
+row-encode {s} {f} h l =
+    let e : decode 64 s (encode f) ≡ got f [] = rw append-nil at (decode-encode h []) in
+    rw (le-leb (length (encode f)) 8192 l, e)
+
+-- what was found is the row's form of that sort
+sort-exact : (s s′ : Sort) (row : List ℕ) (f : Form) (w : Whole) → rowForm s row ≡ w → asSort s w ≡ found s′ f → rowForm s′ row ≡ one f
+sort-exact s s′ row f (one f′) q e =
+    let a : s ≡ s′ = cc in
+    let b : f′ ≡ f = cc in
+    rw (← a, ← b) q
+sort-exact s s′ row f not-one q e = absurd (clash cc)
+
+either-exact : (s : Sort) (row : List ℕ) (f : Form) (w : Whole) → rowForm expr row ≡ w → either (asSort expr w) (asSort pred (rowForm pred row)) ≡ found s f → rowForm s row ≡ one f
+either-exact s row f (one f′) q e = sort-exact expr s row f (one f′) q e
+either-exact s row f not-one q e = sort-exact pred s row f (rowForm pred row) refl e
+
+pub found-exact : (kind : Kind) (row : List ℕ) (s : Sort) (f : Form) → formOf kind row ≡ found s f → rowForm s row ≡ one f
+unfolding formOf
+found-exact Expression row s f e = sort-exact expr s row f (rowForm expr row) refl e
+found-exact Predicate row s f e = sort-exact pred s row f (rowForm pred row) refl e
+found-exact Either row s f e = either-exact s row f (rowForm expr row) refl e
+
+-- no row is an expression and a predicate
+one-sort : (row : List ℕ) (f g : Form) → rowForm expr row ≡ one f → rowForm pred row ≡ one g → ⊥
+unfolding decode
+one-sort [] f g p q = let n = no-whole expr [] refl in clash cc
+one-sort (t ∷ ws) f g p q =
+    let n = no-whole pred (t ∷ ws) (unknown-no pred 64 t ws (one-table t (λ u. let n = no-whole expr (t ∷ ws) (unknown-no expr 64 t ws u) in clash cc))) in
+    clash cc
+
+one-form : (row : List ℕ) (s s′ : Sort) (f f′ : Form) → rowForm s row ≡ one f → rowForm s′ row ≡ one f′ → (s ≡ s′) × (f ≡ f′)
+one-form row expr expr f f′ p q = (refl, cc)
+one-form row expr pred f f′ p q = absurd (one-sort row f f′ p q)
+one-form row pred expr f f′ p q = absurd (one-sort row f′ f q p)
+one-form row pred pred f f′ p q = (refl, cc)
+
+pub at-most-one : (kind kind′ : Kind) (row : List ℕ) (s s′ : Sort) (f f′ : Form) → formOf kind row ≡ found s f → formOf kind′ row ≡ found s′ f′ → (s ≡ s′) × (f ≡ f′)
+at-most-one kind kind′ row s s′ f f′ p q = one-form row s s′ f f′ (found-exact kind row s f p) (found-exact kind′ row s′ f′ q)

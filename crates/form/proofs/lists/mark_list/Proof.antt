@@ -1,0 +1,91 @@
+-- `form::lists::mark_list` meets its contract. Assumes nothing.
+use mathlib.Core.Path.{_≡_, refl, _∙_}
+use mathlib.Core.List.{List}
+use Prim.Native.Nat.{ℕ, _-_, _≤_}
+use native.Mathlib.Omega.{arith}
+use borrow.Author.Needs.{needs}
+use lib.ListN.{length, drop}
+use Rattle.form.specs.Lists.{listOf}
+use Rattle.form.specs.Internal.Reads.{emptyTable, ListingFrom}
+use Rattle.form.specs.declared.lists.Listed.{Listed}
+use Rattle.form.proofs.TableLaws.{entry-rises, list-more, list-stop, list-end, row-none, row-more}
+use Rattle.form.proofs.lists.mark_list.Statement.{statement}
+use Rattle.form.proofs.lists.mark_list.Tie as tie
+use Rattle.form.proofs.lists.mark_list.Reads as reads
+use Rattle.form.proofs.lists.mark_list.Lts as lts
+use Rattle.form.proofs.lists.Table.new.Reads as new-reads
+use Rattle.form.proofs.lists.Table.with_row.Reads as with-row-reads
+use Rattle.form.proofs.lists.entry_at.Reads as entry-at-reads
+
+abbrev Inv-loop : tie.InvT-loop
+Inv-loop row kind marks₀ table₀ p₀ marks table p = ((b : List ℕ) (r : Listed) → ListingFrom p table (listOf kind (drop p row)) marks b r → ListingFrom 0 emptyTable (listOf kind row) marks₀ b r) × (table .n ≤ p) × (length marks ≡ length marks₀)
+
+abbrev μ-loop : tie.MeasureT-loop
+μ-loop row kind marks₀ table₀ p₀ marks table p = length row - p
+
+new-requires : tie.Need-new-requires Inv-loop μ-loop
+new-requires c κs = search needs
+
+loop-holds : tie.Need-loop-holds Inv-loop μ-loop
+loop-holds c = (λ b r t. rw (← c .new .ensures) t, rw (c .new .ensures) (row-none), refl)
+
+entry-at-requires : tie.Need-entry-at-requires Inv-loop μ-loop
+entry-at-requires c κs = search needs
+
+enum-known-q : tie.Need-enum-known-q Inv-loop μ-loop
+enum-known-q c = search needs
+
+enum-told : tie.Need-enum-told Inv-loop μ-loop
+enum-told c = search needs
+
+same-length : tie.Need-same-length Inv-loop μ-loop
+same-length c = c .before .before .before .before .entry-at .kept .1 .1 .0 ∙ c .before .before .before .before .before .before .before .loop .inv .2
+
+returns : tie.Need-returns Inv-loop μ-loop
+returns c = c .before .before .before .before .before .before .before .loop .inv .0 _ _ (list-stop _ _ _ (c .before .before .before .before .before .before .loop-test .taken) _ _ _ _ (c .before .before .before .before .entry-at .ensures) (c .enum-told .given .1) _ _ refl)
+
+mul-with-row : tie.Need-mul-with-row Inv-loop μ-loop
+mul-with-row c = omega arith
+
+shared-slice-read-with-row : tie.Need-shared-slice-read-with-row Inv-loop μ-loop
+shared-slice-read-with-row c = omega arith
+
+add-with-row : tie.Need-add-with-row Inv-loop μ-loop
+add-with-row c = omega arith
+
+with-row-requires : tie.Need-with-row-requires Inv-loop μ-loop
+with-row-requires c κs = omega arith
+
+loop-less : tie.Need-loop-less Inv-loop μ-loop
+loop-less c = let h = entry-rises _ _ _ _ _ _ (c .before .before .before .before .before .before .before .entry-at .ensures) (c .before .before .before .q .given .1) in omega arith
+
+loop-again : tie.Need-loop-again Inv-loop μ-loop
+loop-again c = (λ b r t. c .before .before .before .before .before .before .before .before .before .before .loop .inv .0 b r (list-more _ _ _ (c .before .before .before .before .before .before .before .before .before .loop-test .taken) _ _ _ _ (c .before .before .before .before .before .before .before .entry-at .ensures) _ _ (c .before .before .before .q .given .1) (c .with-row .ensures) b r t), let h = entry-rises _ _ _ _ _ _ (c .before .before .before .before .before .before .before .entry-at .ensures) (c .before .before .before .q .given .1) in let n = row-more _ _ _ _ _ (c .with-row .ensures) in omega arith, c .before .before .before .before .before .before .before .entry-at .kept .1 .1 .0 ∙ c .before .before .before .before .before .before .before .before .before .before .loop .inv .2)
+
+same-length-2 : tie.Need-same-length-2 Inv-loop μ-loop
+same-length-2 c = c .before .loop .inv .2
+
+returns-2 : tie.Need-returns-2 Inv-loop μ-loop
+returns-2 c = c .before .loop .inv .0 _ _ (list-end _ _ _ _ _ (c .loop-test .left))
+
+pub mark-list-spec : {M : Type 1} → statement M
+mark-list-spec =
+    tie.close
+    (tie.spec
+    Inv-loop
+    μ-loop
+    new-requires
+    loop-holds
+    entry-at-requires
+    enum-known-q
+    enum-told
+    same-length
+    returns
+    mul-with-row
+    shared-slice-read-with-row
+    add-with-row
+    with-row-requires
+    loop-less
+    loop-again
+    same-length-2
+    returns-2)

@@ -1,0 +1,34 @@
+-- `form::lists::place_at` meets its contract. Assumes nothing.
+use Rattle.form.proofs.TableLaws.{place-kept, place-bad, place-filled}
+use borrow.Author.Needs.{needs}
+use Rattle.form.proofs.lists.place_at.Statement.{statement}
+use Rattle.form.proofs.lists.place_at.Tie as tie
+use Rattle.form.proofs.lists.place_at.Reads as reads
+use Rattle.form.proofs.lists.place_at.Lts as lts
+use Rattle.form.proofs.reader.mark_expr.Reads as mark-expr-reads
+
+add-t6 : tie.Need-add-t6
+add-t6 c = search needs
+
+returns : tie.Need-returns
+returns c = place-kept _ _ _ _ (c .if1 .taken)
+
+returns-2 : tie.Need-returns-2
+returns-2 c = place-bad _ _ _ _ _ (c .if2 .taken)
+
+add-mark-expr : tie.Need-add-mark-expr
+add-mark-expr c = search needs
+
+mark-expr-requires : tie.Need-mark-expr-requires
+mark-expr-requires c κs = search needs
+
+same-length : tie.Need-same-length
+same-length c = search needs
+
+returns-3 : tie.Need-returns-3
+returns-3 c = place-filled _ _ _ _ _ _ (c .before .before .before .before .before .if1 .left) (c .before .before .before .before .if2 .left) (c .before .before .mark-expr .ensures)
+
+pub place-at-spec : {M : Type 1} → statement M
+place-at-spec =
+    tie.close
+    (tie.spec add-t6 returns returns-2 add-mark-expr mark-expr-requires same-length returns-3)
