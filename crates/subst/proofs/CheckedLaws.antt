@@ -1,53 +1,25 @@
 -- A row that the check took, with its marks: what every rewriting starts from; and refusals passed on. Assumes nothing.
-use mathlib.Core.Path.{_≡_, refl, ap, sym, _∙_}
-use mathlib.Core.Bool.{Bool, true, false}
-use mathlib.Core.List.{List, [], _∷_, _++_, append-nil}
+use mathlib.Core.Path.{_≡_, refl}
+use mathlib.Core.List.{List}
 use Prim.Native.Nat.{ℕ, _≤_, _<_}
-use borrow.Author.Tests.{le-leb, lt-leb, leb-true}
-use lib.Dec.{leb}
+use borrow.Author.Tests.{le-leb, lt-leb}
 use lib.ListN.{length, replicate}
-use Rattle.form.specs.Form.{Form, pick, encode}
-use Rattle.form.specs.Tag.{Sort, expr, pred}
-use Rattle.form.specs.Decode.{Got, got, no-form, Whole, one, not-one, whole, decode, rowForm, Found, found, missing, asSort, either, formOf}
-use Rattle.form.specs.Answer.{Outcome, answer, refusal, told, written, withForm, checkOutcome}
+use Rattle.form.specs.Form.{Form, encode}
+use Rattle.form.specs.Tag.{Sort}
+use Rattle.form.specs.Decode.{Found, found, missing, formOf}
+use Rattle.form.specs.Answer.{Outcome, refusal, told, written, withForm, checkOutcome}
 use Rattle.form.specs.Internal.Reads.{mark, Marked}
 use Rattle.form.specs.declared.answer.Kind.{Kind}
-use Rattle.form.specs.declared.answer.Kind.the-variants.{Expression, Predicate, Either}
 use Rattle.form.specs.declared.answer.Answer.{Answer}
 use Rattle.form.specs.declared.answer.Answer.the-variants.{Done, No}
-use Rattle.form.proofs.DecodeLaws.{clash, Ok, decode-sound}
+use Rattle.form.proofs.DecodeLaws.{clash, Ok}
+use Rattle.form.proofs.RowLaws.{found-exact, row-exact, row-short}
 
--- a row that is one form
-pub row-one : (s : Sort) (row : List ℕ) (f : Form) → rowForm s row ≡ one f → (length row ≤ 8192) × (row ≡ encode f) × Ok 64 s f
-unfolding rowForm
-row-one s row f e = go (leb (length row) 8192) refl (decode 64 s row) refl e
-  where
-    go : (b : Bool) → leb (length row) 8192 ≡ b → (g : Got) → decode 64 s row ≡ g → pick b (whole g) not-one ≡ one f → (length row ≤ 8192) × (row ≡ encode f) × Ok 64 s f
-    go true q (got g []) d e =
-        let z : g ≡ f = cc in
-        let (w, o) = decode-sound 64 s row f [] (rw z at d) in
-        (leb-true (length row) 8192 q, w ∙ append-nil (encode f), o)
-    go true q (got g (x ∷ r)) d e = absurd (clash cc)
-    go true q no-form d e = absurd (clash cc)
-    go false q g d e = absurd (clash cc)
-
-module _ (row : List ℕ) (s : Sort) (f : Form) where
-  abbrev Exact : Type 0
-  Exact = (length row ≤ 8192) × (row ≡ encode f) × Ok 64 s f
-
-  sort-row : (s′ : Sort) (w : Whole) → rowForm s′ row ≡ w → asSort s′ w ≡ found s f → Exact
-  sort-row s′ (one g) q e = let z : s′ ≡ s = cc in let y : g ≡ f = cc in rw (z, y) at (row-one s′ row g q)
-  sort-row s′ not-one q e = absurd (clash cc)
-
-  either-row : (a : Whole) → rowForm expr row ≡ a → either (asSort expr a) (asSort pred (rowForm pred row)) ≡ found s f → Exact
-  either-row (one g) q e = sort-row expr (one g) q e
-  either-row not-one q e = sort-row pred (rowForm pred row) refl e
-
-  pub found-row : (kind : Kind) → formOf kind row ≡ found s f → Exact
-  unfolding formOf
-  found-row Expression e = sort-row expr (rowForm expr row) refl e
-  found-row Predicate e = sort-row pred (rowForm pred row) refl e
-  found-row Either e = either-row (rowForm expr row) refl e
+pub found-row : (row : List ℕ) (s : Sort) (f : Form) (kind : Kind) → formOf kind row ≡ found s f → (length row ≤ 8192) × (row ≡ encode f) × Ok 64 s f
+found-row row s f kind e =
+    let q = found-exact kind row s f e in
+    let (w, o) = row-exact s row f q in
+    (row-short s row f q, w, o)
 
 -- what is known of a row that the check took: m are its marks, made in n words that held 0
 pub record Checked (kind : Kind) (row m : List ℕ) (n : ℕ) : Type 0 where

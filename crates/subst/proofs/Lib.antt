@@ -6,3 +6,4 @@ pub mod CheckedLaws
 pub mod SameLengthLaws
 pub mod SignedLaws
 pub mod ShiftLaws
+pub mod TreeLaws
