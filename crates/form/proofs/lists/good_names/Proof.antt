@@ -1,6 +1,7 @@
 -- `form::lists::good_names` meets its contract. Assumes nothing.
 use mathlib.Core.Path.{sym, _∙_}
 use Rattle.form.proofs.TableLaws.{many-names, few-good}
+use native.Mathlib.Omega.{arith}
 use borrow.Author.Needs.{needs}
 use Rattle.form.proofs.lists.good_names.Statement.{statement}
 use Rattle.form.proofs.lists.good_names.Tie as tie
@@ -9,7 +10,7 @@ use Rattle.form.proofs.lists.good_names.Lts as lts
 use Rattle.form.proofs.lists.are_distinct.Reads as are-distinct-reads
 
 returns : tie.Need-returns
-returns c = sym (many-names _ (c .if1 .taken))
+returns c = sym (many-names _ (omega arith))
 
 are-distinct-requires : tie.Need-are-distinct-requires
 are-distinct-requires c κs = search needs

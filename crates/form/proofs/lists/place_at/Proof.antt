@@ -1,5 +1,6 @@
 -- `form::lists::place_at` meets its contract. Assumes nothing.
 use Rattle.form.proofs.TableLaws.{place-kept, place-bad, place-filled}
+use native.Mathlib.Omega.{arith}
 use borrow.Author.Needs.{needs}
 use Rattle.form.proofs.lists.place_at.Statement.{statement}
 use Rattle.form.proofs.lists.place_at.Tie as tie
@@ -14,7 +15,7 @@ returns : tie.Need-returns
 returns c = place-kept _ _ _ _ (c .if1 .taken)
 
 returns-2 : tie.Need-returns-2
-returns-2 c = place-bad _ _ _ _ _ (c .if2 .taken)
+returns-2 c = place-bad _ (c .before .before .before .before .args .w) _ _ _ (omega arith)
 
 add-mark-expr : tie.Need-add-mark-expr
 add-mark-expr c = search needs
