@@ -12,6 +12,7 @@ use Rattle.form.specs.Internal.Reads.{mark, Marked}
 use Rattle.form.specs.declared.answer.Kind.{Kind}
 use Rattle.form.specs.declared.answer.Answer.{Answer}
 use Rattle.form.specs.declared.answer.Answer.the-variants.{Done, No}
+use Rattle.subst.specs.Internal.Items.{Fresh}
 use Rattle.form.proofs.DecodeLaws.{clash, Ok}
 use Rattle.form.proofs.RowLaws.{found-exact, row-exact, row-short}
 
@@ -62,6 +63,11 @@ module _ (kind : Kind) (row : List ℕ) where
         go : (o : Found) → formOf kind row ≡ o → Came o r → Checked kind row m n
         go (found s f) p c = marks-of s f p k
         go missing p c = absurd (clash cc)
+
+-- with marks that held 0
+pub checked-fresh : (kind : Kind) (row m before : List ℕ) → Fresh row before → (r : Answer) (j : ℕ) → r ≡ told (checkOutcome kind row) → r ≡ Done j → Marked (formOf kind row) before m
+    → Checked kind row m (length before)
+checked-fresh kind row m before p r j q e k = checked kind row m (length before) before (p .zeros) r j (p .short) q e k
 
 -- a row's own refusals, whatever is done with the form
 module _ (kind : Kind) (row : List ℕ) (go : Sort → Form → Outcome) where

@@ -7,3 +7,6 @@ pub mod SameLengthLaws
 pub mod SignedLaws
 pub mod ShiftLaws
 pub mod TreeLaws
+pub mod BindLaws
+pub mod LiftLaws
+pub mod DanglingLaws

@@ -3,14 +3,16 @@
 use mathlib.Core.Path.{_≡_, refl, ap, _∙_}
 use mathlib.Core.Bool.{Bool, true, false, _&&_}
 use mathlib.Core.List.{List, [], _∷_, _++_, append-assoc, append-nil}
-use Prim.Native.Nat.{ℕ, zero, suc, _+_, _≤_}
+use Prim.Native.Nat.{ℕ, zero, suc, _+_, _*_, _≤_}
 use native.Mathlib.Omega.{arith}
 use borrow.Author.Tests.{le-leb}
+use lib.Dec.{leb}
 use lib.ListN.{length, length-append}
 use Rattle.form.specs.Form.{Leaf, free, bound, Form, leaf, node, Forms, none, more, between, leafWords, encode, encodeAll}
 use Rattle.form.specs.Tag.{Sort, expr}
 use Rattle.form.specs.Decode.{head, only, Got, got, no-form, Gots, gots, no-forms, isLeaf, close, chain, branch, decode, decodeAll, whole, rowForm}
 use Rattle.form.specs.Answer.{isOne}
+use Rattle.form.proofs.HeadLaws.{few-names}
 use Rattle.form.proofs.DecodeLaws.{Ok, ok-free, ok-bound, ok-node, OkAll, ok-none, ok-more, read-free, read-bound}
 use Rattle.subst.specs.Walk.{Binding, inside, outside, binding, Outer, named, dangling, walkIndex, walk, walkAll, collectIndex, collect, each, eachAll}
 use Rattle.subst.proofs.WalkLaws.{binding-back}
@@ -35,6 +37,28 @@ mutual
   ok-smallAll : {d : ℕ} {ss : List Sort} {fs : Forms} → OkAll d ss fs → (k : ℕ) → eachAll small k fs ≡ true
   ok-smallAll ok-none k = refl
   ok-smallAll (ok-more h w) k = rw (ok-small h k, ok-smallAll w k)
+
+-- and at most 32 declarations are open a level
+abbrev pub tight : ℕ → ℕ → Outer → Bool
+tight n k x = small k x && leb k n
+
+tight-index : (n k i : ℕ) (z : Binding) → binding k i ≡ z → between 0 65535 i ≡ true → k ≤ n → collectIndex true (tight n) k z ≡ true
+tight-index n k i inside q e h = refl
+tight-index n k i (outside j) q e h = rw (binding-back k i j q, e, le-leb k n h)
+
+mutual
+  unfolding collect
+
+  pub ok-tight : {d : ℕ} {s : Sort} {f : Form} → Ok d s f → (n k : ℕ) → k + 32 * d ≤ n → each (tight n) k f ≡ true
+  ok-tight (ok-free e) n k h = rw (e, le-leb k n (omega arith))
+  ok-tight (ok-bound {n = i} e) n k h = tight-index n k i (binding k i) refl e (omega arith)
+  ok-tight (ok-node {d = d} {s = s} {t = t} {o = o} {ds = ds} {p = p} {e = e} l r w) n k h =
+      let few = few-names s t (o ++ (ds ++ [])) o ds p e [] (r []) in
+      ok-tightAll w n (length ds + k) (omega arith)
+
+  ok-tightAll : {d : ℕ} {ss : List Sort} {fs : Forms} → OkAll d ss fs → (n k : ℕ) → k + 32 * d ≤ n → eachAll (tight n) k fs ≡ true
+  ok-tightAll ok-none n k h = refl
+  ok-tightAll (ok-more g w) n k h = rw (ok-tight g n k h, ok-tightAll w n k h)
 
 -- a row is read back, or not
 abbrev gotIf : Bool → Form → List ℕ → Got

@@ -134,7 +134,7 @@ marked-items f n h =
     rw m (rw (append-nil, append-nil) at i)
 
 -- a rewriting of each item is the walk
-rewritten-append : (g : Item → List ℕ) (a b : List Item) → rewritten g (a ++ b) ≡ rewritten g a ++ rewritten g b
+pub rewritten-append : (g : Item → List ℕ) (a b : List Item) → rewritten g (a ++ b) ≡ rewritten g a ++ rewritten g b
 unfolding rewritten
 rewritten-append g [] b = refl
 rewritten-append g (x ∷ a) b = rw (rewritten-append g a b, append-assoc)

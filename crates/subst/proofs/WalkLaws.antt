@@ -169,6 +169,9 @@ mutual
   each-alwaysAll k none = refl
   each-alwaysAll k (more f fs) = rw (each-always k f, each-alwaysAll k fs)
 
+pub each-same : (p q : ℕ → Outer → Bool) → ((k : ℕ) (x : Outer) → p k x ≡ q k x) → (k : ℕ) (f : Form) → each p k f ≡ each q k f
+each-same p q e k f = each-agree always p q (λ k x h. e k x) k f (each-always k f)
+
 pub each-all : (w p : ℕ → Outer → Bool) → ((k : ℕ) (x : Outer) → w k x ≡ true → p k x ≡ true) → (k : ℕ) (f : Form) → each w k f ≡ true → each p k f ≡ true
 unfolding always
 each-all w p e k f h = each-agree w p always e k f h ∙ each-always k f

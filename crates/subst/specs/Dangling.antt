@@ -17,12 +17,12 @@ abbrev pub insert : ℕ → List ℕ → List ℕ
 insert i [] = i ∷ []
 insert i (j ∷ js) = let later = j ∷ insert i js in pick (ltb i j) (i ∷ j ∷ js) (pick (eqb i j) (j ∷ js) later)
 
-abbrev pub ascending : List ℕ → List ℕ
-ascending [] = []
-ascending (i ∷ is) = insert i (ascending is)
+abbrev pub insertAll : List ℕ → List ℕ → List ℕ
+insertAll js [] = js
+insertAll js (i ∷ is) = insertAll (insert i js) is
 
 unfoldable pub danglingSet : Form → List ℕ
-danglingSet f = ascending (collect [] _++_ indexOf 0 f)
+danglingSet f = insertAll [] (collect [] _++_ indexOf 0 f)
 
 -- nothing dangles
 abbrev pub isNamed : ℕ → Outer → Bool

@@ -33,3 +33,9 @@ abbrev pub partWords : List ℕ → Part → List ℕ
 partWords row base = row
 partWords row (copy ws) = ws
 partWords row empty = []
+
+-- where the part starts, given where the base and the work row do
+abbrev pub partAt : ℕ × ℕ → ℕ × ℕ → Part → ℕ × ℕ
+partAt row work base = row
+partAt row work (copy ws) = work
+partAt row work empty = row

@@ -2,7 +2,7 @@
 use mathlib.Core.Path.{refl, sym, ap, _∙_}
 use Rattle.subst.specs.Internal.Items.{upBy, downBy}
 use Rattle.subst.proofs.SignedLaws.{back}
-use Rattle.subst.proofs.CheckedLaws.{refused, passed, is-missing, checked}
+use Rattle.subst.proofs.CheckedLaws.{refused, passed, is-missing, checked-fresh}
 use Rattle.subst.proofs.ShiftLaws.{shift-missing, shift-row}
 use borrow.Author.Needs.{needs}
 use Rattle.subst.proofs.shift.shift_in.Statement.{statement}
@@ -45,7 +45,7 @@ same-length-3 : tie.Need-same-length-3
 same-length-3 c = search needs
 
 returns-2 : tie.Need-returns-2
-returns-2 c = passed _ _ _ _ _ (shift-row _ (c .before .before .before .before .before .before .before .before .before .before .before .before .before .before .before .before .before .args .offset) _ _ _ (c .before .before .before .before .before .before .before .before .before .before .before .before .before .before .before .before .before .pre .enough) (checked _ _ _ _ _ (c .before .before .before .before .before .before .before .before .before .before .before .before .before .before .before .before .before .pre .zeros) _ _ (c .before .before .before .before .before .before .before .before .before .before .before .before .before .before .before .before .before .pre .short) (c .before .before .before .before .before .before .before .before .before .before .before .before .mark .ensures .0) (c .before .before .before .before .before .before .before .before .n .given .1) (c .before .before .before .before .before .before .before .before .before .before .before .before .mark .ensures .1)) _ _ (c .before .before .before .before .before .up-by .ensures ∙ ap upBy (back (c .before .before .before .before .before .before .before .before .before .before .before .before .before .before .before .before .before .args .offset) (c .before .before .before .before .before .before .before .before .before .before .before .before .before .before .before .before .before .fits .offset))) (c .before .before .before .before .down-by .ensures ∙ ap downBy (back (c .before .before .before .before .before .before .before .before .before .before .before .before .before .before .before .before .before .args .offset) (c .before .before .before .before .before .before .before .before .before .before .before .before .before .before .before .before .before .fits .offset)))) (c .before .before .shift-marked .ensures)
+returns-2 c = passed _ _ _ _ _ (shift-row _ (c .before .before .before .before .before .before .before .before .before .before .before .before .before .before .before .before .before .args .offset) _ _ _ (c .before .before .before .before .before .before .before .before .before .before .before .before .before .before .before .before .before .pre .enough) (checked-fresh _ _ _ _ (c .before .before .before .before .before .before .before .before .before .before .before .before .before .before .before .before .before .pre) _ _ (c .before .before .before .before .before .before .before .before .before .before .before .before .mark .ensures .0) (c .before .before .before .before .before .before .before .before .n .given .1) (c .before .before .before .before .before .before .before .before .before .before .before .before .mark .ensures .1)) _ _ (c .before .before .before .before .before .up-by .ensures ∙ ap upBy (back (c .before .before .before .before .before .before .before .before .before .before .before .before .before .before .before .before .before .args .offset) (c .before .before .before .before .before .before .before .before .before .before .before .before .before .before .before .before .before .fits .offset))) (c .before .before .before .before .down-by .ensures ∙ ap downBy (back (c .before .before .before .before .before .before .before .before .before .before .before .before .before .before .before .before .before .args .offset) (c .before .before .before .before .before .before .before .before .before .before .before .before .before .before .before .before .before .fits .offset)))) (c .before .before .shift-marked .ensures)
 
 pub shift-in-spec : {M : Type 1} → statement M
 shift-in-spec =

@@ -1,0 +1,68 @@
+-- `subst::bind::bind_idents` meets its contract. Assumes nothing.
+use mathlib.Core.Path.{refl}
+use native.Mathlib.Omega.{arith}
+use Rattle.subst.proofs.CheckedLaws.{refused}
+use Rattle.subst.proofs.BindLaws.{bind-too-long}
+use borrow.Author.Needs.{needs}
+use Rattle.subst.proofs.bind.bind_idents.Statement.{statement}
+use Rattle.subst.proofs.bind.bind_idents.Tie as tie
+use Rattle.subst.proofs.bind.bind_idents.Reads as reads
+use Rattle.subst.proofs.bind.bind_idents.Lts as lts
+use Rattle.subst.proofs.bind.bind_in.Reads as bind-in-reads
+
+slice-aggregate-bind-in : tie.Need-slice-aggregate-bind-in
+slice-aggregate-bind-in c = search needs
+
+bind-in-requires : tie.Need-bind-in-requires
+bind-in-requires c κs = record { zeros = refl; enough = omega arith; short = omega arith }
+
+same-length : tie.Need-same-length
+same-length c = search needs
+
+returns : tie.Need-returns
+returns c = c .before .before .before .bind-in .ensures
+
+slice-aggregate-bind-in-2 : tie.Need-slice-aggregate-bind-in-2
+slice-aggregate-bind-in-2 c = search needs
+
+bind-in-requires-2 : tie.Need-bind-in-requires-2
+bind-in-requires-2 c κs = record { zeros = refl; enough = omega arith; short = omega arith }
+
+same-length-2 : tie.Need-same-length-2
+same-length-2 c = search needs
+
+returns-2 : tie.Need-returns-2
+returns-2 c = c .before .before .before .bind-in2 .ensures
+
+returns-3 : tie.Need-returns-3
+returns-3 c = refused _ _ _ _ (bind-too-long _ _ _ (c .if3 .taken)) refl
+
+slice-aggregate-bind-in-3 : tie.Need-slice-aggregate-bind-in-3
+slice-aggregate-bind-in-3 c = search needs
+
+bind-in-requires-3 : tie.Need-bind-in-requires-3
+bind-in-requires-3 c κs = record { zeros = refl; enough = omega arith; short = omega arith }
+
+same-length-3 : tie.Need-same-length-3
+same-length-3 c = search needs
+
+returns-4 : tie.Need-returns-4
+returns-4 c = c .before .before .before .bind-in3 .ensures
+
+pub bind-idents-spec : {M : Type 1} → statement M
+bind-idents-spec =
+    tie.close
+    (tie.spec
+    slice-aggregate-bind-in
+    bind-in-requires
+    same-length
+    returns
+    slice-aggregate-bind-in-2
+    bind-in-requires-2
+    same-length-2
+    returns-2
+    returns-3
+    slice-aggregate-bind-in-3
+    bind-in-requires-3
+    same-length-3
+    returns-4)

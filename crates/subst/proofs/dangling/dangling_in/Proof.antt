@@ -1,0 +1,52 @@
+-- `subst::dangling::dangling_in` meets its contract. Assumes nothing.
+use mathlib.Core.Path.{refl}
+use Rattle.subst.proofs.CheckedLaws.{refused, passed, is-missing, checked-fresh}
+use Rattle.subst.proofs.DanglingLaws.{dangling-missing, all-small, dangling-row}
+use borrow.Author.Needs.{needs}
+use Rattle.subst.proofs.dangling.dangling_in.Statement.{statement}
+use Rattle.subst.proofs.dangling.dangling_in.Tie as tie
+use Rattle.subst.proofs.dangling.dangling_in.Reads as reads
+use Rattle.subst.proofs.dangling.dangling_in.Lts as lts
+use Rattle.form.proofs.check.mark.Reads as mark-reads
+use Rattle.subst.proofs.dangling.set_marked.Reads as set-marked-reads
+
+mark-requires : tie.Need-mark-requires
+mark-requires c κs = search needs
+
+enum-known-n : tie.Need-enum-known-n
+enum-known-n c = search needs
+
+enum-told : tie.Need-enum-told
+enum-told c = search needs
+
+same-length : tie.Need-same-length
+same-length c = search needs
+
+returns : tie.Need-returns
+returns c = refused _ _ _ _ (dangling-missing _ _ (c .before .before .before .before .before .before .before .before .before .pre .short) (is-missing _ _ _ _ (c .before .before .before .before .before .before .before .before .before .pre .short) (c .before .before .before .before .mark .ensures .0) (c .enum-told .given .1))) refl
+
+set-marked-requires : tie.Need-set-marked-requires
+set-marked-requires c κs = all-small _ _ _ 0 (c .before .before .before .before .before .before .before .before .before .before .before .before .pre .enough) (checked-fresh _ _ _ _ (c .before .before .before .before .before .before .before .before .before .before .before .before .pre) _ _ (c .before .before .before .before .before .before .before .mark .ensures .0) (c .before .before .before .n .given .1) (c .before .before .before .before .before .before .before .mark .ensures .1))
+
+same-length-2 : tie.Need-same-length-2
+same-length-2 c = search needs
+
+same-length-3 : tie.Need-same-length-3
+same-length-3 c = search needs
+
+returns-2 : tie.Need-returns-2
+returns-2 c = passed _ _ _ _ _ (dangling-row _ _ _ _ (c .before .before .before .before .before .before .before .before .before .before .before .before .before .before .before .pre .enough) (checked-fresh _ _ _ _ (c .before .before .before .before .before .before .before .before .before .before .before .before .before .before .before .pre) _ _ (c .before .before .before .before .before .before .before .before .before .before .mark .ensures .0) (c .before .before .before .before .before .before .n .given .1) (c .before .before .before .before .before .before .before .before .before .before .mark .ensures .1))) (c .before .before .set-marked .ensures)
+
+pub dangling-in-spec : {M : Type 1} → statement M
+dangling-in-spec =
+    tie.close
+    (tie.spec
+    mark-requires
+    enum-known-n
+    enum-told
+    same-length
+    returns
+    set-marked-requires
+    same-length-2
+    same-length-3
+    returns-2)

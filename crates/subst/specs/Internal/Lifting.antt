@@ -1,0 +1,29 @@
+-- Lift, part by part: which part the code made, and what the work row then holds.
+use mathlib.Core.List.{List, [], _++_}
+use Prim.Native.Nat.{ℕ}
+use lib.Dec.{leb}
+use lib.ListN.{length, take, drop}
+use Rattle.form.specs.Form.{pick}
+use Rattle.subst.specs.Lift.{Part, base, copy, empty}
+use Rattle.subst.specs.declared.lift.Made.{Made}
+use Rattle.subst.specs.declared.lift.Made.the-variants.{Base, Copy, Nothing}
+
+abbrev pub madeOf : Part → Made
+madeOf base = Base
+madeOf (copy ws) = Copy (length ws)
+madeOf empty = Nothing
+
+abbrev pub workAfter : Part → List ℕ → List ℕ
+workAfter base work = work
+workAfter (copy ws) work = ws ++ drop (length ws) work
+workAfter empty work = work
+
+abbrev pub chosen : List ℕ → List ℕ → Made → List ℕ
+chosen row work Base = row
+chosen row work (Copy n) = pick (leb n (length work)) (take n work) []
+chosen row work Nothing = []
+
+abbrev pub chosenAt : ℕ × ℕ → ℕ × ℕ → Made → ℕ × ℕ
+chosenAt row work Base = row
+chosenAt row work (Copy n) = work
+chosenAt row work Nothing = row
