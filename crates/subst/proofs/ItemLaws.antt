@@ -7,7 +7,7 @@ use native.Mathlib.Nat.{add-zero}
 use native.Mathlib.Numerals.{add-one, sub-one}
 use native.Mathlib.Omega.{arith}
 use lib.ListN.{length, getD, drop, set, length-append, length-drop, length-set}
-use lib.Seq.{drop-drop}
+use lib.Seq.{drop-drop, set-out}
 use Rattle.form.proofs.HeadLaws.{here, gone}
 use Rattle.form.proofs.DecodeLaws.{clash}
 use Rattle.subst.specs.Internal.Items.{itemAt, items, sizeOf, rewritten, allItems, store}
@@ -51,6 +51,10 @@ ident-item : (w v m : ℕ) (ws ms : List ℕ) → (m ≡ 0 → ⊥) → itemAt (
 unfolding itemAt
 ident-item w v zero ws ms n = absurd (n refl)
 ident-item w v (suc m) ws ms n = rw sub-one
+
+pub item-gone : (row marks : List ℕ) (i : ℕ) → length row ≤ i → Plain 0 ≡ itemAt (drop i row) (drop i marks)
+unfolding itemAt
+item-gone row marks i h = rw (gone row i h)
 
 module _ (row marks : List ℕ) (i : ℕ) (low : i < length row) where
   pub item-none : length marks ≤ i → Plain (getD row i 0) ≡ itemAt (drop i row) (drop i marks)
@@ -96,6 +100,11 @@ store-append l i [] w = rw add-zero refl
 store-append l i (x ∷ v) w =
     let e : i + suc (length v) ≡ i + 1 + length v = omega arith in
     rw e (store-append (set l i x) (i + 1) v w)
+
+pub store-out : (ws l : List ℕ) (i : ℕ) → length l ≤ i → store l i ws ≡ l
+unfolding store
+store-out [] l i h = refl
+store-out (w ∷ ws) l i h = rw (set-out l i w h) (store-out ws l (i + 1) (omega arith))
 
 pub store-more : (g : Item → List ℕ) → ((y : Item) → length (g y) ≡ sizeOf y) → (row marks : List ℕ) (i : ℕ) → i < length row → {x : Item} → x ≡ itemAt (drop i row) (drop i marks)
     → (out out′ : List ℕ) → out′ ≡ store out i (g x) → store out i (rewritten g (items (drop i row) (drop i marks))) ≡ store out′ (i + sizeOf x) (rewritten g (items (drop (i + sizeOf x) row) (drop (i + sizeOf x) marks)))

@@ -1,7 +1,6 @@
 // A row and its marks, item by item: the words that stay, and the names and indices with their depth.
 ghost use mathlib.Core.Path.{_≡_};
-ghost use Prim.Native.Nat.{_<_};
-ghost use lib.ListN.{length, drop};
+ghost use lib.ListN.{drop};
 ghost use Rattle.subst.specs.Internal.Items.{itemAt, items, sizeOf, wordsOf, allItems, itemIn, store};
 
 // A word that stays, or a name or index: its depth, tag and number.
@@ -12,9 +11,11 @@ pub enum Item {
 
 // The item that begins at i.
 pub fn item_at(row: &[u32], marks: &[u32], i: usize) -> Item
-    requires { ⌜ i < length (now row) ⌝ }
     ensures { λ r. ⌜ r ≡ itemAt (drop i (now (row .entry))) (drop i (now (marks .entry))) ⌝ }
 {
+    if row.len() <= i {
+        return Item::Plain(0);
+    }
     let w = row[i];
     if marks.len() <= i {
         return Item::Plain(w);
@@ -40,9 +41,11 @@ pub fn size_of(it: Item) -> usize
 
 // The words of an item, stored at i.
 pub fn put_item(out: &mut [u32], i: usize, it: Item)
-    requires { ⌜ i < length (now out) ⌝ }
     ensures { λ _. ⌜ now (out .exit) ≡ store (now (out .entry)) i (wordsOf it) ⌝ }
 {
+    if out.len() <= i {
+        return;
+    }
     match it {
         Item::Plain(w) => {
             out[i] = w;
