@@ -20,8 +20,12 @@ pub struct Limit {
 
 impl Limit {
     pub const WORDS: usize = 8192;
+
     pub const DEPTH: u32 = 64;
+
     pub const NAME: u32 = 65535;
+
     pub const DECLARATIONS: u32 = 32;
+
     pub const WORD: u32 = 4294967295;
 }

@@ -30,38 +30,71 @@ pub struct Tag {
 
 impl Tag {
     pub const FREE_IDENT: u32 = 1;
+
     pub const BOUND_IDENT: u32 = 2;
+
     pub const LITERAL: u32 = 3;
+
     pub const SET_EXTENSION: u32 = 4;
+
     pub const BOOL: u32 = 5;
+
     pub const ASCRIPTION: u32 = 6;
+
     pub const PREDICATE_VARIABLE: u32 = 7;
+
     pub const NOT: u32 = 8;
+
     pub const SIMPLE: u32 = 9;
+
     pub const MULTIPLE: u32 = 10;
+
     pub const APPLICATION: u32 = 11;
+
     pub const EQUAL: u32 = 101;
+
     pub const IN: u32 = 107;
+
     pub const LAST_RELATIONAL: u32 = 112;
+
     pub const MAPSTO: u32 = 201;
+
     pub const LAST_BINARY_EXPRESSION: u32 = 227;
+
     pub const IMPLIES: u32 = 251;
+
     pub const EQUIVALENT: u32 = 252;
+
     pub const FIRST_ASSOCIATIVE_EXPRESSION: u32 = 301;
+
     pub const LAST_ASSOCIATIVE_EXPRESSION: u32 = 307;
+
     pub const AND: u32 = 351;
+
     pub const OR: u32 = 352;
+
     pub const FIRST_ATOMIC: u32 = 401;
+
     pub const LAST_ATOMIC: u32 = 412;
+
     pub const TRUE: u32 = 610;
+
     pub const FALSE: u32 = 611;
+
     pub const FIRST_UNARY: u32 = 751;
+
     pub const LAST_UNARY: u32 = 757;
+
     pub const FIRST_LATER_UNARY: u32 = 761;
+
     pub const LAST_LATER_UNARY: u32 = 764;
+
     pub const FIRST_COMPREHENSION: u32 = 801;
+
     pub const COMPREHENSION_SET: u32 = 803;
+
     pub const FOR_ALL: u32 = 851;
+
     pub const EXISTS: u32 = 852;
 }
 
