@@ -19,7 +19,7 @@ unfolding put
 put-length l o [] = refl
 put-length l o (b ∷ bs) = put-length (set l o b) (o + 1) bs ∙ length-set l o b
 
-put-append : (l : List ℕ) (o : ℕ) (a b : List ℕ) → put l o (a ++ b) ≡ put (put l o a) (o + length a) b
+pub put-append : (l : List ℕ) (o : ℕ) (a b : List ℕ) → put l o (a ++ b) ≡ put (put l o a) (o + length a) b
 unfolding put
 put-append l o [] b = let e : o + 0 ≡ o = omega arith in rw e
 put-append l o (x ∷ a) b = let e : o + suc (length a) ≡ o + 1 + length a = omega arith in rw e (put-append (set l o x) (o + 1) a b)
