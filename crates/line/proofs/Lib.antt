@@ -1,3 +1,5 @@
 pub mod WriteLaws
 pub mod PrintLaws
 pub mod NodeLaws
+pub mod ScanLaws
+pub mod OffsetLaws

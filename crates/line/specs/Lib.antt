@@ -1,2 +1,4 @@
 pub mod Spell
+pub mod Scan
+pub mod Line
 pub mod Internal
