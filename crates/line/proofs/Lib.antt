@@ -3,3 +3,4 @@ pub mod PrintLaws
 pub mod NodeLaws
 pub mod ScanLaws
 pub mod OffsetLaws
+pub mod LineLaws

@@ -1,12 +1,12 @@
 -- Signed offsets, as the code computes them. Assumes nothing.
 use mathlib.Core.Path.{_≡_, refl, ap, sym, _∙_}
 use mathlib.Core.Bool.{Bool, true, false}
-use mathlib.Core.List.{List, []}
+use mathlib.Core.List.{List, [], _∷_}
 use Prim.Native.Nat.{ℕ, zero, suc, _+_, _-_, _≤_, _<_}
 use native.Mathlib.Numerals.{sub-one}
 use native.Mathlib.Omega.{arith}
-use borrow.Author.Tests.{le-leb, lt-leb, eq-eqb, ne-eqb}
-use lib.Dec.{leb}
+use borrow.Author.Tests.{le-leb, lt-leb, leb-true, eq-eqb, ne-eqb}
+use lib.Dec.{leb, eqb}
 use lib.IntN.{ℤ, pos, negsuc, _-ℤ_}
 use lib.ListN.{length, getD, drop}
 use mir.Syntax.{w32}
@@ -20,6 +20,7 @@ use Rattle.line.specs.Internal.Places.{numberAt, offsetAt}
 use Rattle.line.specs.declared.turn.State.the-variants.{Spaced}
 use Rattle.line.specs.declared.number.Number as num
 use Rattle.line.specs.declared.number.Number.the-variants as num-is
+use Rattle.line.specs.declared.number.Offset as off
 use Rattle.line.specs.declared.number.Offset.the-variants.{Is, Bad}
 
 minus-one : (n : ℕ) → (negsuc 0 -ℤ pos n) ≡ negsuc n
@@ -126,3 +127,46 @@ module _ (line : List ℕ) (at : ℕ) where
 
     pub plain-bad : (getD line at 0 ≡ 45 → ⊥) → t ≡ numberAt at (number Spaced (drop at line)) → t ≡ num-is.Bad → offsetAt at (offset (drop at line)) ≡ Bad
     plain-bad e r q = rw (plain h e) (pos-bad _ at (sym r ∙ q))
+
+-- an offset that is read fits 32 bits
+abbrev Fit : Signed → Type 0
+Fit (signed z k) = SFits w32 z
+Fit unsigned = Unit {0}
+
+fit-pick : (b : Bool) (z : ℤ) (k : ℕ) → (b ≡ true → SFits w32 z) → Fit (pick b (signed z k) unsigned)
+fit-pick true z k h = h refl
+fit-pick false z k h = tt
+
+fit-below : (v k : ℕ) → Fit (belowZero v k)
+unfolding belowZero
+fit-below zero k = tt
+fit-below (suc v) k = fit-pick (leb v 2147483647) (negsuc v) k (λ e. record { sfits = let h = leb-true v 2147483647 e in omega arith })
+
+fit-from : (v k : ℕ) → Fit (fromZero v k)
+unfolding fromZero
+fit-from v k = fit-pick (leb v 2147483647) (pos v) k (λ e. record { sfits = let h = leb-true v 2147483647 e in omega arith })
+
+fit-negative : (z : Decimal) → Fit (negative z)
+fit-negative (found v k) = fit-below v (suc k)
+fit-negative none = tt
+
+fit-positive : (z : Decimal) → Fit (positive z)
+fit-positive (found v k) = fit-from v k
+fit-positive none = tt
+
+fit-either : (b : Bool) (x y : Signed) → Fit x → Fit y → Fit (pick b x y)
+fit-either true x y f g = f
+fit-either false x y f g = g
+
+fit-offset : (l : List ℕ) → Fit (offset l)
+unfolding offset
+fit-offset [] = tt
+fit-offset (b ∷ bs) = fit-either (eqb b 45) _ _ (fit-negative (number Spaced bs)) (fit-positive (number Spaced (b ∷ bs)))
+
+fit-is : (at : ℕ) (s : Signed) (z : ℤ) (p : ℕ) → offsetAt at s ≡ Is z p → Fit s → SFits w32 z
+unfolding offsetAt
+fit-is at (signed y k) z p e f = let q : y ≡ z = cc in rw q at f
+fit-is at unsigned z p e f = absurd (clash cc)
+
+pub offset-back : (line : List ℕ) (at : ℕ) {t : off.Offset} → t ≡ offsetAt at (offset (drop at line)) → (z : ℤ) (p : ℕ) → t ≡ Is z p → toZ w32 (ofZ w32 z) ≡ z
+offset-back line at o z p e = toZ-ofZ w32 z (fit-is at (offset (drop at line)) z p (sym o ∙ e) (fit-offset (drop at line)))

@@ -71,7 +71,7 @@ unfoldable pub nextArg : Head → ℤ → Part → ℕ → List ℕ → Formed
 nextArg h z list at line = pick (space (drop at line)) (formArg h z list (at + 1) line) (formed Misspelled [])
 
 -- where there is no list
-unfoldable pub noList : Part
+abbrev pub noList : Part
 noList = record { start = 0; end = 0; count = 0 }
 
 abbrev pub ofOffset : ℕ → List ℕ → Signed → Formed
