@@ -4,3 +4,4 @@ pub mod NodeLaws
 pub mod ScanLaws
 pub mod OffsetLaws
 pub mod LineLaws
+pub mod AnswerLaws

@@ -13,7 +13,7 @@ use Rattle.form.proofs.DecodeLaws.{clash}
 use Rattle.form.proofs.HeadLaws.{gone, here}
 use Rattle.line.specs.Scan.{Scan, ended, broken, scanWords, group, Signed, signed, unsigned, offset}
 use Rattle.line.specs.Line.{heads, prefix, startOf, closing, closed, lastGroup, Formed, formed, formPart, formArg, space, nextArg, noList, ofOffset, shiftArgs, ofList, listArgs, args, listWords, readLine, listRow, lineOf, formRow}
-use Rattle.line.specs.Internal.Writes.{put}
+use Rattle.line.specs.Put.{put}
 use Rattle.line.specs.Internal.Places.{groupAt, Grouped, offsetAt, FormRead}
 use Rattle.line.specs.declared.group.Group.{Group}
 use Rattle.line.specs.declared.group.Group.the-variants as grp
@@ -181,17 +181,20 @@ module _ (line : List ℕ) (at : ℕ) (a : List ℕ) where
 -- the whole line
 module _ (line a b : List ℕ) where
   abbrev Whole : List ℕ → List ℕ → Line → Type 0
-  Whole a′ b′ r = (r ≡ lineOf (readLine line)) × (a′ ≡ put a 0 (listRow line)) × (b′ ≡ put b 0 (formRow (readLine line)))
+  Whole a′ b′ r = (r ≡ lineOf (readLine line)) × ((a′ ≡ put a 0 (listRow line)) × (b′ ≡ put b 0 (formRow (readLine line))))
 
   pub line-long : 65535 < length line → Whole a b Misspelled
   unfolding readLine listRow lineOf formRow put
-  line-long h = rw (lt-leb (length line) 65535 h) (refl, refl, refl)
+  line-long h = rw (lt-leb (length line) 65535 h) (refl, (refl, refl))
 
   module _ (h : length line ≤ 65535) {t : Start} (s : t ≡ startOf heads line) where
     pub line-unknown : t ≡ Unknown → Whole a b Misspelled
     unfolding readLine listRow lineOf formRow put
-    line-unknown e = rw (le-leb (length line) 65535 h, sym s ∙ e) (refl, refl, refl)
+    line-unknown e = rw (le-leb (length line) 65535 h, sym s ∙ e) (refl, (refl, refl))
 
     pub line-args : (k : Head) (at : ℕ) → t ≡ At k at → (a′ b′ : List ℕ) (r : Line) → FormRead (args k at line) b b′ r → a′ ≡ put a 0 (listWords k at line) → Whole a′ b′ r
     unfolding readLine listRow FormRead
-    line-args k at e a′ b′ r f l = rw (le-leb (length line) 65535 h, sym s ∙ e) (f .0, l, f .1)
+    line-args k at e a′ b′ r f l = rw (le-leb (length line) 65535 h, sym s ∙ e) (f .0, (l, f .1))
+
+pub at-head : {t : Start} (k h : Head) (at : ℕ) → t ≡ At k at → k ≡ h → t ≡ At h at
+at-head k h at e q = cc

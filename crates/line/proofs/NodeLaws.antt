@@ -17,7 +17,8 @@ use Rattle.form.specs.declared.head.Head.the-variants.{Kids, None}
 use Rattle.form.proofs.DecodeLaws.{clash, read-exact, read-at, all-sound, made}
 use Rattle.form.proofs.HeadLaws.{gone, here}
 use Rattle.line.specs.Spell.{decimal, spaced, bracket, spellLeaf, spell, spellAll}
-use Rattle.line.specs.Internal.Writes.{put, Wrote, Printed, PrintedAll}
+use Rattle.line.specs.Put.{put}
+use Rattle.line.specs.Internal.Writes.{Wrote, Printed, PrintedAll}
 use Rattle.line.specs.declared.print.Ends.{Ends}
 use Rattle.line.specs.declared.print.Ends.the-variants.{End, Bad}
 use Rattle.line.proofs.WriteLaws.{wrote-both, wrote-end, decimal-few, spaced-few}

@@ -11,7 +11,8 @@ use Rattle.form.specs.Form.{pick, between}
 use Rattle.form.proofs.DecodeLaws.{clash}
 use Rattle.form.proofs.HeadLaws.{gone, here}
 use Rattle.line.specs.Scan.{onDigit, turn, note, markWords, depthAfter, Scan, ended, broken, addByte, moved, scan, group, scanWords, Decimal, found, none, addDigit, turned, finished, number}
-use Rattle.line.specs.Internal.Writes.{put, Wrote}
+use Rattle.line.specs.Put.{put}
+use Rattle.line.specs.Internal.Writes.{Wrote}
 use Rattle.line.specs.Internal.Places.{groupAt, Grouped, numberAt}
 use Rattle.line.specs.declared.turn.State.{State}
 use Rattle.line.specs.declared.turn.State.the-variants.{Opened, Spaced, Closed, Digits}

@@ -12,7 +12,8 @@ use lib.Seq.{set-out, drop-cons}
 use mathlib.Core.Bool.{Bool, true, false}
 use Rattle.form.specs.Form.{pick}
 use Rattle.line.specs.Spell.{digits, decimal, spaced}
-use Rattle.line.specs.Internal.Writes.{put, Wrote}
+use Rattle.line.specs.Put.{put}
+use Rattle.line.specs.Internal.Writes.{Wrote}
 
 pub put-length : (l : List ℕ) (o : ℕ) (bs : List ℕ) → length (put l o bs) ≡ length l
 unfolding put

@@ -1,3 +1,4 @@
+pub mod Put
 pub mod Spell
 pub mod Scan
 pub mod Line

@@ -6,7 +6,7 @@ use Prim.Native.Nat.{ℕ, zero, suc, _+_, _/_, _%_}
 use lib.Dec.{leb, ltb, eqb}
 use lib.ListN.{length}
 use Rattle.form.specs.Form.{Leaf, free, bound, Form, leaf, node, Forms, none, more, pick}
-use Rattle.form.specs.Decode.{formOf}
+use Rattle.form.specs.Decode.{Found, found, missing, formOf}
 use Rattle.form.specs.Lists.{Place, kept, filled, Entry, entry, listOf}
 use Rattle.form.specs.Answer.{Outcome, answer, refusal, withForm, needs}
 use Rattle.form.specs.declared.answer.Kind.the-variants.{Either}
@@ -55,3 +55,17 @@ printOutcome row room = withForm Either row (λ s f. needs 14 (leb (length (spel
 
 unfoldable pub printNo : ℕ → ℕ → Outcome
 printNo k room = needs 14 (leb (length (spellNo k)) room) (answer (spellNo k))
+
+-- the late 8 of a form: whether a group's bytes are the spelling of the form that its row is
+unfoldable pub sameBytes : List ℕ → List ℕ → Bool
+sameBytes [] [] = true
+sameBytes [] (b ∷ bs) = false
+sameBytes (a ∷ aa) [] = false
+sameBytes (a ∷ aa) (b ∷ bs) = pick (eqb a b) (sameBytes aa bs) false
+
+abbrev pub spells : List ℕ → Found → Bool
+spells text (found s f) = sameBytes text (spell f)
+spells text missing = false
+
+unfoldable pub fitsForm : List ℕ → List ℕ → Bool
+fitsForm text row = pick (leb (length text) 65535) (spells text (formOf Either row)) false

@@ -1,4 +1,5 @@
 // Bracket lines: reading a line of bytes into a command with its offset and rows, and printing forms and refusals.
+pub mod answer;
 pub mod decimal;
 pub mod fits;
 pub mod group;
