@@ -1,0 +1,20 @@
+-- `line::decimal::put_decimal` meets its contract. Assumes nothing.
+use Rattle.line.proofs.WriteLaws.{wrote-decimal}
+use borrow.Author.Needs.{needs}
+use Rattle.line.proofs.decimal.put_decimal.Statement.{statement}
+use Rattle.line.proofs.decimal.put_decimal.Tie as tie
+use Rattle.line.proofs.decimal.put_decimal.Reads as reads
+use Rattle.line.proofs.decimal.put_decimal.Lts as lts
+use Rattle.line.proofs.decimal.put_digits.Reads as put-digits-reads
+
+put-digits-requires : tie.Need-put-digits-requires
+put-digits-requires c κs = search needs
+
+same-length : tie.Need-same-length
+same-length c = search needs
+
+returns : tie.Need-returns
+returns c = wrote-decimal _ _ _ _ _ (c .before .before .put-digits .ensures)
+
+pub put-decimal-spec : {M : Type 1} → statement M
+put-decimal-spec = tie.close (tie.spec put-digits-requires same-length returns)

@@ -1,0 +1,52 @@
+-- `line::line::read_listed` meets its contract. Assumes nothing.
+use native.Mathlib.Omega.{arith}
+use borrow.Author.Needs.{needs}
+use Rattle.line.proofs.LineLaws.{list-bad, list-go, list-kept}
+use borrow.Author.Needs.{needs}
+use Rattle.line.proofs.line.read_listed.Statement.{statement}
+use Rattle.line.proofs.line.read_listed.Tie as tie
+use Rattle.line.proofs.line.read_listed.Reads as reads
+use Rattle.line.proofs.line.read_listed.Lts as lts
+use Rattle.line.proofs.group.read_group.Reads as read-group-reads
+use Rattle.line.proofs.line.read_next.Reads as read-next-reads
+
+read-group-requires : tie.Need-read-group-requires
+read-group-requires c κs = search needs
+
+enum-known-p : tie.Need-enum-known-p
+enum-known-p c = search needs
+
+enum-told : tie.Need-enum-told
+enum-told c = search needs
+
+same-length : tie.Need-same-length
+same-length c = c .before .before .before .before .read-group .kept .1 .0
+
+returns : tie.Need-returns
+returns c = (list-bad _ _ _ _ _ _ _ _ (c .before .before .before .before .read-group .ensures) (c .enum-told .given .1), list-kept _ _ (c .before .before .before .before .before .before .before .before .before .args .form .now) (c .before .before .before .before .before .before .before .before .before .args .head) _ _ _ _ (c .before .before .before .before .read-group .ensures))
+
+read-next-requires : tie.Need-read-next-requires
+read-next-requires c κs = search needs
+
+same-length-2 : tie.Need-same-length-2
+same-length-2 c = c .before .before .before .before .before .before .before .before .before .read-group .kept .1 .0
+
+same-length-3 : tie.Need-same-length-3
+same-length-3 c = c .before .before .read-next .kept .1 .0
+
+returns-2 : tie.Need-returns-2
+returns-2 c = (list-go _ _ _ _ _ _ _ _ (c .before .before .before .before .before .before .before .before .before .read-group .ensures) _ _ (c .before .before .before .before .before .p .given .1) _ _ (c .before .before .read-next .ensures), list-kept _ _ (c .before .before .before .before .before .before .before .before .before .before .before .before .before .before .args .form .now) (c .before .before .before .before .before .before .before .before .before .before .before .before .before .before .args .head) _ _ _ _ (c .before .before .before .before .before .before .before .before .before .read-group .ensures))
+
+pub read-listed-spec : {M : Type 1} → statement M
+read-listed-spec =
+    tie.close
+    (tie.spec
+    read-group-requires
+    enum-known-p
+    enum-told
+    same-length
+    returns
+    read-next-requires
+    same-length-2
+    same-length-3
+    returns-2)

@@ -1,0 +1,5 @@
+pub mod Put
+pub mod Spell
+pub mod Scan
+pub mod Line
+pub mod Internal
