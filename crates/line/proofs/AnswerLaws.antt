@@ -6,7 +6,7 @@ use Prim.Native.Nat.{ℕ, zero, suc, _+_, _-_, _≤_, _<_}
 use native.Mathlib.Omega.{arith}
 use borrow.Author.Tests.{le-leb, lt-leb, eq-eqb, ne-eqb}
 use lib.Dec.{leb, eqb}
-use lib.ListN.{length, getD, take, drop, set, length-append}
+use lib.ListN.{length, getD, take, drop, set, replicate, length-append, length-replicate}
 use lib.Seq.{set-append-seam, take-at, getD-take, length-take-le}
 use Rattle.form.specs.Form.{Form, pick, encode}
 use Rattle.form.specs.Tag.{Sort, expr, pred}
@@ -205,3 +205,6 @@ module _ (text row : List ℕ) where
             let (f, o, w, m) = measured row b n (sym q ∙ e) in
             let v : c ≡ spell f ++ drop (length (spell f)) a = (rw w at p) .1 ∙ put-front a (spell f) (omega arith) in
             rw (short, o, v) (ap (λ z. sameBytes text z) (take-at (spell f) (drop (length (spell f)) a) (length text) (omega arith)))
+
+pub zeros : (n : ℕ) → length (replicate {A = ℕ} n 0) ≡ n
+zeros n = length-replicate n 0
