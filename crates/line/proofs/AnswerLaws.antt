@@ -6,7 +6,7 @@ use Prim.Native.Nat.{ℕ, zero, suc, _+_, _-_, _≤_, _<_}
 use native.Mathlib.Omega.{arith}
 use borrow.Author.Tests.{le-leb, lt-leb, eq-eqb, ne-eqb}
 use lib.Dec.{leb, eqb}
-use lib.ListN.{length, getD, take, drop, set, length-append}
+use lib.ListN.{length, getD, take, drop, set, replicate, length-append, length-replicate}
 use lib.Seq.{set-append-seam, take-at, getD-take, length-take-le}
 use Rattle.form.specs.Form.{Form, pick, encode}
 use Rattle.form.specs.Tag.{Sort, expr, pred}
@@ -17,14 +17,15 @@ use Rattle.form.specs.declared.answer.Answer.the-variants.{Done, No}
 use Rattle.form.proofs.DecodeLaws.{clash, decode-sound}
 use Rattle.form.proofs.HeadLaws.{gone, here}
 use Rattle.line.specs.Put.{put}
-use Rattle.line.specs.Spell.{spell, printOutcome, sameBytes, spells, fitsForm}
-use Rattle.line.specs.Internal.Writes.{Printed, PrintedRow, sizedOf}
+use Rattle.line.specs.Spell.{decimal, spell, spellNo, printOutcome, printNo, sameBytes, spells, fitsForm}
+use Rattle.line.specs.Internal.Writes.{Wrote, Printed, PrintedRow, sizedOf}
 use Rattle.line.specs.declared.print.Ends.{Ends}
 use Rattle.line.specs.declared.print.Ends.the-variants.{End, Bad}
 use Rattle.line.specs.declared.answer.Spelled.{Spelled}
 use Rattle.line.specs.declared.answer.Spelled.the-variants.{Bytes, NotOne}
 use Rattle.line.specs.declared.answer.Sized.{Sized}
 use Rattle.line.specs.declared.answer.Sized.the-variants.{Is, Neither}
+use Rattle.line.proofs.WriteLaws.{wrote-both, wrote-next, wrote-end}
 use Rattle.line.proofs.PrintLaws.{printed-end, printed-bad}
 
 -- a row that is one form of a sort
@@ -205,3 +206,24 @@ module _ (text row : List ℕ) where
             let (f, o, w, m) = measured row b n (sym q ∙ e) in
             let v : c ≡ spell f ++ drop (length (spell f)) a = (rw w at p) .1 ∙ put-front a (spell f) (omega arith) in
             rw (short, o, v) (ap (λ z. sameBytes text z) (take-at (spell f) (drop (length (spell f)) a) (length text) (omega arith)))
+
+pub zeros : (n : ℕ) → length (replicate {A = ℕ} n 0) ≡ n
+zeros n = length-replicate n 0
+
+-- refusals
+pub wrote-no : (k q r : ℕ) (a b c d e f g : List ℕ) (x y z w : ℕ) → Wrote 0 (91 ∷ []) a b x → Wrote 1 (110 ∷ []) b c y → Wrote 2 (111 ∷ []) c d z → Wrote 3 (32 ∷ []) d e w
+    → Wrote 4 (decimal k) e f q → Wrote q (93 ∷ []) f g r → Wrote 0 (spellNo k) a g r
+unfolding spellNo
+wrote-no k q r a b c d e f g x y z w h₀ h₁ h₂ h₃ h₄ h₅ =
+    wrote-next 0 x r (91 ∷ []) _ a b g h₀ (wrote-next 1 y r (110 ∷ []) _ b c g h₁ (wrote-next 2 z r (111 ∷ []) _ c d g h₂ (wrote-next 3 w r (32 ∷ []) _ d e g h₃ (wrote-both 4 q r (decimal k) (93 ∷ []) e f g h₄ h₅))))
+
+module _ (k n : ℕ) (u v : List ℕ) (h : Wrote 0 (spellNo k) u v n) (out : List ℕ) where
+  pub no-room : length out < n → (No 14 ≡ told (printNo k (length out))) × (out ≡ written (printNo k (length out)) out)
+  unfolding printNo
+  no-room l = let e = wrote-end 0 n (spellNo k) u v h in rw (lt-leb (length (spellNo k)) (length out) (omega arith)) (refl, refl)
+
+  pub no-done : n ≤ length out → (out′ : List ℕ) (m : ℕ) → Wrote 0 (spellNo k) out out′ m → (Done n ≡ told (printNo k (length out))) × (out′ ≡ written (printNo k (length out)) out)
+  unfolding printNo Wrote
+  no-done l out′ m w =
+      let e = wrote-end 0 n (spellNo k) u v h in
+      rw (le-leb (length (spellNo k)) (length out) (omega arith)) (ap Done (e ∙ omega arith), w .1 ∙ put-front out (spellNo k) (omega arith))

@@ -45,6 +45,10 @@ wrote-both o p q x y a b c h k =
     let f = k .0 in
     (rw length-append (omega arith), k .1 ∙ rw (h .0, h .1, put-append a o x y))
 
+pub wrote-next : (o p q : ℕ) (x y a b c : List ℕ) → Wrote o x a b p → Wrote (o + length x) y b c q → Wrote o (x ++ y) a c q
+unfolding Wrote
+wrote-next o p q x y a b c h k = wrote-both o p q x y a b c h (rw (h .0) k)
+
 pub wrote-end : (o q : ℕ) (x a b : List ℕ) → Wrote o x a b q → q ≡ o + length x
 unfolding Wrote
 wrote-end o q x a b h = h .0

@@ -83,3 +83,29 @@ pub fn print_form(row: &[u32], out: &mut [u8]) -> Answer
     print_sort(row, out, expression);
     Answer::Done(n)
 }
+
+// `[no k]`, at the front of the output.
+fn put_no(out: &mut [u8], k: u32) -> usize
+    ensures { λ r. ⌜ Wrote 0 (spellNo k) (now (out .entry)) (now (out .exit)) r ⌝ }
+{
+    put_byte(out, 0, b'[');
+    put_byte(out, 1, b'n');
+    put_byte(out, 2, b'o');
+    put_byte(out, 3, b' ');
+    let q = put_decimal(out, 4, k);
+    put_byte(out, q, b']')
+}
+
+// The spelling of a refusal.
+pub fn print_no(k: u32, out: &mut [u8]) -> Answer
+    ensures { λ r. ⌜ r ≡ told (printNo k (length (now (out .entry)))) ⌝ }
+    ensures { λ r. ⌜ now (out .exit) ≡ written (printNo k (length (now (out .entry)))) (now (out .entry)) ⌝ }
+{
+    let mut none = [0u8; 1];
+    let n = put_no(&mut none, k);
+    if out.len() < n {
+        return Answer::No(14);
+    }
+    put_no(out, k);
+    Answer::Done(n)
+}
