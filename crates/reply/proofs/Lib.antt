@@ -1,0 +1,3 @@
+pub mod LateLaws
+pub mod ReadLaws
+pub mod ReplyLaws

@@ -1,0 +1,43 @@
+-- `reply::late::check_text` meets its contract. Assumes nothing.
+use Rattle.subst.proofs.ItemLaws.{not-yes, not-no}
+use Rattle.reply.proofs.LateLaws.{late-refused, late-unfit, late-fits}
+use borrow.Author.Needs.{needs}
+use Rattle.reply.proofs.late.check_text.Statement.{statement}
+use Rattle.reply.proofs.late.check_text.Tie as tie
+use Rattle.reply.proofs.late.check_text.Reads as reads
+use Rattle.reply.proofs.late.check_text.Lts as lts
+use Rattle.form.proofs.check.check.Reads as check-reads
+use Rattle.line.proofs.fits.fits_form.Reads as fits-form-reads
+
+check-requires : tie.Need-check-requires
+check-requires c κs = search needs
+
+enum-known-checked : tie.Need-enum-known-checked
+enum-known-checked c = search needs
+
+enum-told : tie.Need-enum-told
+enum-told c = search needs
+
+returns : tie.Need-returns
+returns c = late-refused _ _ _ _ _ (c .before .before .check .ensures) _ (c .enum-told .given .1)
+
+fits-form-requires : tie.Need-fits-form-requires
+fits-form-requires c κs = search needs
+
+returns-2 : tie.Need-returns-2
+returns-2 c = late-unfit _ _ _ _ _ (c .before .before .before .before .before .check .ensures) _ (c .before .before .before .checked .given .1) _ (c .before .fits-form .ensures) (not-yes _ (c .if1 .taken))
+
+returns-3 : tie.Need-returns-3
+returns-3 c = late-fits _ _ _ _ _ (c .before .before .before .before .before .check .ensures) _ (c .before .before .before .checked .given .1) _ (c .before .fits-form .ensures) (not-no _ (c .if1 .left))
+
+pub check-text-spec : {M : Type 1} → statement M
+check-text-spec =
+    tie.close
+    (tie.spec
+    check-requires
+    enum-known-checked
+    enum-told
+    returns
+    fits-form-requires
+    returns-2
+    returns-3)

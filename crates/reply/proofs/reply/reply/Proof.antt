@@ -1,0 +1,106 @@
+-- `reply::reply::reply` meets its contract. Assumes nothing.
+use mathlib.Core.Path.{refl, sym, _∙_}
+use native.Mathlib.Omega.{arith}
+use lib.Seq.{length-take-le}
+use lib.ListN.{length}
+use Rattle.reply.specs.Reply.{lineOutcome, replyOutcome}
+use Rattle.reply.proofs.ReplyLaws.{too-short, row-there, no-there, printed-says}
+use borrow.Author.Needs.{needs}
+use Rattle.reply.proofs.reply.reply.Statement.{statement}
+use Rattle.reply.proofs.reply.reply.Tie as tie
+use Rattle.reply.proofs.reply.reply.Reads as reads
+use Rattle.reply.proofs.reply.reply.Lts as lts
+use Rattle.line.proofs.answer.print_form.Reads as print-form-reads
+use Rattle.line.proofs.answer.print_no.Reads as print-no-reads
+use Rattle.reply.proofs.reply.answer_line.Reads as answer-line-reads
+
+answer-line-requires : tie.Need-answer-line-requires
+answer-line-requires c κs = search needs
+
+enum-known-n : tie.Need-enum-known-n
+enum-known-n c = search needs
+
+same-length : tie.Need-same-length
+same-length c = search needs
+
+same-length-2 : tie.Need-same-length-2
+same-length-2 c = search needs
+
+same-length-3 : tie.Need-same-length-3
+same-length-3 c = search needs
+
+returns : tie.Need-returns
+returns c = too-short (lineOutcome (c .before .before .before .before .before .before .before .before .before .before .before .before .before .before .before .before .before .before .before .args .line .now) (length (c .before .before .before .before .before .before .before .before .before .before .before .before .before .before .before .before .before .before .before .args .list .now)) (length (c .before .before .before .before .before .before .before .before .before .before .before .before .before .before .before .before .before .before .before .args .form .now)) (length (c .before .before .before .before .before .before .before .before .before .before .before .before .before .before .before .before .before .before .before .args .result .now))) _ _ (c .before .before .before .before .before .before .before .before .before .before .answer-line .ensures) _ (c .before .before .n .given .1) (c .if1 .taken)
+
+slice-reshare-prefix-print-form : tie.Need-slice-reshare-prefix-print-form
+slice-reshare-prefix-print-form c = omega arith
+
+slice-aggregate-print-form : tie.Need-slice-aggregate-print-form
+slice-aggregate-print-form c = sym (length-take-le _ _ (c .before .if1 .left))
+
+print-form-requires : tie.Need-print-form-requires
+print-form-requires c κs = search needs
+
+enum-known-k : tie.Need-enum-known-k
+enum-known-k c = search needs
+
+print-no-requires : tie.Need-print-no-requires
+print-no-requires c κs = search needs
+
+same-length-4 : tie.Need-same-length-4
+same-length-4 c = search needs
+
+same-length-5 : tie.Need-same-length-5
+same-length-5 c = search needs
+
+same-length-6 : tie.Need-same-length-6
+same-length-6 c = search needs
+
+same-length-7 : tie.Need-same-length-7
+same-length-7 c = search needs
+
+returns-2 : tie.Need-returns-2
+unfolding replyOutcome
+returns-2 c = printed-says _ _ _ _ _ (row-there (lineOutcome (c .before .before .before .before .before .before .before .before .before .before .before .before .before .before .before .before .before .before .before .before .before .before .before .before .args .line .now) (length (c .before .before .before .before .before .before .before .before .before .before .before .before .before .before .before .before .before .before .before .before .before .before .before .before .args .list .now)) (length (c .before .before .before .before .before .before .before .before .before .before .before .before .before .before .before .before .before .before .before .before .before .before .before .before .args .form .now)) (length (c .before .before .before .before .before .before .before .before .before .before .before .before .before .before .before .before .before .before .before .before .before .before .before .before .args .result .now))) _ _ (c .before .before .before .before .before .before .before .before .before .before .before .before .before .before .before .answer-line .ensures) _ (length (c .before .before .before .before .before .before .before .before .before .before .before .before .before .before .before .before .before .before .before .before .before .before .before .before .args .bytes .now)) (c .before .before .before .before .before .before .before .n .given .1)) (c .before .before .print-form .ensures)
+
+same-length-8 : tie.Need-same-length-8
+same-length-8 c = search needs
+
+same-length-9 : tie.Need-same-length-9
+same-length-9 c = search needs
+
+same-length-10 : tie.Need-same-length-10
+same-length-10 c = search needs
+
+same-length-11 : tie.Need-same-length-11
+same-length-11 c = search needs
+
+returns-3 : tie.Need-returns-3
+unfolding replyOutcome
+returns-3 c = printed-says _ _ _ _ _ (no-there (lineOutcome (c .before .before .before .before .before .before .before .before .before .before .before .before .before .before .before .before .before .before .before .before .before .before .args .line .now) (length (c .before .before .before .before .before .before .before .before .before .before .before .before .before .before .before .before .before .before .before .before .before .before .args .list .now)) (length (c .before .before .before .before .before .before .before .before .before .before .before .before .before .before .before .before .before .before .before .before .before .before .args .form .now)) (length (c .before .before .before .before .before .before .before .before .before .before .before .before .before .before .before .before .before .before .before .before .before .before .args .result .now))) _ _ (c .before .before .before .before .before .before .before .before .before .before .before .before .before .answer-line .ensures) _ (length (c .before .before .before .before .before .before .before .before .before .before .before .before .before .before .before .before .before .before .before .before .before .before .args .bytes .now)) (c .before .before .before .before .before .k .given .1)) (c .before .before .print-no .ensures)
+
+pub reply-spec : {M : Type 1} → statement M
+reply-spec =
+    tie.close
+    (tie.spec
+    answer-line-requires
+    enum-known-n
+    same-length
+    same-length-2
+    same-length-3
+    returns
+    slice-reshare-prefix-print-form
+    slice-aggregate-print-form
+    print-form-requires
+    enum-known-k
+    print-no-requires
+    same-length-4
+    same-length-5
+    same-length-6
+    same-length-7
+    returns-2
+    same-length-8
+    same-length-9
+    same-length-10
+    same-length-11
+    returns-3)

@@ -1,0 +1,3 @@
+// The answer to a line of commands, in bytes.
+pub mod late;
+pub mod reply;
