@@ -1,3 +1,4 @@
 pub mod LateLaws
 pub mod ReadLaws
 pub mod ReplyLaws
+pub mod SplitLaws

@@ -1,2 +1,3 @@
 pub mod Reply
+pub mod Split
 pub mod Internal
