@@ -165,7 +165,7 @@ module _ (text bytes : List ℕ) (i : ℕ) where
     unfolding sameBytes
     same-more e = rw (here text i h, here bytes i l, eq-eqb (getD text i 0) (getD bytes i 0) e)
 
-same-lengths : (a b : List ℕ) → (length a ≡ length b → ⊥) → sameBytes a b ≡ false
+pub same-lengths : (a b : List ℕ) → (length a ≡ length b → ⊥) → sameBytes a b ≡ false
 unfolding sameBytes
 same-lengths [] [] n = absurd (n refl)
 same-lengths [] (y ∷ b) n = refl
