@@ -21,10 +21,10 @@ use Rattle.line.specs.Spell.{decimal, spell, spellNo, printOutcome, prin
 use Rattle.line.specs.Internal.Writes.{Wrote, Printed, PrintedRow, sizedOf}
 use Rattle.line.specs.declared.print.Ends.{Ends}
 use Rattle.line.specs.declared.print.Ends.the-variants.{End, Bad}
-use Rattle.line.specs.declared.answer.Spelled.{Spelled}
-use Rattle.line.specs.declared.answer.Spelled.the-variants.{Bytes, NotOne}
-use Rattle.line.specs.declared.answer.Sized.{Sized}
-use Rattle.line.specs.declared.answer.Sized.the-variants.{Is, Neither}
+use Rattle.line.specs.declared.whole.Spelled.{Spelled}
+use Rattle.line.specs.declared.whole.Spelled.the-variants.{Bytes, NotOne}
+use Rattle.line.specs.declared.whole.Sized.{Sized}
+use Rattle.line.specs.declared.whole.Sized.the-variants.{Is, Neither}
 use Rattle.line.proofs.WriteLaws.{wrote-both, wrote-next, wrote-end}
 use Rattle.line.proofs.PrintLaws.{printed-end, printed-bad}
 

@@ -21,8 +21,8 @@ use Rattle.line.specs.Spell.{decimal, spaced, bracket, spell, spellEntry
 use Rattle.line.specs.Internal.Writes.{Wrote, Printed, PrintedEntry, PrintedEntries, PrintedList, AtMost}
 use Rattle.line.specs.declared.print.Ends.{Ends}
 use Rattle.line.specs.declared.print.Ends.the-variants.{End, Bad}
-use Rattle.line.specs.declared.answer.Spelled.{Spelled}
-use Rattle.line.specs.declared.answer.Spelled.the-variants.{Bytes, NotOne}
+use Rattle.line.specs.declared.whole.Spelled.{Spelled}
+use Rattle.line.specs.declared.whole.Spelled.the-variants.{Bytes, NotOne}
 use Rattle.line.proofs.WriteLaws.{wrote-both, wrote-end, wrote-none, decimal-few}
 use Rattle.line.proofs.PrintLaws.{spell-few, printed-end, printed-bad}
 

@@ -16,8 +16,8 @@ use Rattle.form.proofs.DecodeLaws.{clash}
 use Rattle.line.specs.Put.{put}
 use Rattle.line.specs.Spell.{sameBytes, spellList, lists, fitsList, spellNames, fitsNames}
 use Rattle.line.specs.Internal.Writes.{Wrote, PrintedList}
-use Rattle.line.specs.declared.answer.Spelled.{Spelled}
-use Rattle.line.specs.declared.answer.Spelled.the-variants.{Bytes, NotOne}
+use Rattle.line.specs.declared.whole.Spelled.{Spelled}
+use Rattle.line.specs.declared.whole.Spelled.the-variants.{Bytes, NotOne}
 use Rattle.line.proofs.AnswerLaws.{put-front, same-lengths}
 
 -- bytes printed into a buffer

@@ -1,10 +1,10 @@
 // The printers of lists: pairs, places and names.
-use crate::answer::Spelled;
 use crate::decimal::put_byte;
 use crate::decimal::put_decimal;
 use crate::decimal::put_spaced;
 use crate::print::Ends;
 use crate::print::print_expr;
+use crate::whole::Spelled;
 use form::lists::ListKind;
 ghost use mathlib.Core.Path.{_≡_};
 ghost use Prim.Native.Nat.{_+_, _-_, _*_, _^_, _<_, _≤_};

@@ -1,10 +1,10 @@
 // Whether a group's bytes are the spelling of the form that its row is.
-use crate::answer::Sized;
-use crate::answer::Spelled;
-use crate::answer::measured;
-use crate::answer::print_sort;
 use crate::entries::print_list;
 use crate::entries::print_names;
+use crate::whole::Sized;
+use crate::whole::Spelled;
+use crate::whole::measured;
+use crate::whole::print_sort;
 use form::lists::ListKind;
 ghost use mathlib.Core.Path.{_≡_};
 ghost use Prim.Native.Nat.{_≤_};

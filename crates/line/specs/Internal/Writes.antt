@@ -8,10 +8,10 @@ use Rattle.form.specs.Form.{Form, Forms, encode, encodeAll}
 use Rattle.form.specs.Decode.{Got, got, no-form, Gots, gots, no-forms, Whole, one, not-one, Found, found, missing}
 use Rattle.form.specs.Tag.{Sort, expr, pred}
 use Rattle.line.specs.Put.{put}
-use Rattle.line.specs.declared.answer.Spelled.{Spelled}
-use Rattle.line.specs.declared.answer.Spelled.the-variants.{Bytes, NotOne}
-use Rattle.line.specs.declared.answer.Sized.{Sized}
-use Rattle.line.specs.declared.answer.Sized.the-variants.{Is, Neither}
+use Rattle.line.specs.declared.whole.Spelled.{Spelled}
+use Rattle.line.specs.declared.whole.Spelled.the-variants.{Bytes, NotOne}
+use Rattle.line.specs.declared.whole.Sized.{Sized}
+use Rattle.line.specs.declared.whole.Sized.the-variants.{Is, Neither}
 use Rattle.line.specs.Spell.{spell, spellAll, spellEntry, entriesAfter, spellList}
 use mathlib.Core.Option.{Option, none as absent, some}
 use Rattle.form.specs.Lists.{Entry, entryWords}

@@ -7,8 +7,8 @@ use Rattle.line.proofs.answer.print_form.Statement.{statement}
 use Rattle.line.proofs.answer.print_form.Tie as tie
 use Rattle.line.proofs.answer.print_form.Reads as reads
 use Rattle.line.proofs.answer.print_form.Lts as lts
-use Rattle.line.proofs.answer.measured.Reads as measured-reads
-use Rattle.line.proofs.answer.print_sort.Reads as print-sort-reads
+use Rattle.line.proofs.whole.measured.Reads as measured-reads
+use Rattle.line.proofs.whole.print_sort.Reads as print-sort-reads
 
 returns : tie.Need-returns
 returns c = form-long _ _ (c .if1 .taken)

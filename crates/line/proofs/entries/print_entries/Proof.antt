@@ -8,7 +8,7 @@ use borrow.Author.Needs.{needs}
 use lib.ListN.{length, drop}
 use Rattle.form.specs.Lists.{entries, listOf}
 use Rattle.line.specs.Internal.Writes.{PrintedEntries}
-use Rattle.line.specs.declared.answer.Spelled.{Spelled}
+use Rattle.line.specs.declared.whole.Spelled.{Spelled}
 use Rattle.line.proofs.WriteLaws.{wrote-end}
 use Rattle.line.proofs.EntryLaws.{entries-none, entries-fuel, entries-stop, entries-more, entry-within}
 use Rattle.line.proofs.entries.print_entries.Statement.{statement}
