@@ -1,7 +1,6 @@
 -- What the printers of lists write, by what is decoded. Assumes nothing.
 use mathlib.Core.Path.{_≡_, refl, ap, sym, _∙_}
-use mathlib.Core.Bool.{Bool, true, false}
-use mathlib.Core.List.{List, [], _∷_, _++_, append-assoc, append-nil}
+use mathlib.Core.List.{List, [], _∷_, _++_}
 use mathlib.Core.Option.{Option, none as absent, some}
 use Prim.Native.Nat.{ℕ, zero, suc, _+_, _-_, _*_, _≤_, _<_}
 use native.Mathlib.Numerals.{sub-one}
@@ -11,7 +10,7 @@ use lib.Seq.{drop-drop, drop-append-seam, take-length}
 use Rattle.form.specs.Form.{Form, encode}
 use Rattle.form.specs.Tag.{expr}
 use Rattle.form.specs.Decode.{Got, got, no-form, decode}
-use Rattle.form.specs.Lists.{Place, kept, filled, Entry, entry, withExpr, placeEntry, entryOf, addEntry, andThen, entries, listOf, placeWords, entryWords}
+use Rattle.form.specs.Lists.{kept, filled, Entry, entry, withExpr, placeEntry, entryOf, addEntry, andThen, entries, entryWords}
 use Rattle.form.specs.declared.lists.ListKind.{ListKind}
 use Rattle.form.specs.declared.lists.ListKind.the-variants.{Pairs, Places}
 use Rattle.form.proofs.DecodeLaws.{clash, decode-sound}
@@ -23,7 +22,7 @@ use Rattle.line.specs.declared.print.Ends.{Ends}
 use Rattle.line.specs.declared.print.Ends.the-variants.{End, Bad}
 use Rattle.line.specs.declared.whole.Spelled.{Spelled}
 use Rattle.line.specs.declared.whole.Spelled.the-variants.{Bytes, NotOne}
-use Rattle.line.proofs.WriteLaws.{wrote-both, wrote-end, wrote-none, decimal-few}
+use Rattle.line.proofs.WriteLaws.{wrote-both, wrote-end, decimal-few}
 use Rattle.line.proofs.PrintLaws.{spell-few, printed-end, printed-bad}
 
 same-end : (x x′ y y′ : ℕ) → x ≡ x′ → y ≡ y′ → End x y ≡ End x′ y′

@@ -1,14 +1,14 @@
 -- The canonical spelling, in bytes ('[' is 91, ']' 93, ' ' 32, the digits 48 to 57): decimal words, forms, lists and refusals.
 use mathlib.Core.Bool.{Bool, true, false}
-use mathlib.Core.List.{List, [], _∷_, _++_, map}
+use mathlib.Core.List.{List, [], _∷_, _++_}
 use mathlib.Core.Option.{Option, none as absent, some}
 use Prim.Native.Nat.{ℕ, zero, suc, _+_, _/_, _%_}
 use lib.Dec.{leb, ltb, eqb}
 use lib.ListN.{length}
 use Rattle.form.specs.Form.{Leaf, free, bound, Form, leaf, node, Forms, none, more, pick}
 use Rattle.form.specs.Decode.{Found, found, missing, formOf}
-use Rattle.form.specs.Lists.{Place, kept, filled, Entry, entry, listOf}
-use Rattle.form.specs.Answer.{Outcome, answer, refusal, withForm, needs}
+use Rattle.form.specs.Lists.{kept, filled, Entry, entry, listOf}
+use Rattle.form.specs.Answer.{Outcome, answer, withForm, needs}
 use Rattle.form.specs.declared.answer.Kind.the-variants.{Either}
 use Rattle.form.specs.declared.lists.ListKind.{ListKind}
 use Rattle.form.specs.declared.lists.ListKind.the-variants.{Pairs, Places}

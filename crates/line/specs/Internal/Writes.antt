@@ -4,7 +4,7 @@ use mathlib.Core.Bool.{Bool, true, false}
 use mathlib.Core.List.{List}
 use Prim.Native.Nat.{ℕ, _+_, _≤_}
 use lib.ListN.{length}
-use Rattle.form.specs.Form.{Form, Forms, encode, encodeAll}
+use Rattle.form.specs.Form.{encode, encodeAll}
 use Rattle.form.specs.Decode.{Got, got, no-form, Gots, gots, no-forms, Whole, one, not-one, Found, found, missing}
 use Rattle.form.specs.Tag.{Sort, expr, pred}
 use Rattle.line.specs.Put.{put}

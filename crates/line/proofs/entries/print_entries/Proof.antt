@@ -13,10 +13,6 @@ use Rattle.line.proofs.WriteLaws.{wrote-end}
 use Rattle.line.proofs.EntryLaws.{entries-none, entries-fuel, entries-stop, entries-more, entry-within}
 use Rattle.line.proofs.entries.print_entries.Statement.{statement}
 use Rattle.line.proofs.entries.print_entries.Tie as tie
-use Rattle.line.proofs.entries.print_entries.Reads as reads
-use Rattle.line.proofs.entries.print_entries.Lts as lts
-use Rattle.line.proofs.decimal.put_byte.Reads as put-byte-reads
-use Rattle.line.proofs.entries.print_entry.Reads as print-entry-reads
 
 abbrev Inv-loop : tie.InvT-loop
 Inv-loop row out₀ kind p₀ o₀ left₀ before₀ out p o left before = ((b : List ℕ) (r : Spelled) → PrintedEntries before kind o (entries kind left (drop p row)) out b r → PrintedEntries 91 kind 0 (listOf kind row) out₀ b r) × (o + 13 * (length row - p) ≤ 13 * length row) × (length out ≡ length out₀)

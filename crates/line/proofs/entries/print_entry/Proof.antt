@@ -1,13 +1,8 @@
 -- `line::entries::print_entry` meets its contract. Assumes nothing.
-use native.Mathlib.Omega.{arith}
 use borrow.Author.Needs.{needs}
 use borrow.Author.Needs.{needs}
 use Rattle.line.proofs.entries.print_entry.Statement.{statement}
 use Rattle.line.proofs.entries.print_entry.Tie as tie
-use Rattle.line.proofs.entries.print_entry.Reads as reads
-use Rattle.line.proofs.entries.print_entry.Lts as lts
-use Rattle.line.proofs.entries.print_pair.Reads as print-pair-reads
-use Rattle.line.proofs.entries.print_place.Reads as print-place-reads
 
 enum-told : tie.Need-enum-told
 enum-told c = search needs

@@ -1,5 +1,5 @@
 -- `line::entries::print_list` meets its contract. Assumes nothing.
-use mathlib.Core.Path.{_≡_, refl, _∙_}
+use mathlib.Core.Path.{_≡_, _∙_}
 use Prim.Native.Nat.{_+_}
 use native.Mathlib.Omega.{arith}
 use borrow.Author.Needs.{needs}
@@ -8,10 +8,6 @@ use Rattle.line.proofs.EntryLaws.{list-stop, list-empty, list-end, at-m
 use borrow.Author.Needs.{needs}
 use Rattle.line.proofs.entries.print_list.Statement.{statement}
 use Rattle.line.proofs.entries.print_list.Tie as tie
-use Rattle.line.proofs.entries.print_list.Reads as reads
-use Rattle.line.proofs.entries.print_list.Lts as lts
-use Rattle.line.proofs.decimal.put_byte.Reads as put-byte-reads
-use Rattle.line.proofs.entries.print_entries.Reads as print-entries-reads
 
 print-entries-requires : tie.Need-print-entries-requires
 print-entries-requires c κs = search needs

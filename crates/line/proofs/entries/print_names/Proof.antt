@@ -1,20 +1,13 @@
 -- `line::entries::print_names` meets its contract. Assumes nothing.
-use mathlib.Core.Path.{_≡_, refl, _∙_}
+use mathlib.Core.Path.{_≡_, _∙_}
 use Prim.Native.Nat.{_+_}
 use Prim.Native.Nat.{_-_}
 use native.Mathlib.Omega.{arith}
-use borrow.Author.Needs.{needs}
 use lib.ListN.{length, getD, take, drop, length-take}
 use Rattle.line.proofs.WriteLaws.{wrote-end, decimal-few, spaced-few}
 use Rattle.line.proofs.EntryLaws.{names-empty, names-more}
-use borrow.Author.Needs.{needs}
 use Rattle.line.proofs.entries.print_names.Statement.{statement}
 use Rattle.line.proofs.entries.print_names.Tie as tie
-use Rattle.line.proofs.entries.print_names.Reads as reads
-use Rattle.line.proofs.entries.print_names.Lts as lts
-use Rattle.line.proofs.decimal.put_byte.Reads as put-byte-reads
-use Rattle.line.proofs.decimal.put_decimal.Reads as put-decimal-reads
-use Rattle.line.proofs.decimal.put_spaced.Reads as put-spaced-reads
 
 put-byte-requires : tie.Need-put-byte-requires
 put-byte-requires c κs = omega arith

@@ -1,5 +1,5 @@
 -- `line::entries::print_pair` meets its contract. Assumes nothing.
-use mathlib.Core.Path.{_≡_, refl, _∙_}
+use mathlib.Core.Path.{_≡_, _∙_}
 use Prim.Native.Nat.{_+_}
 use native.Mathlib.Omega.{arith}
 use borrow.Author.Needs.{needs}
@@ -10,11 +10,6 @@ use Rattle.line.proofs.EntryLaws.{pair-past, pair-stop, pair-go}
 use borrow.Author.Needs.{needs}
 use Rattle.line.proofs.entries.print_pair.Statement.{statement}
 use Rattle.line.proofs.entries.print_pair.Tie as tie
-use Rattle.line.proofs.entries.print_pair.Reads as reads
-use Rattle.line.proofs.entries.print_pair.Lts as lts
-use Rattle.line.proofs.decimal.put_byte.Reads as put-byte-reads
-use Rattle.line.proofs.decimal.put_decimal.Reads as put-decimal-reads
-use Rattle.line.proofs.print.print_expr.Reads as print-expr-reads
 
 returns : tie.Need-returns
 returns c = pair-past _ _ _ _ _ (c .if1 .taken)

@@ -1,5 +1,5 @@
 -- `line::entries::print_place` meets its contract. Assumes nothing.
-use mathlib.Core.Path.{_≡_, refl, _∙_}
+use mathlib.Core.Path.{_≡_, _∙_}
 use Prim.Native.Nat.{_+_}
 use native.Mathlib.Omega.{arith}
 use borrow.Author.Needs.{needs}
@@ -8,10 +8,6 @@ use Rattle.line.proofs.EntryLaws.{place-past, place-other, place-go, pl
 use borrow.Author.Needs.{needs}
 use Rattle.line.proofs.entries.print_place.Statement.{statement}
 use Rattle.line.proofs.entries.print_place.Tie as tie
-use Rattle.line.proofs.entries.print_place.Reads as reads
-use Rattle.line.proofs.entries.print_place.Lts as lts
-use Rattle.line.proofs.decimal.put_byte.Reads as put-byte-reads
-use Rattle.line.proofs.print.print_expr.Reads as print-expr-reads
 
 returns : tie.Need-returns
 returns c = place-past _ _ _ _ _ (c .if1 .taken)

@@ -7,10 +7,6 @@ use Rattle.line.proofs.FitLaws.{list-text, list-row, list-not, list-oth
 use borrow.Author.Needs.{needs}
 use Rattle.line.proofs.fits.fits_list.Statement.{statement}
 use Rattle.line.proofs.fits.fits_list.Tie as tie
-use Rattle.line.proofs.fits.fits_list.Reads as reads
-use Rattle.line.proofs.fits.fits_list.Lts as lts
-use Rattle.line.proofs.entries.print_list.Reads as print-list-reads
-use Rattle.line.proofs.fits.same.Reads as same-reads
 
 returns : tie.Need-returns
 returns c = list-text _ _ _ (c .if1 .taken)

@@ -7,10 +7,6 @@ use Rattle.line.proofs.FitLaws.{names-text, names-row, names-other, nam
 use borrow.Author.Needs.{needs}
 use Rattle.line.proofs.fits.fits_names.Statement.{statement}
 use Rattle.line.proofs.fits.fits_names.Tie as tie
-use Rattle.line.proofs.fits.fits_names.Reads as reads
-use Rattle.line.proofs.fits.fits_names.Lts as lts
-use Rattle.line.proofs.entries.print_names.Reads as print-names-reads
-use Rattle.line.proofs.fits.same.Reads as same-reads
 
 returns : tie.Need-returns
 returns c = names-text _ _ (c .if1 .taken)

@@ -1,13 +1,9 @@
 -- `line::whole::measured` meets its contract. Assumes nothing.
-use native.Mathlib.Omega.{arith}
 use borrow.Author.Needs.{needs}
 use Rattle.line.proofs.AnswerLaws.{sized-expr, sized-pred, sized-none}
 use borrow.Author.Needs.{needs}
 use Rattle.line.proofs.whole.measured.Statement.{statement}
 use Rattle.line.proofs.whole.measured.Tie as tie
-use Rattle.line.proofs.whole.measured.Reads as reads
-use Rattle.line.proofs.whole.measured.Lts as lts
-use Rattle.line.proofs.whole.print_sort.Reads as print-sort-reads
 
 slice-aggregate-print-sort : tie.Need-slice-aggregate-print-sort
 slice-aggregate-print-sort c = search needs
