@@ -2,15 +2,15 @@
 use mathlib.Core.Path.{_≡_, refl, ap, sym, _∙_}
 use mathlib.Core.Bool.{Bool, true, false}
 use mathlib.Core.List.{List, [], _∷_, _++_, append-assoc}
-use Prim.Native.Nat.{ℕ, zero, suc, _+_, _-_, _≤_, _<_}
+use Prim.Native.Nat.{ℕ, suc, _+_, _≤_, _<_}
 use native.Mathlib.Omega.{arith}
 use borrow.Author.Tests.{le-leb, lt-leb, eq-eqb, ne-eqb}
-use lib.Dec.{leb, eqb}
+use lib.Dec.{eqb}
 use lib.ListN.{length, getD, take, drop, set, replicate, length-append, length-replicate}
-use lib.Seq.{set-append-seam, take-at, getD-take, length-take-le}
+use lib.Seq.{set-append-seam, take-at}
 use Rattle.form.specs.Form.{Form, pick, encode}
 use Rattle.form.specs.Tag.{Sort, expr, pred}
-use Rattle.form.specs.Decode.{Got, got, no-form, decode, Whole, one, not-one, whole, rowForm, Found, found, missing, asSort, either, formOf}
+use Rattle.form.specs.Decode.{got, decode, Whole, one, not-one, whole, rowForm, Found, found, missing, asSort, either, formOf}
 use Rattle.form.specs.Answer.{told, written}
 use Rattle.form.specs.declared.answer.Kind.the-variants.{Either}
 use Rattle.form.specs.declared.answer.Answer.the-variants.{Done, No}
@@ -21,10 +21,10 @@ use Rattle.line.specs.Spell.{decimal, spell, spellNo, printOutcome, prin
 use Rattle.line.specs.Internal.Writes.{Wrote, Printed, PrintedRow, sizedOf}
 use Rattle.line.specs.declared.print.Ends.{Ends}
 use Rattle.line.specs.declared.print.Ends.the-variants.{End, Bad}
-use Rattle.line.specs.declared.answer.Spelled.{Spelled}
-use Rattle.line.specs.declared.answer.Spelled.the-variants.{Bytes, NotOne}
-use Rattle.line.specs.declared.answer.Sized.{Sized}
-use Rattle.line.specs.declared.answer.Sized.the-variants.{Is, Neither}
+use Rattle.line.specs.declared.whole.Spelled.{Spelled}
+use Rattle.line.specs.declared.whole.Spelled.the-variants.{Bytes, NotOne}
+use Rattle.line.specs.declared.whole.Sized.{Sized}
+use Rattle.line.specs.declared.whole.Sized.the-variants.{Is, Neither}
 use Rattle.line.proofs.WriteLaws.{wrote-both, wrote-next, wrote-end}
 use Rattle.line.proofs.PrintLaws.{printed-end, printed-bad}
 
@@ -165,7 +165,7 @@ module _ (text bytes : List ℕ) (i : ℕ) where
     unfolding sameBytes
     same-more e = rw (here text i h, here bytes i l, eq-eqb (getD text i 0) (getD bytes i 0) e)
 
-same-lengths : (a b : List ℕ) → (length a ≡ length b → ⊥) → sameBytes a b ≡ false
+pub same-lengths : (a b : List ℕ) → (length a ≡ length b → ⊥) → sameBytes a b ≡ false
 unfolding sameBytes
 same-lengths [] [] n = absurd (n refl)
 same-lengths [] (y ∷ b) n = refl

@@ -5,3 +5,5 @@ pub mod ScanLaws
 pub mod OffsetLaws
 pub mod LineLaws
 pub mod AnswerLaws
+pub mod EntryLaws
+pub mod FitLaws

@@ -1,8 +1,8 @@
 -- The arguments of a line, from lists to positions. Assumes nothing.
-use mathlib.Core.Path.{_≡_, refl, ap, sym, _∙_}
+use mathlib.Core.Path.{_≡_, refl, sym, _∙_}
 use mathlib.Core.Bool.{Bool, true, false}
 use mathlib.Core.List.{List, [], _∷_}
-use Prim.Native.Nat.{ℕ, zero, suc, _+_, _-_, _≤_, _<_}
+use Prim.Native.Nat.{ℕ, _+_, _≤_, _<_}
 use native.Mathlib.Omega.{arith}
 use borrow.Author.Tests.{le-leb, lt-leb, eq-eqb, ne-eqb}
 use lib.IntN.{ℤ, pos}
@@ -12,7 +12,7 @@ use Rattle.form.specs.Form.{pick}
 use Rattle.form.proofs.DecodeLaws.{clash}
 use Rattle.form.proofs.HeadLaws.{gone, here}
 use Rattle.line.specs.Scan.{Scan, ended, broken, scanWords, group, Signed, signed, unsigned, offset}
-use Rattle.line.specs.Line.{heads, prefix, startOf, closing, closed, lastGroup, Formed, formed, formPart, formArg, space, nextArg, noList, ofOffset, shiftArgs, ofList, listArgs, args, listWords, readLine, listRow, lineOf, formRow}
+use Rattle.line.specs.Line.{heads, prefix, startOf, closing, lastGroup, formArg, nextArg, noList, shiftArgs, listArgs, args, listWords, readLine, listRow, lineOf, formRow}
 use Rattle.line.specs.Put.{put}
 use Rattle.line.specs.Internal.Places.{groupAt, Grouped, offsetAt, FormRead}
 use Rattle.line.specs.declared.group.Group.{Group}

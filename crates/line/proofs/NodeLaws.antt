@@ -7,9 +7,9 @@ use native.Mathlib.Numerals.{sub-one}
 use native.Mathlib.Omega.{arith}
 use lib.ListN.{length, getD, take, drop, length-append, length-take, length-drop}
 use lib.Seq.{take-at}
-use Rattle.form.specs.Form.{Leaf, free, bound, Form, leaf, node, Forms, none, pick, encode, encodeAll}
+use Rattle.form.specs.Form.{Leaf, free, bound, leaf, node, Forms, none, pick, encode, encodeAll}
 use Rattle.form.specs.Tag.{Sort, own, ownOf, shapeOf, sorts}
-use Rattle.form.specs.Decode.{Head, head, bad, read, Got, got, no-form, Gots, gots, no-forms, first, leafAt, isLeaf, make, close, decodeAll, branch, decode}
+use Rattle.form.specs.Decode.{Head, head, bad, read, no-form, Gots, gots, no-forms, first, leafAt, isLeaf, make, close, decodeAll, branch, decode}
 use Rattle.form.specs.Internal.Reads.{headAt}
 use Rattle.form.specs.declared.tag.Shape.{Shape}
 use Rattle.form.specs.declared.head.Head as code
@@ -22,7 +22,7 @@ use Rattle.line.specs.Internal.Writes.{Wrote, Printed, PrintedAll}
 use Rattle.line.specs.declared.print.Ends.{Ends}
 use Rattle.line.specs.declared.print.Ends.the-variants.{End, Bad}
 use Rattle.line.proofs.WriteLaws.{wrote-both, wrote-end, decimal-few, spaced-few}
-use Rattle.line.proofs.PrintLaws.{bad-printed, all-end, all-bad}
+use Rattle.line.proofs.PrintLaws.{bad-printed, all-bad}
 
 -- the bracket, the tag and the words of a node
 abbrev pub opening : ℕ → List ℕ → List ℕ

@@ -1,26 +1,20 @@
 -- What the printers of expressions and predicates write, by what is decoded at a position. Assumes nothing.
 use mathlib.Core.Path.{_≡_, refl, ap, sym, _∙_}
-use mathlib.Core.Bool.{Bool, true, false}
-use mathlib.Core.List.{List, [], _∷_, _++_, append-assoc}
+use mathlib.Core.List.{List, [], _∷_, _++_}
 use Prim.Native.Nat.{ℕ, zero, suc, _+_, _-_, _*_, _≤_, _<_}
 use native.Mathlib.Numerals.{sub-one}
 use native.Mathlib.Omega.{arith}
 use lib.ListN.{length, drop, set, replicate, length-append, length-drop}
-use Rattle.form.specs.Form.{Leaf, free, bound, Form, leaf, node, Forms, none, more, pick, encode, encodeAll}
-use Rattle.form.specs.Tag.{Sort, own, ownOf, shapeOf, sorts}
-use Rattle.form.specs.Decode.{Head, head, bad, read, Got, got, no-form, Gots, gots, no-forms, first, leafAt, isLeaf, make, addForm, close, chain, decodeAll, branch, decode}
-use Rattle.form.specs.Internal.Reads.{headAt}
-use Rattle.form.specs.declared.tag.Shape.{Shape}
-use Rattle.form.specs.declared.head.Head as code
-use Rattle.form.specs.declared.head.Head.the-variants.{Kids, None}
-use Rattle.form.proofs.DecodeLaws.{clash, read-exact, read-at, decode-sound, all-sound, decode-at, made}
-use Rattle.form.proofs.HeadLaws.{gone, here, head-rises}
+use Rattle.form.specs.Form.{Leaf, free, bound, Form, leaf, node, Forms, none, more, encode, encodeAll}
+use Rattle.form.specs.Tag.{Sort}
+use Rattle.form.specs.Decode.{Got, got, no-form, Gots, gots, no-forms, addForm, chain, decodeAll, decode}
+use Rattle.form.proofs.DecodeLaws.{clash, decode-sound, all-sound, decode-at}
 use Rattle.line.specs.Spell.{decimal, spaced, bracket, spellLeaf, spell, spellAll}
 use Rattle.line.specs.Put.{put}
 use Rattle.line.specs.Internal.Writes.{Wrote, Printed, PrintedAll}
 use Rattle.line.specs.declared.print.Ends.{Ends}
 use Rattle.line.specs.declared.print.Ends.the-variants.{End, Bad}
-use Rattle.line.proofs.WriteLaws.{put-append, wrote-both, wrote-end, decimal-few, spaced-few}
+use Rattle.line.proofs.WriteLaws.{put-append, wrote-both, decimal-few, spaced-few}
 
 -- a spelling has fewer than 13 bytes a word
 bracket-few : (t : ℕ) (ws ks : List ℕ) → length (bracket t ws ks) ≤ 12 + 11 * length ws + length ks

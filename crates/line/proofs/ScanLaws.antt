@@ -1,21 +1,20 @@
 -- Groups and decimal words, from lists to positions of the line. Assumes nothing.
 use mathlib.Core.Path.{_≡_, refl, ap, sym, _∙_}
 use mathlib.Core.Bool.{Bool, true, false}
-use mathlib.Core.List.{List, [], _∷_, _++_}
-use Prim.Native.Nat.{ℕ, zero, suc, _+_, _-_, _*_, _≤_, _<_}
+use mathlib.Core.List.{List, []}
+use Prim.Native.Nat.{ℕ, zero, suc, _+_, _-_, _≤_, _<_}
 use native.Mathlib.Omega.{arith}
 use borrow.Author.Tests.{le-leb, lt-leb, eq-eqb, ne-eqb}
-use lib.Dec.{leb, eqb}
-use lib.ListN.{length, getD, drop, length-append}
-use Rattle.form.specs.Form.{pick, between}
-use Rattle.form.proofs.DecodeLaws.{clash}
+use lib.Dec.{eqb}
+use lib.ListN.{length, getD, drop}
+use Rattle.form.specs.Form.{pick}
 use Rattle.form.proofs.HeadLaws.{gone, here}
-use Rattle.line.specs.Scan.{onDigit, turn, note, markWords, depthAfter, Scan, ended, broken, addByte, moved, scan, group, scanWords, Decimal, found, none, addDigit, turned, finished, number}
+use Rattle.line.specs.Scan.{onDigit, turn, note, markWords, depthAfter, Scan, ended, broken, addByte, moved, scan, group, scanWords, Decimal, found, none, addDigit, finished, number}
 use Rattle.line.specs.Put.{put}
 use Rattle.line.specs.Internal.Writes.{Wrote}
 use Rattle.line.specs.Internal.Places.{groupAt, Grouped, numberAt}
 use Rattle.line.specs.declared.turn.State.{State}
-use Rattle.line.specs.declared.turn.State.the-variants.{Opened, Spaced, Closed, Digits}
+use Rattle.line.specs.declared.turn.State.the-variants.{Opened, Digits}
 use Rattle.line.specs.declared.turn.Turn.{Turn}
 use Rattle.line.specs.declared.turn.Turn.the-variants.{To, Bad}
 use Rattle.line.specs.declared.turn.Mark.{Mark}

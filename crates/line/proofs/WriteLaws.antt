@@ -1,14 +1,14 @@
 -- Bytes written one after another. Assumes nothing.
-use mathlib.Core.Path.{_≡_, refl, ap, sym, _∙_}
+use mathlib.Core.Path.{_≡_, refl, sym, _∙_}
 use mathlib.Core.List.{List, [], _∷_, _++_}
 use Prim.Native.Nat.{ℕ, zero, suc, _+_, _-_, _*_, _≤_, _<_, _/_, _%_}
-use native.Mathlib.Numerals.{add-one, sub-one}
+use native.Mathlib.Numerals.{sub-one}
 use native.Mathlib.Omega.{arith}
 use lib.Dec.{ltb}
 use Rattle.form.proofs.HeadLaws.{here}
 use borrow.Author.Tests.{lt-ltb, le-ltb}
 use lib.ListN.{length, getD, take, drop, set, length-append, length-set}
-use lib.Seq.{set-out, drop-cons}
+use lib.Seq.{set-out}
 use mathlib.Core.Bool.{Bool, true, false}
 use Rattle.form.specs.Form.{pick}
 use Rattle.line.specs.Spell.{digits, decimal, spaced}

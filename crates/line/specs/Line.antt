@@ -12,7 +12,6 @@ use Rattle.line.specs.declared.head.Head.the-variants.{Shift, Free, Bind
 use Rattle.line.specs.declared.head.Start.{Start}
 use Rattle.line.specs.declared.head.Start.the-variants.{At, Unknown}
 use Rattle.line.specs.declared.line.Part.{Part}
-use Rattle.line.specs.declared.line.Parts.{Parts}
 use Rattle.line.specs.declared.line.Line.{Line}
 use Rattle.line.specs.declared.line.Line.the-variants.{Command, Misspelled}
 

@@ -1,6 +1,6 @@
 -- Reading bracket groups byte by byte. A group is '[' items ']' with single spaces between its items; an item is a decimal word or a group.
 -- Its row is its words in order; in a place list each group directly inside gives 0 where it is empty and 1 before its words otherwise.
-use mathlib.Core.Bool.{Bool, true, false, _&&_}
+use mathlib.Core.Bool.{Bool, _&&_}
 use mathlib.Core.List.{List, [], _∷_, _++_}
 use Prim.Native.Nat.{ℕ, zero, suc, _+_, _-_, _*_}
 use lib.Dec.{leb, eqb}

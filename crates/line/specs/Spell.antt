@@ -1,14 +1,14 @@
 -- The canonical spelling, in bytes ('[' is 91, ']' 93, ' ' 32, the digits 48 to 57): decimal words, forms, lists and refusals.
 use mathlib.Core.Bool.{Bool, true, false}
-use mathlib.Core.List.{List, [], _∷_, _++_, map}
+use mathlib.Core.List.{List, [], _∷_, _++_}
 use mathlib.Core.Option.{Option, none as absent, some}
 use Prim.Native.Nat.{ℕ, zero, suc, _+_, _/_, _%_}
 use lib.Dec.{leb, ltb, eqb}
 use lib.ListN.{length}
 use Rattle.form.specs.Form.{Leaf, free, bound, Form, leaf, node, Forms, none, more, pick}
 use Rattle.form.specs.Decode.{Found, found, missing, formOf}
-use Rattle.form.specs.Lists.{Place, kept, filled, Entry, entry, listOf}
-use Rattle.form.specs.Answer.{Outcome, answer, refusal, withForm, needs}
+use Rattle.form.specs.Lists.{kept, filled, Entry, entry, listOf}
+use Rattle.form.specs.Answer.{Outcome, answer, withForm, needs}
 use Rattle.form.specs.declared.answer.Kind.the-variants.{Either}
 use Rattle.form.specs.declared.lists.ListKind.{ListKind}
 use Rattle.form.specs.declared.lists.ListKind.the-variants.{Pairs, Places}
@@ -45,6 +45,27 @@ unfoldable mutual
   spellAll none = []
   spellAll (more f fs) = 32 ∷ (spell f ++ spellAll fs)
 
+-- a pair is a name and its expression; a place is `[]` or its expression
+unfoldable pub spellEntry : ListKind → Entry → List ℕ
+spellEntry Pairs (entry w kept) = 91 ∷ (decimal w ++ (93 ∷ []))
+spellEntry Pairs (entry w (filled f)) = 91 ∷ (decimal w ++ (32 ∷ (spell f ++ (93 ∷ []))))
+spellEntry Places (entry w kept) = 91 ∷ 93 ∷ []
+spellEntry Places (entry w (filled f)) = spell f
+
+-- entries, the first after the byte b, the others after a space
+unfoldable pub entriesAfter : ℕ → ListKind → List Entry → List ℕ
+entriesAfter b kind [] = []
+entriesAfter b kind (e ∷ es) = b ∷ (spellEntry kind e ++ entriesAfter 32 kind es)
+
+unfoldable pub spellList : ListKind → List Entry → List ℕ
+spellList kind [] = 91 ∷ 93 ∷ []
+spellList kind (e ∷ es) = entriesAfter 91 kind (e ∷ es) ++ (93 ∷ [])
+
+-- a list of names
+unfoldable pub spellNames : List ℕ → List ℕ
+spellNames [] = 91 ∷ 93 ∷ []
+spellNames (n ∷ ns) = bracket n ns []
+
 -- `[no k]`
 unfoldable pub spellNo : ℕ → List ℕ
 spellNo k = 91 ∷ 110 ∷ 111 ∷ 32 ∷ (decimal k ++ (93 ∷ []))
@@ -69,3 +90,14 @@ spells text missing = false
 
 unfoldable pub fitsForm : List ℕ → List ℕ → Bool
 fitsForm text row = pick (leb (length text) 65535) (spells text (formOf Either row)) false
+
+-- the same of lists
+abbrev pub lists : ListKind → List ℕ → Option (List Entry) → Bool
+lists kind text (some es) = sameBytes text (spellList kind es)
+lists kind text absent = false
+
+unfoldable pub fitsList : ListKind → List ℕ → List ℕ → Bool
+fitsList kind text row = pick (leb (length text) 65535) (pick (leb (length row) 8192) (lists kind text (listOf kind row)) false) false
+
+unfoldable pub fitsNames : List ℕ → List ℕ → Bool
+fitsNames text row = pick (leb (length text) 65535) (pick (leb (length row) 8192) (sameBytes text (spellNames row)) false) false

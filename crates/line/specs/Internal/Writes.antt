@@ -2,17 +2,20 @@
 use mathlib.Core.Path.{_≡_}
 use mathlib.Core.Bool.{Bool, true, false}
 use mathlib.Core.List.{List}
-use Prim.Native.Nat.{ℕ, _+_}
+use Prim.Native.Nat.{ℕ, _+_, _≤_}
 use lib.ListN.{length}
-use Rattle.form.specs.Form.{Form, Forms, encode, encodeAll}
+use Rattle.form.specs.Form.{encode, encodeAll}
 use Rattle.form.specs.Decode.{Got, got, no-form, Gots, gots, no-forms, Whole, one, not-one, Found, found, missing}
 use Rattle.form.specs.Tag.{Sort, expr, pred}
 use Rattle.line.specs.Put.{put}
-use Rattle.line.specs.declared.answer.Spelled.{Spelled}
-use Rattle.line.specs.declared.answer.Spelled.the-variants.{Bytes, NotOne}
-use Rattle.line.specs.declared.answer.Sized.{Sized}
-use Rattle.line.specs.declared.answer.Sized.the-variants.{Is, Neither}
-use Rattle.line.specs.Spell.{spell, spellAll}
+use Rattle.line.specs.declared.whole.Spelled.{Spelled}
+use Rattle.line.specs.declared.whole.Spelled.the-variants.{Bytes, NotOne}
+use Rattle.line.specs.declared.whole.Sized.{Sized}
+use Rattle.line.specs.declared.whole.Sized.the-variants.{Is, Neither}
+use Rattle.line.specs.Spell.{spell, spellAll, spellEntry, entriesAfter, spellList}
+use mathlib.Core.Option.{Option, none as absent, some}
+use Rattle.form.specs.Lists.{Entry, entryWords}
+use Rattle.form.specs.declared.lists.ListKind.{ListKind}
 use Rattle.line.specs.declared.print.Ends.{Ends}
 use Rattle.line.specs.declared.print.Ends.the-variants.{End, Bad}
 
@@ -40,3 +43,20 @@ isExpr pred = false
 unfoldable pub sizedOf : Found → Sized
 sizedOf (found s f) = Is (isExpr s) (length (spell f))
 sizedOf missing = Neither
+
+-- a printer of an entry, and of entries to the end of the row, the first after the byte b
+unfoldable pub PrintedEntry : ListKind → ℕ → ℕ → Option (Entry × List ℕ) → List ℕ → List ℕ → Ends → Type 0
+PrintedEntry kind at o (some x) a b r = (r ≡ End (at + length (entryWords (x .0))) (o + length (spellEntry kind (x .0)))) × (b ≡ put a o (spellEntry kind (x .0)))
+PrintedEntry kind at o absent a b r = r ≡ Bad
+
+unfoldable pub PrintedEntries : ℕ → ListKind → ℕ → Option (List Entry) → List ℕ → List ℕ → Spelled → Type 0
+PrintedEntries s kind o (some es) a b r = (r ≡ Bytes (o + length (entriesAfter s kind es))) × (b ≡ put a o (entriesAfter s kind es))
+PrintedEntries s kind o absent a b r = r ≡ NotOne
+
+unfoldable pub PrintedList : ListKind → Option (List Entry) → List ℕ → List ℕ → Spelled → Type 0
+PrintedList kind (some es) a b r = (r ≡ Bytes (length (spellList kind es))) × (b ≡ put a 0 (spellList kind es))
+PrintedList kind absent a b r = r ≡ NotOne
+
+abbrev pub AtMost : ℕ → Spelled → Type 0
+AtMost m (Bytes n) = n ≤ m
+AtMost m NotOne = Unit {0}

@@ -1,14 +1,9 @@
 -- `line::answer::print_form` meets its contract. Assumes nothing.
-use native.Mathlib.Omega.{arith}
 use borrow.Author.Needs.{needs}
 use Rattle.line.proofs.AnswerLaws.{form-long, form-none, form-room, form-done}
 use borrow.Author.Needs.{needs}
 use Rattle.line.proofs.answer.print_form.Statement.{statement}
 use Rattle.line.proofs.answer.print_form.Tie as tie
-use Rattle.line.proofs.answer.print_form.Reads as reads
-use Rattle.line.proofs.answer.print_form.Lts as lts
-use Rattle.line.proofs.answer.measured.Reads as measured-reads
-use Rattle.line.proofs.answer.print_sort.Reads as print-sort-reads
 
 returns : tie.Need-returns
 returns c = form-long _ _ (c .if1 .taken)

@@ -1,13 +1,9 @@
 -- `line::answer::print_no` meets its contract. Assumes nothing.
-use native.Mathlib.Omega.{arith}
 use borrow.Author.Needs.{needs}
 use Rattle.line.proofs.AnswerLaws.{no-room, no-done}
 use borrow.Author.Needs.{needs}
 use Rattle.line.proofs.answer.print_no.Statement.{statement}
 use Rattle.line.proofs.answer.print_no.Tie as tie
-use Rattle.line.proofs.answer.print_no.Reads as reads
-use Rattle.line.proofs.answer.print_no.Lts as lts
-use Rattle.line.proofs.answer.put_no.Reads as put-no-reads
 
 slice-aggregate-put-no : tie.Need-slice-aggregate-put-no
 slice-aggregate-put-no c = search needs

@@ -1,16 +1,10 @@
 -- `line::answer::put_no` meets its contract. Assumes nothing.
 use mathlib.Core.Path.{_∙_}
 use native.Mathlib.Omega.{arith}
-use borrow.Author.Needs.{needs}
 use Rattle.line.proofs.WriteLaws.{wrote-end, decimal-few}
 use Rattle.line.proofs.AnswerLaws.{wrote-no}
-use borrow.Author.Needs.{needs}
 use Rattle.line.proofs.answer.put_no.Statement.{statement}
 use Rattle.line.proofs.answer.put_no.Tie as tie
-use Rattle.line.proofs.answer.put_no.Reads as reads
-use Rattle.line.proofs.answer.put_no.Lts as lts
-use Rattle.line.proofs.decimal.put_byte.Reads as put-byte-reads
-use Rattle.line.proofs.decimal.put_decimal.Reads as put-decimal-reads
 
 put-byte-requires : tie.Need-put-byte-requires
 put-byte-requires c κs = omega arith

@@ -5,7 +5,8 @@ use Prim.Native.Nat.{_-_, _/_}
 use native.Mathlib.Omega.{arith}
 use borrow.Author.Needs.{needs}
 use Rattle.line.proofs.WriteLaws.{no-digits, last-digit, more-digits, wrote-end, digits-few}
-use Prim.Native.Nat.{ℕ, _<_}
+use Prim.Native.Nat.{ℕ}
+use Prim.Native.Nat.{_<_}
 use borrow.Fn.Kinds.{In}
 use borrow.Fn.PlainCycle.{Measures, is, falls, and}
 use Rattle.line.proofs.decimal.put_digits.Reads as put-digits

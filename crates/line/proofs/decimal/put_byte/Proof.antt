@@ -3,8 +3,6 @@ use Rattle.line.proofs.WriteLaws.{wrote-byte, wrote-out}
 use borrow.Author.Needs.{needs}
 use Rattle.line.proofs.decimal.put_byte.Statement.{statement}
 use Rattle.line.proofs.decimal.put_byte.Tie as tie
-use Rattle.line.proofs.decimal.put_byte.Reads as reads
-use Rattle.line.proofs.decimal.put_byte.Lts as lts
 
 add-result : tie.Need-add-result
 add-result c = search needs

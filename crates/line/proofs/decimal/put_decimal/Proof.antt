@@ -3,9 +3,6 @@ use Rattle.line.proofs.WriteLaws.{wrote-decimal}
 use borrow.Author.Needs.{needs}
 use Rattle.line.proofs.decimal.put_decimal.Statement.{statement}
 use Rattle.line.proofs.decimal.put_decimal.Tie as tie
-use Rattle.line.proofs.decimal.put_decimal.Reads as reads
-use Rattle.line.proofs.decimal.put_decimal.Lts as lts
-use Rattle.line.proofs.decimal.put_digits.Reads as put-digits-reads
 
 put-digits-requires : tie.Need-put-digits-requires
 put-digits-requires c κs = search needs

@@ -10,10 +10,6 @@ use Rattle.line.specs.Internal.Writes.{Wrote}
 use Rattle.line.proofs.WriteLaws.{wrote-end, decimal-few, spaced-more, spaced-none}
 use Rattle.line.proofs.decimal.put_spaced.Statement.{statement}
 use Rattle.line.proofs.decimal.put_spaced.Tie as tie
-use Rattle.line.proofs.decimal.put_spaced.Reads as reads
-use Rattle.line.proofs.decimal.put_spaced.Lts as lts
-use Rattle.line.proofs.decimal.put_byte.Reads as put-byte-reads
-use Rattle.line.proofs.decimal.put_decimal.Reads as put-decimal-reads
 
 abbrev Inv-loop : tie.InvT-loop
 Inv-loop row out₀ at end o p₀ q₀ out p q = ((b : List ℕ) (r : ℕ) → Wrote q (spaced (take (end - p) (drop p row))) out b r → Wrote o (spaced (take (end - at) (drop at row))) out₀ b r) × (at ≤ p) × (p ≤ end) × (q + 11 * (end - p) ≤ o + 11 * (end - at)) × (length out ≡ length out₀)

@@ -2,15 +2,12 @@
 use mathlib.Core.Path.{_≡_, refl, sym, _∙_}
 use Prim.Native.Nat.{_-_}
 use native.Mathlib.Omega.{arith}
-use borrow.Author.Needs.{needs}
 use lib.ListN.{length, take, drop}
 use lib.Seq.{length-take-le, getD-take}
 use Rattle.line.specs.Spell.{sameBytes}
 use Rattle.line.proofs.AnswerLaws.{same-other, same-more, same-done}
 use Rattle.line.proofs.fits.same.Statement.{statement}
 use Rattle.line.proofs.fits.same.Tie as tie
-use Rattle.line.proofs.fits.same.Reads as reads
-use Rattle.line.proofs.fits.same.Lts as lts
 
 abbrev Inv-loop : tie.InvT-loop
 Inv-loop text bytes i₀ i = sameBytes (drop i text) (drop i (take (length text) bytes)) ≡ sameBytes text (take (length text) bytes)

@@ -1,5 +1,5 @@
 -- `line::group::read_group` meets its contract. Assumes nothing.
-use mathlib.Core.Path.{_≡_, refl, sym, ap, _∙_}
+use mathlib.Core.Path.{_≡_, refl, _∙_}
 use native.Mathlib.Omega.{arith}
 use borrow.Author.Needs.{needs}
 use mathlib.Core.List.{List}
@@ -11,12 +11,6 @@ use Rattle.line.specs.declared.group.Group.{Group}
 use Rattle.line.proofs.ScanLaws.{group-past, group-other, group-first, scan-bad, scan-end, scan-more, scan-past, mark-few, mark-is, depth-few}
 use Rattle.line.proofs.group.read_group.Statement.{statement}
 use Rattle.line.proofs.group.read_group.Tie as tie
-use Rattle.line.proofs.group.read_group.Reads as reads
-use Rattle.line.proofs.group.read_group.Lts as lts
-use Rattle.line.proofs.turn.depth_after.Reads as depth-after-reads
-use Rattle.line.proofs.turn.next.Reads as next-reads
-use Rattle.line.proofs.turn.noted.Reads as noted-reads
-use Rattle.line.proofs.turn.put_mark.Reads as put-mark-reads
 
 abbrev Inv-loop : tie.InvT-loop
 Inv-loop line row₀ at places p₀ n₀ depth₀ state₀ row p n depth state = ((b : List ℕ) (r : Group) → Grouped p n (scan places depth state (drop p line)) row b r → Grouped at 0 (group places (drop at line)) row₀ b r) × (n ≤ p) × (depth ≤ p) × (0 < depth) × (p ≤ length line) × (length row ≡ length row₀)

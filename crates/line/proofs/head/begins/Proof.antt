@@ -1,15 +1,12 @@
 -- `line::head::begins` meets its contract. Assumes nothing.
 use mathlib.Core.Path.{_≡_, refl, sym, _∙_}
 use native.Mathlib.Omega.{arith}
-use borrow.Author.Needs.{needs}
 use Prim.Native.Nat.{_-_}
 use lib.ListN.{length, drop}
 use Rattle.line.specs.Line.{prefix}
 use Rattle.line.proofs.LineLaws.{prefix-short, prefix-other, prefix-more, prefix-all}
 use Rattle.line.proofs.head.begins.Statement.{statement}
 use Rattle.line.proofs.head.begins.Tie as tie
-use Rattle.line.proofs.head.begins.Reads as reads
-use Rattle.line.proofs.head.begins.Lts as lts
 
 abbrev Inv-loop : tie.InvT-loop
 Inv-loop line word i₀ i = prefix (drop i word) (drop i line) ≡ prefix word line

@@ -1,13 +1,10 @@
 -- `line::head::read_head` meets its contract. Assumes nothing.
-use mathlib.Core.Path.{_≡_, refl, sym, _∙_}
+use mathlib.Core.Path.{sym, _∙_}
 use borrow.Author.Needs.{needs}
 use Rattle.line.specs.Line.{heads}
 use borrow.Author.Needs.{needs}
 use Rattle.line.proofs.head.read_head.Statement.{statement}
 use Rattle.line.proofs.head.read_head.Tie as tie
-use Rattle.line.proofs.head.read_head.Reads as reads
-use Rattle.line.proofs.head.read_head.Lts as lts
-use Rattle.line.proofs.head.begins.Reads as begins-reads
 
 slice-aggregate-begins : tie.Need-slice-aggregate-begins
 slice-aggregate-begins c = search needs

@@ -1,13 +1,9 @@
 -- `line::line::last_group` meets its contract. Assumes nothing.
-use native.Mathlib.Omega.{arith}
 use borrow.Author.Needs.{needs}
 use Rattle.line.proofs.LineLaws.{last-broken, last-stop, last-go, closing-past, closing-other, closing-long, closing-is}
 use borrow.Author.Needs.{needs}
 use Rattle.line.proofs.line.last_group.Statement.{statement}
 use Rattle.line.proofs.line.last_group.Tie as tie
-use Rattle.line.proofs.line.last_group.Reads as reads
-use Rattle.line.proofs.line.last_group.Lts as lts
-use Rattle.line.proofs.group.read_group.Reads as read-group-reads
 
 read-group-requires : tie.Need-read-group-requires
 read-group-requires c κs = search needs

@@ -1,5 +1,4 @@
 -- `line::line::read_form` meets its contract. Assumes nothing.
-use native.Mathlib.Omega.{arith}
 use borrow.Author.Needs.{needs}
 use mir.Syntax.{w32}
 use mir.ValLaws.{toZ-ofZ}
@@ -7,9 +6,6 @@ use Rattle.line.proofs.LineLaws.{form-stop, form-go}
 use borrow.Author.Needs.{needs}
 use Rattle.line.proofs.line.read_form.Statement.{statement}
 use Rattle.line.proofs.line.read_form.Tie as tie
-use Rattle.line.proofs.line.read_form.Reads as reads
-use Rattle.line.proofs.line.read_form.Lts as lts
-use Rattle.line.proofs.line.last_group.Reads as last-group-reads
 
 last-group-requires : tie.Need-last-group-requires
 last-group-requires c κs = search needs

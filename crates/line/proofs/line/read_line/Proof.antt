@@ -1,6 +1,5 @@
 -- `line::line::read_line` meets its contract. Assumes nothing.
-use mathlib.Core.Path.{_≡_, refl, sym, _∙_}
-use native.Mathlib.Omega.{arith}
+use mathlib.Core.Path.{refl}
 use borrow.Author.Needs.{needs}
 use Rattle.line.specs.Line.{args, listWords}
 use Rattle.line.specs.Put.{put}
@@ -9,12 +8,6 @@ use Rattle.line.proofs.LineLaws.{line-long, line-unknown, line-args, at
 use borrow.Author.Needs.{needs}
 use Rattle.line.proofs.line.read_line.Statement.{statement}
 use Rattle.line.proofs.line.read_line.Tie as tie
-use Rattle.line.proofs.line.read_line.Reads as reads
-use Rattle.line.proofs.line.read_line.Lts as lts
-use Rattle.line.proofs.head.read_head.Reads as read-head-reads
-use Rattle.line.proofs.line.read_form.Reads as read-form-reads
-use Rattle.line.proofs.line.read_listed.Reads as read-listed-reads
-use Rattle.line.proofs.line.read_shift.Reads as read-shift-reads
 
 returns : tie.Need-returns
 returns c = line-long _ _ _ (c .if1 .taken)

@@ -1,14 +1,9 @@
 -- `line::line::read_listed` meets its contract. Assumes nothing.
-use native.Mathlib.Omega.{arith}
 use borrow.Author.Needs.{needs}
 use Rattle.line.proofs.LineLaws.{list-bad, list-go, list-kept}
 use borrow.Author.Needs.{needs}
 use Rattle.line.proofs.line.read_listed.Statement.{statement}
 use Rattle.line.proofs.line.read_listed.Tie as tie
-use Rattle.line.proofs.line.read_listed.Reads as reads
-use Rattle.line.proofs.line.read_listed.Lts as lts
-use Rattle.line.proofs.group.read_group.Reads as read-group-reads
-use Rattle.line.proofs.line.read_next.Reads as read-next-reads
 
 read-group-requires : tie.Need-read-group-requires
 read-group-requires c κs = search needs

@@ -1,5 +1,4 @@
 -- `line::line::read_next` meets its contract. Assumes nothing.
-use native.Mathlib.Omega.{arith}
 use borrow.Author.Needs.{needs}
 use mir.Syntax.{w32}
 use mir.ValLaws.{toZ-ofZ}
@@ -7,9 +6,6 @@ use Rattle.line.proofs.LineLaws.{next-past, next-other, next-go}
 use borrow.Author.Needs.{needs}
 use Rattle.line.proofs.line.read_next.Statement.{statement}
 use Rattle.line.proofs.line.read_next.Tie as tie
-use Rattle.line.proofs.line.read_next.Reads as reads
-use Rattle.line.proofs.line.read_next.Lts as lts
-use Rattle.line.proofs.line.read_form.Reads as read-form-reads
 
 returns : tie.Need-returns
 returns c = next-past _ _ _ _ _ _ (c .if1 .taken)

@@ -1,15 +1,10 @@
 -- `line::line::read_shift` meets its contract. Assumes nothing.
-use native.Mathlib.Omega.{arith}
 use borrow.Author.Needs.{needs}
 use Rattle.line.proofs.LineLaws.{shift-bad, shift-go}
 use Rattle.line.proofs.OffsetLaws.{offset-back}
 use borrow.Author.Needs.{needs}
 use Rattle.line.proofs.line.read_shift.Statement.{statement}
 use Rattle.line.proofs.line.read_shift.Tie as tie
-use Rattle.line.proofs.line.read_shift.Reads as reads
-use Rattle.line.proofs.line.read_shift.Lts as lts
-use Rattle.line.proofs.line.read_next.Reads as read-next-reads
-use Rattle.line.proofs.number.read_offset.Reads as read-offset-reads
 
 read-offset-requires : tie.Need-read-offset-requires
 read-offset-requires c κs = search needs

@@ -3,8 +3,6 @@ use Rattle.line.proofs.OffsetLaws.{below-none, below-far, below-fits, b
 use borrow.Author.Needs.{needs}
 use Rattle.line.proofs.number.below_zero.Statement.{statement}
 use Rattle.line.proofs.number.below_zero.Tie as tie
-use Rattle.line.proofs.number.below_zero.Reads as reads
-use Rattle.line.proofs.number.below_zero.Lts as lts
 
 returns : tie.Need-returns
 returns c = below-none _ _ (c .if1 .taken)

@@ -5,8 +5,6 @@ use Rattle.line.proofs.ScanLaws.{number-end}
 use borrow.Author.Needs.{needs}
 use Rattle.line.proofs.number.ended.Statement.{statement}
 use Rattle.line.proofs.number.ended.Tie as tie
-use Rattle.line.proofs.number.ended.Reads as reads
-use Rattle.line.proofs.number.ended.Lts as lts
 
 enum-told : tie.Need-enum-told
 enum-told c = search needs

@@ -3,8 +3,6 @@ use Rattle.line.proofs.OffsetLaws.{from-far, from-is}
 use borrow.Author.Needs.{needs}
 use Rattle.line.proofs.number.from_zero.Statement.{statement}
 use Rattle.line.proofs.number.from_zero.Tie as tie
-use Rattle.line.proofs.number.from_zero.Reads as reads
-use Rattle.line.proofs.number.from_zero.Lts as lts
 
 returns : tie.Need-returns
 returns c = from-far _ _ (c .if1 .taken)

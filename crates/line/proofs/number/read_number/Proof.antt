@@ -1,5 +1,5 @@
 -- `line::number::read_number` meets its contract. Assumes nothing.
-use mathlib.Core.Path.{_≡_, refl, sym, ap, _∙_}
+use mathlib.Core.Path.{_≡_, refl, sym, _∙_}
 use native.Mathlib.Omega.{arith}
 use borrow.Author.Needs.{needs}
 use Prim.Native.Nat.{_-_}
@@ -10,10 +10,6 @@ use Rattle.line.specs.declared.turn.State.the-variants.{Spaced}
 use Rattle.line.proofs.ScanLaws.{number-low, number-high, number-bad, number-more, number-past}
 use Rattle.line.proofs.number.read_number.Statement.{statement}
 use Rattle.line.proofs.number.read_number.Tie as tie
-use Rattle.line.proofs.number.read_number.Reads as reads
-use Rattle.line.proofs.number.read_number.Lts as lts
-use Rattle.line.proofs.number.ended.Reads as ended-reads
-use Rattle.line.proofs.turn.after_digit.Reads as after-digit-reads
 
 abbrev Inv-loop : tie.InvT-loop
 Inv-loop line at p₀ state₀ p state = numberAt p (number state (drop p line)) ≡ numberAt at (number Spaced (drop at line))

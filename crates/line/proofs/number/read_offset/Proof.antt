@@ -1,14 +1,9 @@
 -- `line::number::read_offset` meets its contract. Assumes nothing.
-use mathlib.Core.Path.{_≡_, refl, sym, ap, _∙_}
+use mathlib.Core.Path.{sym, _∙_}
 use Rattle.line.proofs.OffsetLaws.{offset-past, minus-bad, minus-is, plain-bad, plain-is}
 use borrow.Author.Needs.{needs}
 use Rattle.line.proofs.number.read_offset.Statement.{statement}
 use Rattle.line.proofs.number.read_offset.Tie as tie
-use Rattle.line.proofs.number.read_offset.Reads as reads
-use Rattle.line.proofs.number.read_offset.Lts as lts
-use Rattle.line.proofs.number.below_zero.Reads as below-zero-reads
-use Rattle.line.proofs.number.from_zero.Reads as from-zero-reads
-use Rattle.line.proofs.number.read_number.Reads as read-number-reads
 
 returns : tie.Need-returns
 returns c = offset-past _ _ (c .if1 .taken)

@@ -14,7 +14,8 @@ use Rattle.line.specs.Internal.Writes.{PrintedAll}
 use Rattle.line.proofs.WriteLaws.{wrote-end}
 use Rattle.line.proofs.PrintLaws.{printed-within, all-within, all-more, all-stop, all-none, both-go, both-stop}
 use Rattle.line.proofs.NodeLaws.{opening-few, too-deep, past-end, no-own, kids-stop, a-form, kids-within}
-use Prim.Native.Nat.{ℕ, _<_}
+use Prim.Native.Nat.{ℕ}
+use Prim.Native.Nat.{_<_}
 use borrow.Fn.Kinds.{In}
 use borrow.Fn.PlainCycle.{Measures, is, falls, and}
 use Rattle.line.proofs.print.print_expr.Reads as print-expr

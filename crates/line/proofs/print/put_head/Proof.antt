@@ -8,11 +8,6 @@ use Rattle.line.proofs.NodeLaws.{wrote-opening}
 use borrow.Author.Needs.{needs}
 use Rattle.line.proofs.print.put_head.Statement.{statement}
 use Rattle.line.proofs.print.put_head.Tie as tie
-use Rattle.line.proofs.print.put_head.Reads as reads
-use Rattle.line.proofs.print.put_head.Lts as lts
-use Rattle.line.proofs.decimal.put_byte.Reads as put-byte-reads
-use Rattle.line.proofs.decimal.put_decimal.Reads as put-decimal-reads
-use Rattle.line.proofs.decimal.put_spaced.Reads as put-spaced-reads
 
 put-byte-requires : tie.Need-put-byte-requires
 put-byte-requires c κs = search needs

@@ -3,9 +3,6 @@ use Rattle.line.specs.Scan.{onDigit}
 use borrow.Author.Needs.{needs}
 use Rattle.line.proofs.turn.after_digit.Statement.{statement}
 use Rattle.line.proofs.turn.after_digit.Tie as tie
-use Rattle.line.proofs.turn.after_digit.Reads as reads
-use Rattle.line.proofs.turn.after_digit.Lts as lts
-use Rattle.line.proofs.turn.longer.Reads as longer-reads
 
 enum-told : tie.Need-enum-told
 enum-told c = search needs

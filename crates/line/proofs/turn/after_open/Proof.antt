@@ -3,8 +3,6 @@
 use borrow.Author.Needs.{needs}
 use Rattle.line.proofs.turn.after_open.Statement.{statement}
 use Rattle.line.proofs.turn.after_open.Tie as tie
-use Rattle.line.proofs.turn.after_open.Reads as reads
-use Rattle.line.proofs.turn.after_open.Lts as lts
 
 enum-told : tie.Need-enum-told
 enum-told c = search needs

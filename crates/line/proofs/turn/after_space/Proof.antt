@@ -3,8 +3,6 @@
 use borrow.Author.Needs.{needs}
 use Rattle.line.proofs.turn.after_space.Statement.{statement}
 use Rattle.line.proofs.turn.after_space.Tie as tie
-use Rattle.line.proofs.turn.after_space.Reads as reads
-use Rattle.line.proofs.turn.after_space.Lts as lts
 
 enum-told : tie.Need-enum-told
 enum-told c = search needs

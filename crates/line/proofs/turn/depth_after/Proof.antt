@@ -4,8 +4,6 @@ use Rattle.line.specs.Scan.{depthAfter}
 use borrow.Author.Needs.{needs}
 use Rattle.line.proofs.turn.depth_after.Statement.{statement}
 use Rattle.line.proofs.turn.depth_after.Tie as tie
-use Rattle.line.proofs.turn.depth_after.Reads as reads
-use Rattle.line.proofs.turn.depth_after.Lts as lts
 
 add-result : tie.Need-add-result
 add-result c = search needs

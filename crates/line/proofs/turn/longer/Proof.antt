@@ -6,8 +6,6 @@ use Rattle.line.specs.Scan.{onDigit}
 use borrow.Author.Needs.{needs}
 use Rattle.line.proofs.turn.longer.Statement.{statement}
 use Rattle.line.proofs.turn.longer.Tie as tie
-use Rattle.line.proofs.turn.longer.Reads as reads
-use Rattle.line.proofs.turn.longer.Lts as lts
 
 returns : tie.Need-returns
 unfolding onDigit

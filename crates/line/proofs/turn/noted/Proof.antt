@@ -3,10 +3,6 @@ use Rattle.line.specs.Scan.{note}
 use borrow.Author.Needs.{needs}
 use Rattle.line.proofs.turn.noted.Statement.{statement}
 use Rattle.line.proofs.turn.noted.Tie as tie
-use Rattle.line.proofs.turn.noted.Reads as reads
-use Rattle.line.proofs.turn.noted.Lts as lts
-use Rattle.line.proofs.turn.place_mark.Reads as place-mark-reads
-use Rattle.line.proofs.turn.word_mark.Reads as word-mark-reads
 
 enum-told : tie.Need-enum-told
 enum-told c = search needs

@@ -3,8 +3,6 @@ use borrow.Author.Tests.{eq-eqb, ne-eqb, not-true, not-false}
 use Rattle.line.specs.Scan.{note}
 use Rattle.line.proofs.turn.place_mark.Statement.{statement}
 use Rattle.line.proofs.turn.place_mark.Tie as tie
-use Rattle.line.proofs.turn.place_mark.Reads as reads
-use Rattle.line.proofs.turn.place_mark.Lts as lts
 
 returns : tie.Need-returns
 unfolding note

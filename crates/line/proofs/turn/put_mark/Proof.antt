@@ -4,8 +4,6 @@ use Rattle.line.specs.Scan.{markWords}
 use borrow.Author.Needs.{needs}
 use Rattle.line.proofs.turn.put_mark.Statement.{statement}
 use Rattle.line.proofs.turn.put_mark.Tie as tie
-use Rattle.line.proofs.turn.put_mark.Reads as reads
-use Rattle.line.proofs.turn.put_mark.Lts as lts
 
 enum-known-mark : tie.Need-enum-known-mark
 enum-known-mark c = search needs

@@ -3,8 +3,6 @@ use borrow.Author.Tests.{le-leb, lt-leb}
 use Rattle.line.specs.Scan.{note}
 use Rattle.line.proofs.turn.word_mark.Statement.{statement}
 use Rattle.line.proofs.turn.word_mark.Tie as tie
-use Rattle.line.proofs.turn.word_mark.Reads as reads
-use Rattle.line.proofs.turn.word_mark.Lts as lts
 
 returns : tie.Need-returns
 unfolding note

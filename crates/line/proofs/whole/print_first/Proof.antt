@@ -1,13 +1,7 @@
--- `line::answer::print_first` meets its contract. Assumes nothing.
+-- `line::whole::print_first` meets its contract. Assumes nothing.
 use native.Mathlib.Omega.{arith}
-use borrow.Author.Needs.{needs}
-use borrow.Author.Needs.{needs}
-use Rattle.line.proofs.answer.print_first.Statement.{statement}
-use Rattle.line.proofs.answer.print_first.Tie as tie
-use Rattle.line.proofs.answer.print_first.Reads as reads
-use Rattle.line.proofs.answer.print_first.Lts as lts
-use Rattle.line.proofs.print.print_expr.Reads as print-expr-reads
-use Rattle.line.proofs.print.print_pred.Reads as print-pred-reads
+use Rattle.line.proofs.whole.print_first.Statement.{statement}
+use Rattle.line.proofs.whole.print_first.Tie as tie
 
 print-expr-requires : tie.Need-print-expr-requires
 print-expr-requires c κs = omega arith

@@ -1,13 +1,9 @@
--- `line::answer::print_sort` meets its contract. Assumes nothing.
-use native.Mathlib.Omega.{arith}
+-- `line::whole::print_sort` meets its contract. Assumes nothing.
 use borrow.Author.Needs.{needs}
 use Rattle.line.proofs.AnswerLaws.{sort-bad, sort-whole, sort-part}
 use borrow.Author.Needs.{needs}
-use Rattle.line.proofs.answer.print_sort.Statement.{statement}
-use Rattle.line.proofs.answer.print_sort.Tie as tie
-use Rattle.line.proofs.answer.print_sort.Reads as reads
-use Rattle.line.proofs.answer.print_sort.Lts as lts
-use Rattle.line.proofs.answer.print_first.Reads as print-first-reads
+use Rattle.line.proofs.whole.print_sort.Statement.{statement}
+use Rattle.line.proofs.whole.print_sort.Tie as tie
 
 print-first-requires : tie.Need-print-first-requires
 print-first-requires c κs = search needs

@@ -1,13 +1,9 @@
--- `line::answer::measured` meets its contract. Assumes nothing.
-use native.Mathlib.Omega.{arith}
+-- `line::whole::measured` meets its contract. Assumes nothing.
 use borrow.Author.Needs.{needs}
 use Rattle.line.proofs.AnswerLaws.{sized-expr, sized-pred, sized-none}
 use borrow.Author.Needs.{needs}
-use Rattle.line.proofs.answer.measured.Statement.{statement}
-use Rattle.line.proofs.answer.measured.Tie as tie
-use Rattle.line.proofs.answer.measured.Reads as reads
-use Rattle.line.proofs.answer.measured.Lts as lts
-use Rattle.line.proofs.answer.print_sort.Reads as print-sort-reads
+use Rattle.line.proofs.whole.measured.Statement.{statement}
+use Rattle.line.proofs.whole.measured.Tie as tie
 
 slice-aggregate-print-sort : tie.Need-slice-aggregate-print-sort
 slice-aggregate-print-sort c = search needs
