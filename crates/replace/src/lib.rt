@@ -1,1 +1,4 @@
 // Replacements that change a form's length: free substitution, filling of declarations, pruning.
+mod build;
+mod marks;
+pub mod pieces;

@@ -69,7 +69,7 @@ module _ (row marks : List ℕ) (i : ℕ) (low : i < length row) where
     item-ident n h = rw (here row i low, here marks i in-marks, here row (i + 1) h, ident-item (getD row i 0) (getD row (i + 1) 0) (getD marks i 0) (drop (i + 1 + 1) row) (drop (i + 1) marks) n)
 
 module _ (row marks : List ℕ) (i : ℕ) (low : i < length row) {x : Item} (at : x ≡ itemAt (drop i row) (drop i marks)) where
-  next : items (drop i row) (drop i marks) ≡ x ∷ items (drop (i + sizeOf x) row) (drop (i + sizeOf x) marks)
+  pub next : items (drop i row) (drop i marks) ≡ x ∷ items (drop (i + sizeOf x) row) (drop (i + sizeOf x) marks)
   next = rw (← drop-drop (sizeOf x) i row, ← drop-drop (sizeOf x) i marks, at) (rw (here row i low) (items-next _ (drop (i + 1) row) (drop i marks)))
 
   pub size-in : i + sizeOf x ≤ length row
@@ -90,7 +90,7 @@ unfolding allItems items
 all-none q row marks i h = rw (gone row i h)
 
 -- a rewriting that keeps the length
-store-append : (l : List ℕ) (i : ℕ) (v w : List ℕ) → store l i (v ++ w) ≡ store (store l i v) (i + length v) w
+pub store-append : (l : List ℕ) (i : ℕ) (v w : List ℕ) → store l i (v ++ w) ≡ store (store l i v) (i + length v) w
 unfolding store
 store-append l i [] w = rw add-zero refl
 store-append l i (x ∷ v) w =
@@ -115,7 +115,7 @@ module _ (g : Item → List ℕ) (keep : (y : Item) → length (g y) ≡ sizeOf 
   rewritten-length (w ∷ []) (suc k ∷ ms) = rw (length-append, keep (Plain w)) (omega arith)
   rewritten-length (w ∷ v ∷ ws) (suc k ∷ ms) = rw (length-append, keep (Ident k w v), rewritten-length ws (drop 1 ms)) (omega arith)
 
-store-front : (a b ws : List ℕ) (i : ℕ) → length a ≡ i → length ws ≤ length b → store (a ++ b) i ws ≡ a ++ (ws ++ drop (length ws) b)
+pub store-front : (a b ws : List ℕ) (i : ℕ) → length a ≡ i → length ws ≤ length b → store (a ++ b) i ws ≡ a ++ (ws ++ drop (length ws) b)
 unfolding store
 store-front a b [] i e h = refl
 store-front a [] (w ∷ ws) i e h = absurd (omega arith)

@@ -27,6 +27,7 @@ module _ (q : Item → Bool) (g : Item → List ℕ) (n : ℕ) (row marks out : 
       done = rw (← e, h, le-leb (length row) (length out) l)
 
       pub answers : (Done (length row) ≡ told (sameLength q g n row marks (length out))) × (out′ ≡ written (sameLength q g n row marks (length out)) out)
-      answers =
-          (rw done (ap Done (sym (rewritten-length g keep row marks))),
-          rw (done, w) (stored out (rewritten g (items row marks)) (rw (rewritten-length g keep row marks) l)))
+      answers = (
+        rw done (ap Done (sym (rewritten-length g keep row marks))),
+        rw (done, w) (stored out (rewritten g (items row marks)) (rw (rewritten-length g keep row marks) l)),
+      )

@@ -1,0 +1,4 @@
+pub mod PieceLaws
+pub mod MarkLaws
+pub mod EntryLaws
+pub mod BuildLaws
