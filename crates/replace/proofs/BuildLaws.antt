@@ -3,12 +3,12 @@ use mathlib.Core.Path.{_≡_, refl, ap, sym, _∙_}
 use mathlib.Core.Bool.{Bool, true, false}
 use mathlib.Core.List.{List, [], _∷_, _++_}
 use Prim.Native.Nat.{ℕ, _+_, _-_, _≤_, _<_}
-use native.Mathlib.Nat.{zero-add}
+use native.Mathlib.Nat.{zero-add, le-refl}
 use native.Mathlib.Omega.{arith}
 use borrow.Author.Tests.{le-leb, lt-leb}
 use lib.Dec.{leb}
-use lib.ListN.{length, take, drop, length-append}
-use lib.Seq.{take-at}
+use lib.ListN.{length, take, drop, length-append, length-drop}
+use lib.Seq.{take-at, take-all}
 use Rattle.form.specs.Form.{Form, encode, pick}
 use Rattle.form.specs.Tag.{Sort, expr, pred}
 use Rattle.form.specs.Decode.{Whole, one, not-one, rowForm, Found, found, missing, asSort, formOf}
@@ -112,3 +112,10 @@ module _ (kind : Kind) (head : List ℕ) (p : Plan) (list lm row marks : List �
   pub replaced-long : 8192 < length head + sizes p (items row marks) → replaced kind head p list lm row marks room ≡ refusal 7
   unfolding replaced
   replaced-long h = emit-long kind (head ++ rewritten (planned p list lm) (items row marks)) room (rw (length-append, planned-length p list lm inside) h)
+
+-- the words of a row from n on, as a part
+pub rest-part : (l : List ℕ) (n : ℕ) → take (length l - n) (drop n l) ≡ drop n l
+rest-part l n = take-all (length l - n) (drop n l) (rw length-drop (le-refl _))
+
+pub same-replaced : (kind kind′ : Kind) (head : List ℕ) (p : Plan) (list lm lm′ row marks : List ℕ) (room : ℕ) → kind ≡ kind′ → lm ≡ lm′ → replaced kind head p list lm row marks room ≡ replaced kind′ head p list lm′ row marks room
+same-replaced kind kind′ head p list lm lm′ row marks room a b = rw (a, b)

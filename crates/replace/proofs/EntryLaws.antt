@@ -2,21 +2,23 @@
 use mathlib.Core.Path.{_≡_, refl, ap, sym, _∙_}
 use mathlib.Core.Bool.{Bool, true, false}
 use mathlib.Core.List.{List, [], _∷_, _++_, append-assoc, append-nil, map}
+use mathlib.Core.Option.{some}
 use Prim.Native.Nat.{ℕ, zero, suc, _+_, _-_, _≤_, _<_}
+use native.Mathlib.Nat.{zero-add}
 use native.Mathlib.Numerals.{add-one}
 use native.Mathlib.Omega.{arith}
 use borrow.Author.Tests.{lt-leb}
-use lib.ListN.{length, getD, take, drop, set, replicate, length-append, length-set, length-map}
+use lib.ListN.{length, getD, take, drop, set, replicate, length-append, length-set, take-append-drop}
 use lib.Seq.{take-at, drop-at, take-suc-set, getD-take}
 use Rattle.form.specs.Form.{Form, encode}
 use Rattle.form.specs.Tag.{expr}
-use Rattle.form.specs.Lists.{Place, kept, filled, Entry, entry, placeOf, placeWords, entryWords, encodeList, wordOf}
+use Rattle.form.specs.Lists.{Place, kept, filled, Entry, entry, placeOf, placeWords, entryWords, encodeList, wordOf, listOf}
 use Rattle.form.specs.Internal.Reads.{markEntries, emptyTable, addRow, tabled}
 use Rattle.form.specs.declared.lists.ListKind.{ListKind}
 use Rattle.form.specs.declared.lists.ListKind.the-variants.{Pairs, Places}
 use Rattle.form.specs.declared.lists.Table.{Table}
 use Rattle.form.proofs.DecodeLaws.{Ok}
-use Rattle.form.proofs.ListLaws.{Good, GoodAll}
+use Rattle.form.proofs.ListLaws.{Good, GoodAll, list-sound}
 use Rattle.form.proofs.TableLaws.{row-more, tabled-n, listed-n}
 use Rattle.subst.specs.Walk.{each}
 use Rattle.subst.specs.Internal.Items.{items}
@@ -36,10 +38,6 @@ start at e = at + 1
 abbrev pub end : ℕ → Entry → ℕ
 end at e = at + length (entryWords e)
 
-empty-n : emptyTable .n ≡ 0
-unfolding emptyTable
-empty-n = refl
-
 module _ (col : Table → List ℕ) (val : ℕ → Entry → ℕ)
     (adds : (t : Table) (at : ℕ) (e : Entry) → t .n < 32 → col (addRow t (wordOf e) (at + 1) (at + length (entryWords e))) ≡ set (col t) (t .n) (val at e)) where
   take-col : (t u : Table) (w : ℕ) → t .n < length (col t) → u .n ≡ t .n + 1 → col u ≡ set (col t) (t .n) w → take (u .n) (col u) ≡ take (t .n) (col t) ++ (w ∷ [])
@@ -56,11 +54,14 @@ module _ (col : Table → List ℕ) (val : ℕ → Entry → ℕ)
       tabled-col es s u (omega arith) (ap length v ∙ length-set (col t) (t .n) (val at e) ∙ l)
       ∙ ap (λ l. l ++ column val s es) (take-col t u (val at e) (omega arith) n v) ∙ append-assoc (take (t .n) (col t)) (val at e ∷ []) (column val s es)
 
+  listed-take : (es : List Entry) → length es ≤ 32 → length (col emptyTable) ≡ 32 → take (tabled es 0 emptyTable .n) (col (tabled es 0 emptyTable)) ≡ column val 0 es
+  unfolding emptyTable
+  listed-take es h l = tabled-col es 0 emptyTable (omega arith) l
+
   pub listed-col : (es : List Entry) (i : ℕ) → length es ≤ 32 → length (col emptyTable) ≡ 32 → i < length es → getD (col (tabled es 0 emptyTable)) i 0 ≡ getD (column val 0 es) i 0
   listed-col es i h l low =
       let n = listed-n es in
-      let q = rw empty-n at (tabled-col es 0 emptyTable (rw empty-n (omega arith)) l) in
-      sym (getD-take (tabled es 0 emptyTable .n) (col (tabled es 0 emptyTable)) i 0 (omega arith)) ∙ ap (λ z. getD z i 0) q
+      sym (getD-take (tabled es 0 emptyTable .n) (col (tabled es 0 emptyTable)) i 0 (omega arith)) ∙ ap (λ z. getD z i 0) (listed-take es h l)
 
 add-start : (t : Table) (at : ℕ) (e : Entry) → t .n < 32 → addRow t (wordOf e) (at + 1) (at + length (entryWords e)) .starts ≡ set (t .starts) (t .n) (start at e)
 unfolding addRow
@@ -135,3 +136,23 @@ entry-place kind (entry w p ∷ es) g a a′ b b′ at h h′ (suc i) l =
     rw (y, z)
     (entry-place kind es (g .1) (a ++ (w ∷ placeWords p)) (a′ ++ (0 ∷ marksPlace p)) b b′ (at + suc (length (placeWords p))) (rw length-append (omega arith))
     (rw (length-append, place-length p) (omega arith)) i (omega arith))
+
+moved-place : (K : Type 0) (list list′ lm lm′ : List ℕ) (s e : ℕ) (p : Place) → PlaceAt K list lm s e p → list ≡ list′ → lm ≡ lm′ → PlaceAt K list′ lm′ s e p
+moved-place K list list′ lm lm′ s e p h a b = rw (← a, ← b) h
+
+-- the places of a list that was read, by its table
+module _ (kind : ListKind) (list : List ℕ) (es : List Entry) (is : listOf kind list ≡ some es) (few : length es ≤ 32) where
+  pub listed-in-row : (i : ℕ) → i < length es
+      → (getD (tabled es 0 emptyTable .starts) i 0 ≤ getD (tabled es 0 emptyTable .ends) i 0) × (getD (tabled es 0 emptyTable .ends) i 0 ≤ length list)
+  listed-in-row i h = rw (start-at es few i h, end-at es few i h, list-sound kind list es is .0) (rw zero-add at (spans es 0 i h))
+
+  pub listed-places : (lm : List ℕ) → take (length list) lm ≡ markEntries es 0 (replicate (length list) 0) → (i : ℕ) → i < length es
+      → PlaceAt (Kept kind) list lm (getD (tabled es 0 emptyTable .starts) i 0) (getD (tabled es 0 emptyTable .ends) i 0) (getD (map placeOf es) i kept)
+  listed-places lm k i h =
+      let w = list-sound kind list es is .0 in
+      let g = list-sound kind list es is .1 in
+      let q : take (length list) lm ≡ marksList es = k ∙ rw w (only-entries es) in
+      let m : marksList es ++ drop (length list) lm ≡ lm = rw (← q) (take-append-drop (length list) lm) in
+      rw (start-at es few i h, end-at es few i h)
+      (moved-place (Kept kind) (encodeList es ++ []) list (marksList es ++ drop (length list) lm) lm (getD (column start 0 es) i 0) (getD (column end 0 es) i 0) (getD (map placeOf es) i kept)
+      (entry-place kind es g [] [] [] (drop (length list) lm) 0 refl refl i h) (append-nil (encodeList es) ∙ sym w) m)

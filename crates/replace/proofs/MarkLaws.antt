@@ -18,6 +18,7 @@ use Rattle.form.specs.declared.lists.Listed.{Listed}
 use Rattle.form.proofs.HeadLaws.{here, gone}
 use Rattle.form.proofs.ListLaws.{list-sound}
 use Rattle.subst.specs.Internal.Items.{items, store}
+use Rattle.subst.specs.declared.items.Item.the-variants.{Plain, Ident}
 use Rattle.subst.proofs.CheckedLaws.{found-row}
 use Rattle.subst.proofs.ItemLaws.{stored, store-append, store-front}
 use Rattle.subst.proofs.RowLaws.{zeros, marksOf, zeros-append, zeros-length, marks-length, mark-zeros}
@@ -154,3 +155,13 @@ copy-more ws l l′ i h e = rw (here ws i h, e)
 pub copy-none : (ws l : List ℕ) (i : ℕ) → length ws ≤ i → store l i (drop i ws) ≡ l
 unfolding store
 copy-none ws l i h = rw (gone ws i h)
+
+-- marks past the row's end say nothing
+pub items-take : (ws ms : List ℕ) → items ws (take (length ws) ms) ≡ items ws ms
+unfolding items
+items-take [] ms = refl
+items-take (w ∷ ws) [] = refl
+items-take (w ∷ ws) (zero ∷ ms) = ap (λ z. Plain w ∷ z) (items-take ws ms)
+items-take (w ∷ []) (suc k ∷ ms) = refl
+items-take (w ∷ v ∷ ws) (suc k ∷ []) = refl
+items-take (w ∷ v ∷ ws) (suc k ∷ y ∷ ms) = ap (λ z. Ident k w v ∷ z) (items-take ws ms)

@@ -1,4 +1,5 @@
 // Replacements that change a form's length: free substitution, filling of declarations, pruning.
 mod build;
+pub mod free;
 mod marks;
 pub mod pieces;

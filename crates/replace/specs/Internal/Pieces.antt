@@ -10,6 +10,8 @@ use Rattle.form.specs.Form.{pick}
 use Rattle.form.specs.Decode.{Found, found, missing, formOf}
 use Rattle.form.specs.Answer.{Outcome, answer, needs}
 use Rattle.form.specs.declared.answer.Kind.{Kind}
+use Rattle.form.specs.declared.answer.Kind.the-variants.{Expression, Predicate}
+use Rattle.form.specs.declared.lists.Table.{Table}
 use Rattle.subst.specs.Internal.Items.{items, sizeOf, wordsOf, rewritten, movedWords}
 use Rattle.subst.specs.declared.items.Item.{Item}
 use Rattle.subst.specs.declared.items.Item.the-variants.{Plain, Ident}
@@ -108,3 +110,12 @@ emitted kind ws room = needs 7 (isFound (formOf kind ws)) (needs 14 (leb (length
 -- a head, and what a plan puts for the items of a row
 unfoldable pub replaced : Kind → List ℕ → Plan → List ℕ → List ℕ → List ℕ → List ℕ → ℕ → Outcome
 replaced kind head p list lm row marks room = emitted kind (head ++ rewritten (planned p list lm) (items row marks)) room
+
+-- the kind as which a row of either kind was read
+abbrev pub kindFor : Bool → Kind
+kindFor true = Expression
+kindFor false = Predicate
+
+-- names become the entries of a table
+abbrev pub freePlan : Table → Plan
+freePlan t = record { table = t; fills = false; gone = 0; down = 0 }
