@@ -119,3 +119,27 @@ kindFor false = Predicate
 -- names become the entries of a table
 abbrev pub freePlan : Table → Plan
 freePlan t = record { table = t; fills = false; gone = 0; down = 0 }
+
+-- the plan that fills the declarations of a quantifier by the places of a table
+abbrev pub fillPlan : Table → Plan
+fillPlan t = record { table = t; fills = true; gone = filledWords (take (t .n) (t .words)); down = 0 }
+
+-- the names whose word is 0, and the head of a quantifier that declares them
+unfoldable pub keptWords : List ℕ → List ℕ → List ℕ
+keptWords [] ns = []
+keptWords (w ∷ ws) [] = []
+keptWords (zero ∷ ws) (n ∷ ns) = n ∷ keptWords ws ns
+keptWords (suc w ∷ ws) (n ∷ ns) = keptWords ws ns
+
+unfoldable pub headWords : ℕ → List ℕ → List ℕ
+headWords t [] = []
+headWords t (k ∷ ks) = t ∷ suc (length ks) ∷ k ∷ ks
+
+-- how many declarations a row has that begins with a quantifier; 0 for any other
+unfoldable pub declaredIn : List ℕ → ℕ
+declaredIn row = pick (ltb (length row) 2) 0 (pick (eqb (getD row 0 0) 851) (getD row 1 0) (pick (eqb (getD row 0 0) 852) (getD row 1 0) 0))
+
+-- a quantified row filled by the places of a table
+unfoldable pub filledRow : List ℕ → List ℕ → List ℕ → List ℕ → Table → ℕ → Outcome
+filledRow list lm row marks t room =
+    replaced Predicate (headWords (getD row 0 0) (keptWords (take (t .n) (t .words)) (drop 2 row))) (fillPlan t) list lm (drop (2 + t .n) row) (drop (2 + t .n) marks) room
