@@ -9,3 +9,4 @@ pub mod FillTree
 pub mod NameLaws
 pub mod QuantLaws
 pub mod FillLaws
+pub mod PruneLaws

@@ -4,3 +4,4 @@ pub mod fill;
 pub mod free;
 mod marks;
 pub mod pieces;
+pub mod prune;

@@ -28,7 +28,7 @@ pub struct Plan {
     pub down: u32,
 }
 
-fn less(a: u32, b: u32) -> u32
+pub fn less(a: u32, b: u32) -> u32
     ensures { λ r. ⌜ r ≡ a - b ⌝ }
 {
     if a < b {

@@ -1,18 +1,18 @@
 -- What stands for each item of a form: the item itself, an index, or a part of the list row whose dangling indices are moved. A plan says
 -- which. Nothing here is needed to read a public contract.
 use mathlib.Core.Path.{_≡_}
-use mathlib.Core.Bool.{Bool, true, false}
+use mathlib.Core.Bool.{Bool, true, false, not}
 use mathlib.Core.List.{List, [], _∷_, _++_}
 use Prim.Native.Nat.{ℕ, zero, suc, _+_, _-_, _≤_, _<_}
 use lib.Dec.{leb, ltb, eqb}
-use lib.ListN.{length, getD, take, drop}
+use lib.ListN.{length, getD, take, drop, replicate}
 use Rattle.form.specs.Form.{pick}
 use Rattle.form.specs.Decode.{Found, found, missing, formOf}
 use Rattle.form.specs.Answer.{Outcome, answer, needs}
 use Rattle.form.specs.declared.answer.Kind.{Kind}
 use Rattle.form.specs.declared.answer.Kind.the-variants.{Expression, Predicate}
 use Rattle.form.specs.declared.lists.Table.{Table}
-use Rattle.subst.specs.Internal.Items.{items, sizeOf, wordsOf, rewritten, movedWords}
+use Rattle.subst.specs.Internal.Items.{items, sizeOf, wordsOf, rewritten, allItems, store, movedWords}
 use Rattle.subst.specs.declared.items.Item.{Item}
 use Rattle.subst.specs.declared.items.Item.the-variants.{Plain, Ident}
 use Rattle.replace.specs.declared.pieces.Piece.{Piece}
@@ -143,3 +143,17 @@ declaredIn row = pick (ltb (length row) 2) 0 (pick (eqb (getD row 0 0) 851) (get
 unfoldable pub filledRow : List ℕ → List ℕ → List ℕ → List ℕ → Table → ℕ → Outcome
 filledRow list lm row marks t room =
     replaced Predicate (headWords (getD row 0 0) (keptWords (take (t .n) (t .words)) (drop 2 row))) (fillPlan t) list lm (drop (2 + t .n) row) (drop (2 + t .n) marks) room
+
+-- an item that is not index j of a body round which n declarations are open
+unfoldable pub notIndex : ℕ → ℕ → Item → Bool
+notIndex n j (Plain w) = true
+notIndex n j (Ident k t v) = pick (eqb t 2) (pick (ltb v (k - n)) true (not (eqb j (v - (k - n))))) true
+
+-- for the k inner ones of n declarations, from the outermost on: 1 where the items never use it
+unfoldable pub usedWords : ℕ → ℕ → List Item → List ℕ
+usedWords n zero xs = []
+usedWords n (suc k) xs = pick (allItems (notIndex n k) xs) 1 0 ∷ usedWords n k xs
+
+-- all dropped places have the expression that stands in the first two words of the list row
+unfoldable pub usedTable : ℕ → List Item → Table
+usedTable n xs = record { words = store (replicate 32 0) 0 (usedWords n n xs); starts = replicate 32 0; ends = replicate 32 2; n = n }
