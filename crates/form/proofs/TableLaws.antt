@@ -210,7 +210,7 @@ pub listed-n : (es : List Entry) → tabled es 0 emptyTable .n ≡ length es
 unfolding emptyTable
 listed-n es = tabled-n es 0 emptyTable ∙ omega arith
 
-good-listed : (es : List Entry) (b : Bool) → leb (length es) 32 ≡ b → goodTable (tabled es 0 emptyTable) ≡ goodNames (map wordOf es)
+pub good-listed : (es : List Entry) (b : Bool) → leb (length es) 32 ≡ b → goodTable (tabled es 0 emptyTable) ≡ goodNames (map wordOf es)
 unfolding goodTable goodNames
 good-listed es true e = rw (listed-words es (leb-true (length es) 32 e), listed-n es, length-map es wordOf)
 good-listed es false e = rw (listed-n es, length-map es wordOf, e)

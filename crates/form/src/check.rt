@@ -32,7 +32,7 @@ fn is_known(shape: Shape) -> bool
 }
 
 // Whether the row is read as an expression: as the kind says, or by its first tag.
-fn is_expr(row: &[u32], kind: Kind) -> bool
+pub fn is_expr(row: &[u32], kind: Kind) -> bool
     ensures { λ r. ⌜ r ≡ asExpr kind (now (row .entry)) ⌝ }
 {
     match kind {

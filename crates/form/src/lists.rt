@@ -167,7 +167,7 @@ pub fn check_names(row: &[u32]) -> Answer
 }
 
 // Whether the words of the table's entries are good names.
-fn good_table(table: Table) -> bool
+pub fn good_table(table: Table) -> bool
     requires { ⌜ length (table .words) ≡ 32 ⌝ }
     ensures { λ r. ⌜ r ≡ goodTable table ⌝ }
 {

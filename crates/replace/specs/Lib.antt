@@ -1,3 +1,4 @@
 pub mod Free
 pub mod Fill
 pub mod Prune
+pub mod Internal

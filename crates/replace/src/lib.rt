@@ -1,1 +1,7 @@
 // Replacements that change a form's length: free substitution, filling of declarations, pruning.
+mod build;
+pub mod fill;
+pub mod free;
+mod marks;
+pub mod pieces;
+pub mod prune;

@@ -124,7 +124,7 @@ module _ (g : Item → List ℕ) (keep : (y : Item) → length (g y) ≡ sizeOf 
   rewritten-length (w ∷ []) (suc k ∷ ms) = rw (length-append, keep (Plain w)) (omega arith)
   rewritten-length (w ∷ v ∷ ws) (suc k ∷ ms) = rw (length-append, keep (Ident k w v), rewritten-length ws (drop 1 ms)) (omega arith)
 
-store-front : (a b ws : List ℕ) (i : ℕ) → length a ≡ i → length ws ≤ length b → store (a ++ b) i ws ≡ a ++ (ws ++ drop (length ws) b)
+pub store-front : (a b ws : List ℕ) (i : ℕ) → length a ≡ i → length ws ≤ length b → store (a ++ b) i ws ≡ a ++ (ws ++ drop (length ws) b)
 unfolding store
 store-front a b [] i e h = refl
 store-front a [] (w ∷ ws) i e h = absurd (omega arith)

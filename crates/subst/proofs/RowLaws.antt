@@ -3,7 +3,7 @@ use mathlib.Core.Path.{_≡_, refl, ap, sym, _∙_}
 use mathlib.Core.Bool.{Bool, true, false, _&&_}
 use mathlib.Core.List.{List, [], _∷_, _++_, append-assoc, append-nil}
 use Prim.Native.Nat.{ℕ, zero, suc, _+_, _-_, _≤_, _<_}
-use native.Mathlib.Nat.{sub-zero}
+use native.Mathlib.Nat.{sub-zero, add-zero, add-assoc}
 use native.Mathlib.Omega.{arith}
 use lib.ListN.{length, length-append, set, replicate}
 use Rattle.form.specs.Form.{Leaf, free, bound, Form, leaf, node, Forms, none, more, encode, encodeAll}
@@ -44,7 +44,7 @@ unfoldable mutual
   marksAll k none = []
   marksAll k (more f fs) = marksOf k f ++ marksAll k fs
 
-items-plain : (o r m : List ℕ) → items (o ++ r) (zeros o ++ m) ≡ plain o ++ items r m
+pub items-plain : (o r m : List ℕ) → items (o ++ r) (zeros o ++ m) ≡ plain o ++ items r m
 unfolding items
 items-plain [] r m = refl
 items-plain (w ∷ o) r m = ap (λ z. Plain w ∷ z) (items-plain o r m)
@@ -79,18 +79,18 @@ set-at : (a b : List ℕ) (x v : ℕ) → set (a ++ (x ∷ b)) (length a) v ≡ 
 set-at [] b x v = refl
 set-at (y ∷ a) b x v = ap (λ z. y ∷ z) (set-at a b x v)
 
-zeros-append : (a b : List ℕ) → zeros (a ++ b) ≡ zeros a ++ zeros b
+pub zeros-append : (a b : List ℕ) → zeros (a ++ b) ≡ zeros a ++ zeros b
 zeros-append [] b = refl
 zeros-append (w ∷ a) b = ap (λ z. 0 ∷ z) (zeros-append a b)
 
-zeros-length : (a : List ℕ) → length (zeros a) ≡ length a
+pub zeros-length : (a : List ℕ) → length (zeros a) ≡ length a
 zeros-length [] = refl
 zeros-length (w ∷ a) = ap suc (zeros-length a)
 
 mutual
   unfolding marksOf encode
 
-  marks-length : (k : ℕ) (f : Form) → length (marksOf k f) ≡ length (encode f)
+  pub marks-length : (k : ℕ) (f : Form) → length (marksOf k f) ≡ length (encode f)
   marks-length k (leaf (free n)) = refl
   marks-length k (leaf (bound n)) = refl
   marks-length k (node t o ds ks) = ap suc (rw (length-append, length-append, length-append o, length-append ds, zeros-length o, zeros-length ds, marks-lengthAll (length ds + k) ks))
@@ -102,7 +102,7 @@ mutual
 mutual
   unfolding mark marksOf encode
 
-  mark-zeros : (f : Form) (at k : ℕ) (a b : List ℕ) → length a ≡ at → mark f at k (a ++ (zeros (encode f) ++ b)) ≡ a ++ (marksOf k f ++ b)
+  pub mark-zeros : (f : Form) (at k : ℕ) (a b : List ℕ) → length a ≡ at → mark f at k (a ++ (zeros (encode f) ++ b)) ≡ a ++ (marksOf k f ++ b)
   mark-zeros (leaf (free n)) at k a b e = rw (← e) (set-at a (0 ∷ b) 0 (suc k))
   mark-zeros (leaf (bound n)) at k a b e = rw (← e) (set-at a (0 ∷ b) 0 (suc k))
   mark-zeros (node t o ds ks) at k a b e =
@@ -118,7 +118,7 @@ mutual
       let l : length (a ++ marksOf k f) ≡ at + length (encode f) = rw (length-append, marks-length k f) (omega arith) in
       rw (x, mark-zeros f at k a (zeros (encodeAll fs) ++ b) e, y, mark-zerosAll fs (at + length (encode f)) k (a ++ marksOf k f) b l) (simp append-assoc)
 
-zeros-replicate : (l : List ℕ) (n : ℕ) → length l ≤ n → replicate n 0 ≡ zeros l ++ replicate (n - length l) 0
+pub zeros-replicate : (l : List ℕ) (n : ℕ) → length l ≤ n → replicate n 0 ≡ zeros l ++ replicate (n - length l) 0
 zeros-replicate [] n h = rw sub-zero
 zeros-replicate (w ∷ l) zero h = absurd (omega arith)
 zeros-replicate (w ∷ l) (suc n) h =
@@ -139,7 +139,8 @@ unfolding rewritten
 rewritten-append g [] b = refl
 rewritten-append g (x ∷ a) b = rw (rewritten-append g a b, append-assoc)
 
-module _ (g : Item → List ℕ) (act : ℕ → Outer → Form) (keep : (w : ℕ) → g (Plain w) ≡ w ∷ []) (does : (k : ℕ) (x : Leaf) → g (identOf k x) ≡ encode (walkLeaf act k x)) where
+-- a declarations are open round the form that the walk begins with
+module _ (a : ℕ) (g : Item → List ℕ) (act : ℕ → Outer → Form) (keep : (w : ℕ) → g (Plain w) ≡ w ∷ []) (does : (k : ℕ) (x : Leaf) → g (identOf (k + a) x) ≡ encode (walkLeaf act k x)) where
   rewritten-plain : (o : List ℕ) (b : List Item) → rewritten g (plain o ++ b) ≡ o ++ rewritten g b
   unfolding rewritten
   rewritten-plain [] b = refl
@@ -148,13 +149,17 @@ module _ (g : Item → List ℕ) (act : ℕ → Outer → Form) (keep : (w : ℕ
   mutual
     unfolding rewritten itemsOf walk encode
 
-    pub walk-items : (k : ℕ) (f : Form) → rewritten g (itemsOf k f) ≡ encode (walk act k f)
-    walk-items k (leaf x) = append-nil (g (identOf k x)) ∙ does k x
-    walk-items k (node t o ds ks) = rw (keep t, rewritten-plain o, rewritten-plain ds, walk-itemsAll (length ds + k) ks)
+    pub walk-items-in : (k : ℕ) (f : Form) → rewritten g (itemsOf (k + a) f) ≡ encode (walk act k f)
+    walk-items-in k (leaf x) = append-nil (g (identOf (k + a) x)) ∙ does k x
+    walk-items-in k (node t o ds ks) = rw (keep t, rewritten-plain o, rewritten-plain ds, ← add-assoc (length ds) k a, walk-itemsAll-in (length ds + k) ks)
 
-    walk-itemsAll : (k : ℕ) (fs : Forms) → rewritten g (itemsAll k fs) ≡ encodeAll (walkAll act k fs)
-    walk-itemsAll k none = refl
-    walk-itemsAll k (more f fs) = rw (rewritten-append g (itemsOf k f) (itemsAll k fs), walk-items k f, walk-itemsAll k fs)
+    walk-itemsAll-in : (k : ℕ) (fs : Forms) → rewritten g (itemsAll (k + a) fs) ≡ encodeAll (walkAll act k fs)
+    walk-itemsAll-in k none = refl
+    walk-itemsAll-in k (more f fs) = rw (rewritten-append g (itemsOf (k + a) f) (itemsAll (k + a) fs), walk-items-in k f, walk-itemsAll-in k fs)
+
+pub walk-items : (g : Item → List ℕ) (act : ℕ → Outer → Form) → ((w : ℕ) → g (Plain w) ≡ w ∷ []) → ((k : ℕ) (x : Leaf) → g (identOf k x) ≡ encode (walkLeaf act k x)) → (k : ℕ) (f : Form)
+    → rewritten g (itemsOf k f) ≡ encode (walk act k f)
+walk-items g act keep does k f = rw add-zero at (walk-items-in 0 g act keep (λ k x. rw add-zero (does k x)) k f)
 
 -- a test of each item is the test of each outer identifier
 and-assoc : (a b c : Bool) → (a && b && c) ≡ (a && (b && c))
@@ -170,7 +175,7 @@ unfolding allItems
 all-append q [] b = refl
 all-append q (x ∷ a) b = rw (all-append q a b) (sym (and-assoc (q x) (allItems q a) (allItems q b)))
 
-module _ (q : Item → Bool) (p : ℕ → Outer → Bool) (keep : (w : ℕ) → q (Plain w) ≡ true) (does : (k : ℕ) (x : Leaf) → q (identOf k x) ≡ collectLeaf true p k x) where
+module _ (a : ℕ) (q : Item → Bool) (p : ℕ → Outer → Bool) (keep : (w : ℕ) → q (Plain w) ≡ true) (does : (k : ℕ) (x : Leaf) → q (identOf (k + a) x) ≡ collectLeaf true p k x) where
   all-plain : (o : List ℕ) (b : List Item) → allItems q (plain o ++ b) ≡ allItems q b
   unfolding allItems
   all-plain [] b = refl
@@ -179,10 +184,14 @@ module _ (q : Item → Bool) (p : ℕ → Outer → Bool) (keep : (w : ℕ) → 
   mutual
     unfolding allItems itemsOf collect
 
-    pub each-items : (k : ℕ) (f : Form) → allItems q (itemsOf k f) ≡ each p k f
-    each-items k (leaf x) = and-true (q (identOf k x)) ∙ does k x
-    each-items k (node t o ds ks) = rw (keep t, all-plain o, all-plain ds, each-itemsAll (length ds + k) ks)
+    pub each-items-in : (k : ℕ) (f : Form) → allItems q (itemsOf (k + a) f) ≡ each p k f
+    each-items-in k (leaf x) = and-true (q (identOf (k + a) x)) ∙ does k x
+    each-items-in k (node t o ds ks) = rw (keep t, all-plain o, all-plain ds, ← add-assoc (length ds) k a, each-itemsAll-in (length ds + k) ks)
 
-    each-itemsAll : (k : ℕ) (fs : Forms) → allItems q (itemsAll k fs) ≡ eachAll p k fs
-    each-itemsAll k none = refl
-    each-itemsAll k (more f fs) = rw (all-append q (itemsOf k f) (itemsAll k fs), each-items k f, each-itemsAll k fs)
+    each-itemsAll-in : (k : ℕ) (fs : Forms) → allItems q (itemsAll (k + a) fs) ≡ eachAll p k fs
+    each-itemsAll-in k none = refl
+    each-itemsAll-in k (more f fs) = rw (all-append q (itemsOf (k + a) f) (itemsAll (k + a) fs), each-items-in k f, each-itemsAll-in k fs)
+
+pub each-items : (q : Item → Bool) (p : ℕ → Outer → Bool) → ((w : ℕ) → q (Plain w) ≡ true) → ((k : ℕ) (x : Leaf) → q (identOf k x) ≡ collectLeaf true p k x) → (k : ℕ) (f : Form)
+    → allItems q (itemsOf k f) ≡ each p k f
+each-items q p keep does k f = rw add-zero at (each-items-in 0 q p keep (λ k x. rw add-zero (does k x)) k f)

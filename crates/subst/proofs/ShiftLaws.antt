@@ -48,7 +48,7 @@ unfolding itemIn
 range-word lo hi w = refl
 
 -- the rewriting of a row's indices
-abbrev moved : ℕ → ℕ → ℕ → Outer → Form
+abbrev pub moved : ℕ → ℕ → ℕ → Outer → Form
 moved u d k (named m) = leaf (free m)
 moved u d k (dangling j) = leaf (bound (moveWord u d (k + j)))
 
@@ -59,12 +59,12 @@ moved-index u d k i (outside j) q =
     let e : k + j ≡ i = binding-back k i j q in
     rw (le-ltb i k (omega arith), e)
 
-moved-leaf : (u d k : ℕ) (x : Leaf) → movedWords u d (identOf k x) ≡ encode (walkLeaf (moved u d) k x)
+pub moved-leaf : (u d k : ℕ) (x : Leaf) → movedWords u d (identOf k x) ≡ encode (walkLeaf (moved u d) k x)
 unfolding wordsOf moveItem encode
 moved-leaf u d k (free n) = refl
 moved-leaf u d k (bound i) = moved-index u d k i (binding k i) refl
 
-moved-word : (u d w : ℕ) → movedWords u d (Plain w) ≡ w ∷ []
+pub moved-word : (u d w : ℕ) → movedWords u d (Plain w) ≡ w ∷ []
 unfolding wordsOf moveItem
 moved-word u d w = refl
 

@@ -46,7 +46,7 @@ pub fn move_word(up: u32, down: u32, v: u32) -> u32
     v + up - down
 }
 
-fn move_item(up: u32, down: u32, it: Item) -> Item
+pub fn move_item(up: u32, down: u32, it: Item) -> Item
     ensures { λ r. ⌜ r ≡ moveItem up down it ⌝ }
 {
     let Item::Ident(k, t, v) = it else {

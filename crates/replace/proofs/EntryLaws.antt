@@ -1,0 +1,158 @@
+-- The entries of a list in its row: where the table says that each expression stands, its items stand with their marks. Assumes nothing.
+use mathlib.Core.Path.{_≡_, refl, ap, sym, _∙_}
+use mathlib.Core.Bool.{Bool, true, false}
+use mathlib.Core.List.{List, [], _∷_, _++_, append-assoc, append-nil, map}
+use mathlib.Core.Option.{some}
+use Prim.Native.Nat.{ℕ, zero, suc, _+_, _-_, _≤_, _<_}
+use native.Mathlib.Nat.{zero-add}
+use native.Mathlib.Numerals.{add-one}
+use native.Mathlib.Omega.{arith}
+use borrow.Author.Tests.{lt-leb}
+use lib.ListN.{length, getD, take, drop, set, replicate, length-append, length-set, take-append-drop}
+use lib.Seq.{take-at, drop-at, take-suc-set, getD-take}
+use Rattle.form.specs.Form.{Form, encode}
+use Rattle.form.specs.Tag.{expr}
+use Rattle.form.specs.Lists.{Place, kept, filled, Entry, entry, placeOf, placeWords, entryWords, encodeList, wordOf, listOf}
+use Rattle.form.specs.Internal.Reads.{markEntries, emptyTable, addRow, tabled}
+use Rattle.form.specs.declared.lists.ListKind.{ListKind}
+use Rattle.form.specs.declared.lists.ListKind.the-variants.{Pairs, Places}
+use Rattle.form.specs.declared.lists.Table.{Table}
+use Rattle.form.proofs.DecodeLaws.{Ok}
+use Rattle.form.proofs.ListLaws.{Good, GoodAll, list-sound}
+use Rattle.form.proofs.TableLaws.{row-more, tabled-n, listed-n}
+use Rattle.subst.specs.Walk.{each}
+use Rattle.subst.specs.Internal.Items.{items}
+use Rattle.subst.proofs.LimitLaws.{small, ok-small}
+use Rattle.subst.proofs.RowLaws.{itemsOf, marksOf, items-encode, marks-length}
+use Rattle.replace.specs.Internal.Pieces.{part}
+use Rattle.replace.proofs.MarkLaws.{marksPlace, marksList, place-length, list-length, only-entries}
+
+-- a column of the table, entry by entry
+abbrev pub column : (ℕ → Entry → ℕ) → ℕ → List Entry → List ℕ
+column val at [] = []
+column val at (e ∷ es) = val at e ∷ column val (at + length (entryWords e)) es
+
+abbrev pub start : ℕ → Entry → ℕ
+start at e = at + 1
+
+abbrev pub end : ℕ → Entry → ℕ
+end at e = at + length (entryWords e)
+
+module _ (col : Table → List ℕ) (val : ℕ → Entry → ℕ)
+    (adds : (t : Table) (at : ℕ) (e : Entry) → t .n < 32 → col (addRow t (wordOf e) (at + 1) (at + length (entryWords e))) ≡ set (col t) (t .n) (val at e)) where
+  take-col : (t u : Table) (w : ℕ) → t .n < length (col t) → u .n ≡ t .n + 1 → col u ≡ set (col t) (t .n) w → take (u .n) (col u) ≡ take (t .n) (col t) ++ (w ∷ [])
+  take-col t u w h n v = rw (v, n, add-one, take-suc-set (col t) (t .n) w h)
+
+  tabled-col : (es : List Entry) (at : ℕ) (t : Table) → t .n + length es ≤ 32 → length (col t) ≡ 32 → take (tabled es at t .n) (col (tabled es at t)) ≡ take (t .n) (col t) ++ column val at es
+  unfolding tabled
+  tabled-col [] at t h l = sym (append-nil (take (t .n) (col t)))
+  tabled-col (e ∷ es) at t h l =
+      let s = at + length (entryWords e) in
+      let u = addRow t (wordOf e) (at + 1) s in
+      let n = row-more t (wordOf e) (at + 1) s u refl in
+      let v = adds t at e (omega arith) in
+      tabled-col es s u (omega arith) (ap length v ∙ length-set (col t) (t .n) (val at e) ∙ l)
+      ∙ ap (λ l. l ++ column val s es) (take-col t u (val at e) (omega arith) n v) ∙ append-assoc (take (t .n) (col t)) (val at e ∷ []) (column val s es)
+
+  listed-take : (es : List Entry) → length es ≤ 32 → length (col emptyTable) ≡ 32 → take (tabled es 0 emptyTable .n) (col (tabled es 0 emptyTable)) ≡ column val 0 es
+  unfolding emptyTable
+  listed-take es h l = tabled-col es 0 emptyTable (omega arith) l
+
+  pub listed-col : (es : List Entry) (i : ℕ) → length es ≤ 32 → length (col emptyTable) ≡ 32 → i < length es → getD (col (tabled es 0 emptyTable)) i 0 ≡ getD (column val 0 es) i 0
+  listed-col es i h l low =
+      let n = listed-n es in
+      sym (getD-take (tabled es 0 emptyTable .n) (col (tabled es 0 emptyTable)) i 0 (omega arith)) ∙ ap (λ z. getD z i 0) (listed-take es h l)
+
+add-start : (t : Table) (at : ℕ) (e : Entry) → t .n < 32 → addRow t (wordOf e) (at + 1) (at + length (entryWords e)) .starts ≡ set (t .starts) (t .n) (start at e)
+unfolding addRow
+add-start t at e h = rw (lt-leb 32 (t .n) h)
+
+add-end : (t : Table) (at : ℕ) (e : Entry) → t .n < 32 → addRow t (wordOf e) (at + 1) (at + length (entryWords e)) .ends ≡ set (t .ends) (t .n) (end at e)
+unfolding addRow
+add-end t at e h = rw (lt-leb 32 (t .n) h)
+
+module _ (es : List Entry) (few : length es ≤ 32) (i : ℕ) (low : i < length es) where
+  pub start-at : getD (tabled es 0 emptyTable .starts) i 0 ≡ getD (column start 0 es) i 0
+  unfolding emptyTable
+  start-at = listed-col (λ t. t .starts) start add-start es i few refl low
+
+  pub end-at : getD (tabled es 0 emptyTable .ends) i 0 ≡ getD (column end 0 es) i 0
+  unfolding emptyTable
+  end-at = listed-col (λ t. t .ends) end add-end es i few refl low
+
+-- the parts lie in the row
+pub spans : (es : List Entry) (at i : ℕ) → i < length es → (getD (column start at es) i 0 ≤ getD (column end at es) i 0) × (getD (column end at es) i 0 ≤ at + length (encodeList es))
+unfolding encodeList entryWords
+spans [] at i h = absurd (omega arith)
+spans (entry w p ∷ es) at zero h = (omega arith, rw length-append (omega arith))
+spans (entry w p ∷ es) at (suc i) h =
+    let q = spans es (at + suc (length (placeWords p))) i (omega arith) in
+    let a = q .1 in
+    (q .0, rw length-append (omega arith))
+
+part-mid : (a x b : List ℕ) (s e : ℕ) → length a ≡ s → e ≡ s + length x → part s e (a ++ (x ++ b)) ≡ x
+unfolding part
+part-mid a x b s e h k = let n : e - s ≡ length x = omega arith in rw (drop-at a (x ++ b) s h, n) (take-at x b (length x) refl)
+
+-- what must stand where a place says: K for a place that has no expression
+abbrev pub PlaceAt : Type 0 → List ℕ → List ℕ → ℕ → ℕ → Place → Type 0
+PlaceAt K list lm s e kept = K
+PlaceAt K list lm s e (filled x) = (items (part s e list) (part s e lm) ≡ itemsOf 0 x) × (each small 0 x ≡ true)
+
+abbrev pub Kept : ListKind → Type 0
+Kept Pairs = ⊥
+Kept Places = Unit {0}
+
+filled-at : (a a′ b b′ : List ℕ) (x : Form) (s e : ℕ) → length a ≡ s → length a′ ≡ s → e ≡ s + length (encode x) → items (part s e (a ++ (encode x ++ b))) (part s e (a′ ++ (marksOf 0 x ++ b′))) ≡ itemsOf 0 x
+unfolding items
+filled-at a a′ b b′ x s e h h′ k =
+    rw (part-mid a (encode x) b s e h k, part-mid a′ (marksOf 0 x) b′ s e h′ (rw (marks-length 0 x) k)) (rw (append-nil, append-nil, append-nil) at (items-encode 0 x [] []))
+
+one-further : (w : ℕ) (x : Form) (a a′ b b′ : List ℕ) (at : ℕ) → length a ≡ at → length a′ ≡ at
+    → items (part (at + 1) (at + suc (length (encode x))) (a ++ (w ∷ (encode x ++ b)))) (part (at + 1) (at + suc (length (encode x))) (a′ ++ (0 ∷ (marksOf 0 x ++ b′)))) ≡ itemsOf 0 x
+one-further w x a a′ b b′ at h h′ =
+    let y : a ++ (w ∷ (encode x ++ b)) ≡ (a ++ (w ∷ [])) ++ (encode x ++ b) = simp append-assoc in
+    let z : a′ ++ (0 ∷ (marksOf 0 x ++ b′)) ≡ (a′ ++ (0 ∷ [])) ++ (marksOf 0 x ++ b′) = simp append-assoc in
+    rw (y, z) (filled-at (a ++ (w ∷ [])) (a′ ++ (0 ∷ [])) b b′ x (at + 1) (at + suc (length (encode x))) (rw length-append (omega arith)) (rw length-append (omega arith)) (omega arith))
+
+good-place : (kind : ListKind) (w : ℕ) (p : Place) → Good kind (entry w p) → (a a′ b b′ : List ℕ) (at : ℕ) → length a ≡ at → length a′ ≡ at
+    → PlaceAt (Kept kind) (a ++ ((w ∷ placeWords p) ++ b)) (a′ ++ (0 ∷ (marksPlace p ++ b′))) (at + 1) (at + suc (length (placeWords p))) p
+good-place Pairs w kept g a a′ b b′ at h h′ = g
+good-place Places w kept g a a′ b b′ at h h′ = tt
+good-place Pairs w (filled x) g a a′ b b′ at h h′ = (one-further w x a a′ b b′ at h h′, ok-small g 0)
+good-place Places w (filled x) g a a′ b b′ at h h′ = (one-further w x a a′ b b′ at h h′, ok-small (g .1) 0)
+
+pub entry-place : (kind : ListKind) (es : List Entry) → GoodAll kind es → (a a′ b b′ : List ℕ) (at : ℕ) → length a ≡ at → length a′ ≡ at → (i : ℕ) → i < length es
+    → PlaceAt (Kept kind) (a ++ (encodeList es ++ b)) (a′ ++ (marksList es ++ b′)) (getD (column start at es) i 0) (getD (column end at es) i 0) (getD (map placeOf es) i kept)
+unfolding encodeList entryWords marksList
+entry-place kind [] g a a′ b b′ at h h′ i l = absurd (omega arith)
+entry-place kind (entry w p ∷ es) g a a′ b b′ at h h′ zero l =
+    let y : a ++ (((w ∷ placeWords p) ++ encodeList es) ++ b) ≡ a ++ ((w ∷ placeWords p) ++ (encodeList es ++ b)) = simp append-assoc in
+    let z : a′ ++ ((0 ∷ (marksPlace p ++ marksList es)) ++ b′) ≡ a′ ++ (0 ∷ (marksPlace p ++ (marksList es ++ b′))) = simp append-assoc in
+    rw (y, z) (good-place kind w p (g .0) a a′ (encodeList es ++ b) (marksList es ++ b′) at h h′)
+entry-place kind (entry w p ∷ es) g a a′ b b′ at h h′ (suc i) l =
+    let y : a ++ (((w ∷ placeWords p) ++ encodeList es) ++ b) ≡ (a ++ (w ∷ placeWords p)) ++ (encodeList es ++ b) = simp append-assoc in
+    let z : a′ ++ ((0 ∷ (marksPlace p ++ marksList es)) ++ b′) ≡ (a′ ++ (0 ∷ marksPlace p)) ++ (marksList es ++ b′) = simp append-assoc in
+    rw (y, z)
+    (entry-place kind es (g .1) (a ++ (w ∷ placeWords p)) (a′ ++ (0 ∷ marksPlace p)) b b′ (at + suc (length (placeWords p))) (rw length-append (omega arith))
+    (rw (length-append, place-length p) (omega arith)) i (omega arith))
+
+moved-place : (K : Type 0) (list list′ lm lm′ : List ℕ) (s e : ℕ) (p : Place) → PlaceAt K list lm s e p → list ≡ list′ → lm ≡ lm′ → PlaceAt K list′ lm′ s e p
+moved-place K list list′ lm lm′ s e p h a b = rw (← a, ← b) h
+
+-- the places of a list that was read, by its table
+module _ (kind : ListKind) (list : List ℕ) (es : List Entry) (is : listOf kind list ≡ some es) (few : length es ≤ 32) where
+  pub listed-in-row : (i : ℕ) → i < length es
+      → (getD (tabled es 0 emptyTable .starts) i 0 ≤ getD (tabled es 0 emptyTable .ends) i 0) × (getD (tabled es 0 emptyTable .ends) i 0 ≤ length list)
+  listed-in-row i h = rw (start-at es few i h, end-at es few i h, list-sound kind list es is .0) (rw zero-add at (spans es 0 i h))
+
+  pub listed-places : (lm : List ℕ) → take (length list) lm ≡ markEntries es 0 (replicate (length list) 0) → (i : ℕ) → i < length es
+      → PlaceAt (Kept kind) list lm (getD (tabled es 0 emptyTable .starts) i 0) (getD (tabled es 0 emptyTable .ends) i 0) (getD (map placeOf es) i kept)
+  listed-places lm k i h =
+      let w = list-sound kind list es is .0 in
+      let g = list-sound kind list es is .1 in
+      let q : take (length list) lm ≡ marksList es = k ∙ rw w (only-entries es) in
+      let m : marksList es ++ drop (length list) lm ≡ lm = rw (← q) (take-append-drop (length list) lm) in
+      rw (start-at es few i h, end-at es few i h)
+      (moved-place (Kept kind) (encodeList es ++ []) list (marksList es ++ drop (length list) lm) lm (getD (column start 0 es) i 0) (getD (column end 0 es) i 0) (getD (map placeOf es) i kept)
+      (entry-place kind es g [] [] [] (drop (length list) lm) 0 refl refl i h) (append-nil (encodeList es) ∙ sym w) m)

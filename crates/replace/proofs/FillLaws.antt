@@ -1,0 +1,212 @@
+-- Fill on rows is fill on trees. Assumes nothing.
+use mathlib.Core.Path.{_≡_, refl, ap, sym, _∙_}
+use mathlib.Core.Bool.{Bool, true, false}
+use mathlib.Core.List.{List, [], _∷_, _++_, map}
+use mathlib.Core.Option.{none as absent, some}
+use Prim.Native.Nat.{ℕ, zero, suc, _+_, _-_, _≤_, _<_}
+use native.Mathlib.Omega.{arith}
+use borrow.Author.Tests.{eq-eqb, ne-eqb}
+use lib.Dec.{eqb}
+use lib.ListN.{length, getD, take, drop, replicate, length-map, length-drop}
+use Rattle.form.specs.Form.{Form, encode}
+use Rattle.form.specs.Tag.{Sort, pred}
+use Rattle.form.specs.Decode.{Whole, one, not-one, rowForm, found, missing, asSort, formOf}
+use Rattle.form.specs.Lists.{Place, kept, filled, Entry, entry, wordOf, placeOf, listOf}
+use Rattle.form.specs.Answer.{Outcome, refusal, needs, finish}
+use Rattle.form.specs.Internal.Reads.{mark, markEntries, emptyTable, tabled, Listing}
+use Rattle.form.specs.declared.answer.Kind.the-variants.{Predicate}
+use Rattle.form.specs.declared.lists.ListKind.the-variants.{Places}
+use Rattle.form.specs.declared.lists.Table.{Table}
+use Rattle.form.specs.declared.lists.Listed.{Listed}
+use Rattle.form.proofs.DecodeLaws.{clash, Ok}
+use Rattle.form.proofs.ListLaws.{GoodAll, list-sound}
+use Rattle.form.proofs.TableLaws.{listed-words, listed-n, listing-yes}
+use Rattle.subst.specs.Internal.Items.{items}
+use Rattle.subst.proofs.CheckedLaws.{Checked}
+use Rattle.replace.specs.Fill.{quantified, other, ofQuantified, fill, fillOutcome}
+use Rattle.replace.specs.Internal.Pieces.{filledWords, InRow, Ready, replaced, fillPlan, declaredIn, keptWords, headWords, filledRow}
+use Rattle.replace.specs.declared.pieces.Plan.{Plan}
+use Rattle.replace.proofs.EntryLaws.{PlaceAt, listed-places, listed-in-row}
+use Rattle.replace.proofs.BuildLaws.{emit-form}
+use Rattle.replace.proofs.CallLaws.{call, call-small, call-long, call-missing, call-list-long, call-no-list, call-read, front-same}
+use Rattle.replace.proofs.FillTree.{wordFor, fill-tree}
+use Rattle.replace.proofs.NameLaws.{kept-names, encode-quantify}
+use Rattle.replace.proofs.QuantLaws.{Quant, is-quant, not-quant, quant-count, quant-tag, quant-names, quant-long, quant-items}
+
+-- the plan as the code makes it
+pub ready-gone : (t : Table) (g : ℕ) (list lm : List ℕ) → g ≡ filledWords (take (t .n) (t .words)) → Ready (fillPlan t) list lm → Ready (record { table = t; fills = true; gone = g; down = 0 }) list lm
+ready-gone t g list lm e h = rw e h
+
+pub filled-same : (hd list lm row marks : List ℕ) (t : Table) (g room : ℕ) → hd ≡ headWords (getD row 0 0) (keptWords (take (t .n) (t .words)) (drop 2 row)) → g ≡ filledWords (take (t .n) (t .words))
+    → replaced Predicate hd (record { table = t; fills = true; gone = g; down = 0 }) list lm (drop (2 + t .n) row) (drop (2 + t .n) marks) room ≡ filledRow list lm row marks t room
+unfolding filledRow
+filled-same hd list lm row marks t g room e f = rw (e, f)
+
+pub same-filled : (list lm lm′ row marks : List ℕ) (t : Table) (room : ℕ) → lm ≡ lm′ → filledRow list lm row marks t room ≡ filledRow list lm′ row marks t room
+same-filled list lm lm′ row marks t room e = rw e
+
+-- a quantified row filled by places is the filled tree
+module _ (f : Form) (q : Quant f) (t : Table) (list lm : List ℕ) (ps : List Place) (words : take (t .n) (t .words) ≡ map wordFor ps) (count : t .n ≡ length ps)
+    (placed : (i : ℕ) → i < length ps → PlaceAt (Unit {0}) list lm (getD (t .starts) i 0) (getD (t .ends) i 0) (getD ps i kept)) (fits : length ps ≡ length (q .decls))
+    (m : List ℕ) (marks : take (length (encode f)) m ≡ mark f 0 0 (replicate (length (encode f)) 0)) (room : ℕ) where
+  pub filled-tree : filledRow list lm (encode f) m t room ≡ finish pred room (fill (q .tag) (q .decls) ps (q .body))
+  unfolding filledRow replaced fill
+  filled-tree =
+      let most = q .most in
+      rw (
+        quant-items f q (t .n) m (count ∙ fits) marks,
+        fill-tree t list lm ps words count placed (omega arith) {d = 63} (omega arith) (q .ok),
+        quant-tag f q,
+        quant-names f q,
+        words,
+        kept-names ps (q .decls) (encode (q .body)) fits,
+        encode-quantify,
+      )
+      (emit-form pred room _)
+
+-- the row's form
+pred-sort : (row : List ℕ) (s : Sort) (f : Form) → formOf Predicate row ≡ found s f → s ≡ pred
+unfolding formOf
+pred-sort row s f e = go (rowForm pred row) e
+  where
+    go : (w : Whole) → asSort pred w ≡ found s f → s ≡ pred
+    go (one g) e = cc
+    go not-one e = absurd (clash cc)
+
+module _ (row m : List ℕ) (k : ℕ) (x : Checked Predicate row m k) where
+  form-ok : Ok 64 pred (x .form)
+  form-ok = rw (pred-sort row (x .sort) (x .form) (x .is-found)) at (x .ok)
+
+  pub no-quant : (n : ℕ) → n ≡ declaredIn row → n ≡ 0 → quantified (x .form) ≡ other
+  no-quant n e z = not-quant form-ok (ap declaredIn (sym (x .words)) ∙ (sym e ∙ z))
+
+  pub the-quant : (n : ℕ) → n ≡ declaredIn row → (n ≡ 0 → ⊥) → Quant (x .form)
+  the-quant n e z = let h : declaredIn (encode (x .form)) ≡ n = ap declaredIn (sym (x .words)) ∙ sym e in is-quant form-ok (pos n h z)
+    where
+      pos : (n : ℕ) → declaredIn (encode (x .form)) ≡ n → (n ≡ 0 → ⊥) → 0 < declaredIn (encode (x .form))
+      pos zero h z = absurd (z refl)
+      pos (suc n) h z = omega arith
+
+  pub the-count : (n : ℕ) → n ≡ declaredIn row → (q : Quant (x .form)) → n ≡ length (q .decls)
+  the-count n e q = e ∙ (ap declaredIn (x .words) ∙ quant-count (x .form) q)
+
+  pub the-length : (q : Quant (x .form)) → 2 + length (q .decls) ≤ length row
+  the-length q = rw (x .words) (quant-long (x .form) q)
+
+-- the whole call
+abbrev fillGo : ℕ → Sort → Form → List Entry → Outcome
+fillGo room s f es = ofQuantified (λ t ns b. needs 5 (eqb (length es) (length ns)) (finish pred room (fill t ns (map placeOf es) b))) 3 (quantified f)
+
+module _ (list row : List ℕ) (wl room : ℕ) where
+  pub fill-small : wl < 16384 → fillOutcome list row wl room ≡ refusal 15
+  unfolding fillOutcome
+  fill-small h = call-small Predicate Places (fillGo room) list row wl h
+
+  module _ (enough : 16384 ≤ wl) where
+    pub fill-long : 8192 < length row → fillOutcome list row wl room ≡ refusal 1
+    unfolding fillOutcome
+    fill-long h = call-long Predicate Places (fillGo room) list row wl enough h
+
+    pub fill-missing : length row ≤ 8192 → formOf Predicate row ≡ missing → fillOutcome list row wl room ≡ refusal 2
+    unfolding fillOutcome
+    fill-missing h q = call-missing Predicate Places (fillGo room) list row wl enough h q
+
+    module _ (m : List ℕ) (x : Checked Predicate row m (length row)) where
+      pub fill-list-long : 8192 < length list → fillOutcome list row wl room ≡ refusal 1
+      unfolding fillOutcome
+      fill-list-long h = call-list-long Predicate Places (fillGo room) list row wl enough m x h
+
+      module _ (short : length list ≤ 8192) where
+        pub fill-no-list : listOf Places list ≡ absent → fillOutcome list row wl room ≡ refusal 2
+        unfolding fillOutcome
+        fill-no-list o = call-no-list Predicate Places (fillGo room) list row wl enough m x short o
+
+        fill-read : (es : List Entry) → listOf Places list ≡ some es → fillOutcome list row wl room ≡ fillGo room (x .sort) (x .form) es
+        unfolding fillOutcome
+        fill-read es o = call-read Predicate Places (fillGo room) list row wl enough m x short es o
+
+        fill-counted : (es : List Entry) → listOf Places list ≡ some es → (q : Quant (x .form))
+            → fillOutcome list row wl room ≡ needs 5 (eqb (length es) (length (q .decls))) (finish pred room (fill (q .tag) (q .decls) (map placeOf es) (q .body)))
+        fill-counted es o q = fill-read es o ∙ rw (q .is)
+
+        module _ (a b : List ℕ) (l : Listed) (h : Listing (listOf Places list) a b l) (ok : l .ok ≡ true) (n : ℕ) (e : n ≡ declaredIn row) where
+          pub fill-other : n ≡ 0 → fillOutcome list row wl room ≡ refusal 3
+          fill-other z =
+              let (es, o, t, k) = listing-yes (listOf Places list) a b l h ok in
+              go es o
+            where
+              go : (es : List Entry) → listOf Places list ≡ some es → fillOutcome list row wl room ≡ refusal 3
+              go es o = fill-read es o ∙ rw (no-quant row m (length row) x n e z)
+
+          pub fill-count : (n ≡ 0 → ⊥) → (l .table .n ≡ n → ⊥) → fillOutcome list row wl room ≡ refusal 5
+          fill-count z c =
+              let (es, o, t, k) = listing-yes (listOf Places list) a b l h ok in
+              go es o t
+            where
+              go : (es : List Entry) → listOf Places list ≡ some es → l .table ≡ tabled es 0 emptyTable → fillOutcome list row wl room ≡ refusal 5
+              go es o t =
+                  let q = the-quant row m (length row) x n e z in
+                  let d : length es ≡ length (q .decls) → ⊥ = λ r. c ((ap (λ (u : Table). u .n) t ∙ listed-n es) ∙ (r ∙ sym (the-count row m (length row) x n e q))) in
+                  fill-counted es o q ∙ rw (ne-eqb (length es) (length (q .decls)) d)
+
+-- the places of a list
+place-words : (es : List Entry) → GoodAll Places es → map wordOf es ≡ map wordFor (map placeOf es)
+place-words [] g = refl
+place-words (entry w kept ∷ es) g = rw (g .0, place-words es (g .1))
+place-words (entry w (filled x) ∷ es) g = rw (g .0 .0, place-words es (g .1))
+
+pub record Placing (list : List ℕ) (t : Table) (work : List ℕ) (n : ℕ) : Type 0 where
+  pub es : List Entry
+  pub is : listOf Places list ≡ some es
+  pub count : length es ≡ n
+  pub table : t ≡ tabled es 0 emptyTable
+  pub marks : take (length list) (drop 8192 work) ≡ markEntries es 0 (replicate (length list) 0)
+
+module _ (list work : List ℕ) (l : Listed) (n : ℕ) where
+  placing-of : (es : List Entry) → listOf Places list ≡ some es → l .table ≡ tabled es 0 emptyTable → take (length list) (drop 8192 work) ≡ markEntries es 0 (replicate (length list) 0) → l .table .n ≡ n → Placing list (l .table) work n
+  placing-of es o t k c = record { es = es; is = o; count = sym (ap (λ (u : Table). u .n) t ∙ listed-n es) ∙ c; table = t; marks = k }
+
+  pub placing : Listing (listOf Places list) (replicate (length list) 0) (take (length list) (drop 8192 work)) l → l .ok ≡ true → l .table .n ≡ n → Placing list (l .table) work n
+  placing h ok c =
+      let (es, o, t, k) = listing-yes (listOf Places list) (replicate (length list) 0) (take (length list) (drop 8192 work)) l h ok in
+      placing-of es o t k c
+
+module _ (list : List ℕ) (t : Table) (work : List ℕ) (n : ℕ) (y : Placing list t work n) (few : n ≤ 32) where
+  table-n : t .n ≡ length (y .es)
+  table-n = ap (λ (u : Table). u .n) (y .table) ∙ listed-n (y .es)
+
+  es-few : length (y .es) ≤ 32
+  es-few = let c = y .count in omega arith
+
+  places-in-row : InRow (fillPlan t) (length list)
+  unfolding InRow
+  places-in-row i h = rw (y .table) (listed-in-row Places list (y .es) (y .is) es-few i (let c = table-n in omega arith))
+
+  pub places-ready : length (t .words) ≡ 32 → length (t .starts) ≡ 32 → length (t .ends) ≡ 32 → 8192 + length list ≤ length work → Ready (fillPlan t) list (drop 8192 work)
+  places-ready a b c h = record { tabled = record { few = (let c = table-n in let d = es-few in omega arith); words = a; starts = b; ends = c }; in-row = places-in-row; marked = rw length-drop (omega arith) }
+
+  module _ (row : List ℕ) (wl room : ℕ) (enough : 16384 ≤ wl) (short : length list ≤ 8192) (work₀ : List ℕ) (x : Checked Predicate row (take (length row) work₀) (length row)) (same : take 8192 work ≡ take 8192 work₀)
+      (e : n ≡ declaredIn row) (z : n ≡ 0 → ⊥) where
+    q : Quant (x .form)
+    q = the-quant row (take (length row) work₀) (length row) x n e z
+
+    ps-count : length (map placeOf (y .es)) ≡ length (q .decls)
+    ps-count = length-map (y .es) placeOf ∙ (y .count ∙ the-count row (take (length row) work₀) (length row) x n e q)
+
+    row-marks : take (length (encode (x .form))) work ≡ mark (x .form) 0 0 (replicate (length (encode (x .form))) 0)
+    row-marks = rw (x .words) at (front-same work work₀ (length row) (x .short) same ∙ x .marks)
+
+    fill-built : filledRow list (drop 8192 work) (encode (x .form)) work (tabled (y .es) 0 emptyTable) room ≡ finish pred room (fill (q .tag) (q .decls) (map placeOf (y .es)) (q .body))
+    fill-built =
+        filled-tree (x .form) q (tabled (y .es) 0 emptyTable) list (drop 8192 work) (map placeOf (y .es)) (listed-words (y .es) es-few ∙ place-words (y .es) (list-sound Places list (y .es) (y .is) .1))
+        (listed-n (y .es) ∙ sym (length-map (y .es) placeOf))
+        (λ i h. listed-places Places list (y .es) (y .is) es-few (drop 8192 work) (y .marks) i (rw (length-map (y .es) placeOf) at h)) ps-count work row-marks room
+
+    fill-said : fillOutcome list row wl room ≡ finish pred room (fill (q .tag) (q .decls) (map placeOf (y .es)) (q .body))
+    fill-said = fill-counted list row wl room enough (take (length row) work₀) x short (y .es) (y .is) q ∙ rw (eq-eqb (length (y .es)) (length (q .decls)) (sym (length-map (y .es) placeOf) ∙ ps-count))
+
+    fill-made : filledRow list (drop 8192 work) row work t room ≡ finish pred room (fill (q .tag) (q .decls) (map placeOf (y .es)) (q .body))
+    fill-made = ap (λ (u : Table). filledRow list (drop 8192 work) row work u room) (y .table) ∙ (ap (λ (r : List ℕ). filledRow list (drop 8192 work) r work (tabled (y .es) 0 emptyTable) room) (x .words) ∙ fill-built)
+
+    pub fill-row : filledRow list (drop 8192 work) row work t room ≡ fillOutcome list row wl room
+    fill-row = fill-made ∙ sym fill-said

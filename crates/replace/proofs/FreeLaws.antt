@@ -1,0 +1,236 @@
+-- Free substitution on rows is free substitution on trees. Assumes nothing.
+use mathlib.Core.Path.{_≡_, refl, ap, sym, _∙_}
+use mathlib.Core.Bool.{Bool, true, false}
+use mathlib.Core.List.{List, [], _∷_, _++_, append-nil, map}
+use mathlib.Core.Option.{none as absent, some}
+use Prim.Native.Nat.{ℕ, zero, suc, _+_, _-_, _≤_, _<_}
+use native.Mathlib.Nat.{le-refl}
+use native.Mathlib.Omega.{arith}
+use borrow.Author.Tests.{le-leb, lt-leb, leb-true, leb-false}
+use lib.Dec.{leb, eqb}
+use lib.ListN.{length, getD, take, drop, replicate, length-map, length-drop, List·getD-eq-default}
+use lib.Seq.{take-take, take-at}
+use Rattle.form.specs.Form.{Leaf, free, bound, Form, leaf, pick, encode}
+use Rattle.form.specs.Tag.{Sort, expr, pred}
+use Rattle.form.specs.Decode.{Whole, one, not-one, Found, found, missing, asSort, rowForm, formOf}
+use Rattle.form.specs.Lists.{Place, kept, filled, Entry, entry, wordOf, placeOf, encodeList, listOf, distinct, goodNames}
+use Rattle.form.specs.Answer.{Outcome, refusal, needs, finish}
+use Rattle.form.specs.Internal.Reads.{asExpr, markEntries, emptyTable, tabled, Listing, goodTable}
+use Rattle.form.specs.declared.answer.Kind.{Kind}
+use Rattle.form.specs.declared.answer.Kind.the-variants.{Expression, Predicate, Either}
+use Rattle.form.specs.declared.lists.ListKind.the-variants.{Pairs}
+use Rattle.form.specs.declared.lists.Table.{Table}
+use Rattle.form.specs.declared.lists.Listed.{Listed}
+use Rattle.form.proofs.DecodeLaws.{clash, Ok}
+use Rattle.form.proofs.ListLaws.{list-sound}
+use Rattle.form.proofs.TableLaws.{listed-words, listed-n, good-listed, listing-yes}
+use Rattle.form.proofs.CheckLaws.{sortFor, form-of}
+use Rattle.subst.specs.Walk.{Binding, inside, outside, binding, Outer, named, dangling, walkIndex, walkLeaf, walk, up, put, each}
+use Rattle.subst.specs.Internal.Items.{items, wordsOf, rewritten}
+use Rattle.subst.specs.declared.items.Item.the-variants.{Plain, Ident}
+use Rattle.subst.proofs.WalkLaws.{binding-back, and-left, walk-agree}
+use Rattle.subst.proofs.LimitLaws.{small}
+use Rattle.subst.proofs.ShiftLaws.{moved}
+use Rattle.subst.proofs.RowLaws.{identOf, itemsOf, marked-items, walk-items}
+use Rattle.subst.proofs.CheckedLaws.{Checked}
+use Rattle.replace.specs.Free.{orName, seek, freeFor, substitute, freeOutcome}
+use Rattle.replace.specs.Internal.Pieces.{part, pieceWords, spot, freePiece, pieceOf, planned, InRow, Ready, replaced, kindFor, freePlan}
+use Rattle.replace.specs.declared.pieces.Piece.the-variants.{Same, Index, Part}
+use Rattle.replace.specs.declared.pieces.Plan.{Plan}
+use Rattle.replace.proofs.EntryLaws.{PlaceAt, listed-places, listed-in-row}
+use Rattle.replace.proofs.MarkLaws.{items-take}
+use Rattle.replace.proofs.ActionLaws.{tight, tight-depth, ok-tight, moved-words, moved-lift}
+use Rattle.replace.proofs.BuildLaws.{kindOf, emit-form}
+
+-- the list is searched as the words are
+seek-step : (n m : ℕ) (p : Place) (es : List Entry) (b : Bool) → seek es m ≡ orName m (getD (map placeOf es) (spot m (map wordOf es)) kept)
+    → pick b (orName m p) (seek es m) ≡ orName m (getD (p ∷ map placeOf es) (pick b 0 (suc (spot m (map wordOf es)))) kept)
+seek-step n m p es true h = refl
+seek-step n m p es false h = h
+
+pub seek-spot : (es : List Entry) (m : ℕ) → seek es m ≡ orName m (getD (map placeOf es) (spot m (map wordOf es)) kept)
+unfolding spot
+seek-spot [] m = refl
+seek-spot (entry n p ∷ es) m = seek-step n m p es (eqb n m) (seek-spot es m)
+
+-- what stands for a name or an index, as the code finds it
+abbrev orMoved : ℕ → ℕ → Place → Form
+orMoved k m kept = leaf (free m)
+orMoved k m (filled x) = walk (moved k 0) 0 x
+
+abbrev freeMoved : List ℕ → List Place → ℕ → Outer → Form
+freeMoved ws ps k (named m) = orMoved k m (getD ps (spot m ws) kept)
+freeMoved ws ps k (dangling j) = leaf (bound (k + j))
+
+abbrev Small : Place → Type 0
+Small kept = Unit {0}
+Small (filled x) = each small 0 x ≡ true
+
+name-lift : (k m : ℕ) (p : Place) → k ≤ 2048 → Small p → orMoved k m p ≡ walk (up k) 0 (orName m p)
+unfolding walk
+name-lift k m kept h s = refl
+name-lift k m (filled x) h s = moved-lift k x (omega arith) s
+
+module _ (list lm : List ℕ) (s e k m : ℕ) where
+  place-words : (p : Place) → PlaceAt ⊥ list lm s e p → pieceWords list lm (Part s e k 0) (Ident k 1 m) ≡ encode (orMoved k m p)
+  unfolding pieceWords
+  place-words kept h = absurd h
+  place-words (filled x) h = rw (h .0) (moved-words k 0 x)
+
+  place-small : (p : Place) → PlaceAt ⊥ list lm s e p → Small p
+  place-small kept h = tt
+  place-small (filled x) h = h .1
+
+module _ (t : Table) (list lm : List ℕ) (es : List Entry) (words : take (t .n) (t .words) ≡ map wordOf es) (count : t .n ≡ length es)
+    (placed : (i : ℕ) → i < length es → PlaceAt ⊥ list lm (getD (t .starts) i 0) (getD (t .ends) i 0) (getD (map placeOf es) i kept)) where
+  abbrev at : ℕ → ℕ
+  at m = spot m (map wordOf es)
+
+  past : (i : ℕ) → length es ≤ i → getD (map placeOf es) i kept ≡ kept
+  past i h = List·getD-eq-default (map placeOf es) kept (rw (length-map es placeOf) h)
+
+  all-small : (i : ℕ) → Small (getD (map placeOf es) i kept)
+  all-small i = go (leb (length es) i) refl
+    where
+      go : (b : Bool) → leb (length es) i ≡ b → Small (getD (map placeOf es) i kept)
+      go true q = rw (past i (leb-true (length es) i q)) tt
+      go false q = place-small list lm (getD (t .starts) i 0) (getD (t .ends) i 0) 0 0 (getD (map placeOf es) i kept) (placed i (leb-false (length es) i q))
+
+  name-words : (k m : ℕ) → pieceWords list lm (freePiece (freePlan t) k m) (Ident k 1 m) ≡ encode (orMoved k m (getD (map placeOf es) (at m) kept))
+  unfolding freePiece pieceWords wordsOf encode
+  name-words k m = rw words (go (leb (t .n) (at m)) refl)
+    where
+      go : (b : Bool) → leb (t .n) (at m) ≡ b → pieceWords list lm (pick b Same (Part (getD (t .starts) (at m) 0) (getD (t .ends) (at m) 0) k 0)) (Ident k 1 m) ≡ encode (orMoved k m (getD (map placeOf es) (at m) kept))
+      go true q = let h = leb-true (t .n) (at m) q in rw (past (at m) (omega arith))
+      go false q =
+          let h = leb-false (t .n) (at m) q in
+          place-words list lm (getD (t .starts) (at m) 0) (getD (t .ends) (at m) 0) k m (getD (map placeOf es) (at m) kept) (placed (at m) (omega arith))
+
+  index-words : (k i : ℕ) (z : Binding) → binding k i ≡ z → wordsOf (Ident k 2 i) ≡ encode (walkIndex (freeMoved (map wordOf es) (map placeOf es)) k i z)
+  unfolding wordsOf encode
+  index-words k i inside q = refl
+  index-words k i (outside j) q = rw (binding-back k i j q)
+
+  free-leaf : (k : ℕ) (x : Leaf) → planned (freePlan t) list lm (identOf k x) ≡ encode (walkLeaf (freeMoved (map wordOf es) (map placeOf es)) k x)
+  unfolding pieceOf pieceWords
+  free-leaf k (free m) = name-words k m
+  free-leaf k (bound i) = index-words k i (binding k i) refl
+
+  free-plain : (w : ℕ) → planned (freePlan t) list lm (Plain w) ≡ w ∷ []
+  unfolding pieceOf pieceWords wordsOf
+  free-plain w = refl
+
+  free-agree : (k : ℕ) (x : Outer) → tight 2048 k x ≡ true → freeMoved (map wordOf es) (map placeOf es) k x ≡ put (freeFor es) k x
+  unfolding walk
+  free-agree k (named m) h = rw (seek-spot es m) (name-lift k m (getD (map placeOf es) (at m) kept) (tight-depth 2048 k (named m) h) (all-small (at m)))
+  free-agree k (dangling j) h = ap (λ z. leaf (bound z)) (omega arith)
+
+  pub free-tree : (s : Sort) (f : Form) → Ok 64 s f → rewritten (planned (freePlan t) list lm) (itemsOf 0 f) ≡ encode (substitute es f)
+  unfolding substitute
+  free-tree s f ok =
+      walk-items (planned (freePlan t) list lm) (freeMoved (map wordOf es) (map placeOf es)) free-plain free-leaf 0 f
+      ∙ ap encode (walk-agree (tight 2048) (freeMoved (map wordOf es) (map placeOf es)) (put (freeFor es)) free-agree 0 f (ok-tight ok 2048 0 (omega arith)))
+
+-- the kind as which the row was read
+kind-sort : (row : List ℕ) (s : Sort) (f : Form) → formOf Either row ≡ found s f → (b : Bool) → asExpr Either row ≡ b → kindFor b ≡ kindOf s
+kind-sort row s f q b e = go b (rowForm (sortFor b) row) (sym (form-of Either row b (sym e)) ∙ q)
+  where
+    go : (b : Bool) (w : Whole) → asSort (sortFor b) w ≡ found s f → kindFor b ≡ kindOf s
+    go true (one g) q = let z : expr ≡ s = cc in rw (← z)
+    go false (one g) q = let z : pred ≡ s = cc in rw (← z)
+    go b not-one q = absurd (clash cc)
+
+-- the whole call
+module _ (list row : List ℕ) (wl room : ℕ) where
+  pub free-small : wl < 16384 → freeOutcome list row wl room ≡ refusal 15
+  unfolding freeOutcome
+  free-small h = rw (lt-leb 16384 wl h)
+
+  module _ (enough : 16384 ≤ wl) where
+    pub free-long : 8192 < length row → freeOutcome list row wl room ≡ refusal 1
+    unfolding freeOutcome
+    free-long h = rw (le-leb 16384 wl enough, lt-leb (length row) 8192 h)
+
+    pub free-missing : length row ≤ 8192 → formOf Either row ≡ missing → freeOutcome list row wl room ≡ refusal 2
+    unfolding freeOutcome
+    free-missing h q = rw (le-leb 16384 wl enough, le-leb (length row) 8192 h, q)
+
+    module _ (m : List ℕ) (x : Checked Either row m (length row)) where
+      pub free-list-long : 8192 < length list → freeOutcome list row wl room ≡ refusal 1
+      unfolding freeOutcome
+      free-list-long h = rw (le-leb 16384 wl enough, le-leb (length row) 8192 (x .short), x .is-found, lt-leb (length list) 8192 h)
+
+      module _ (short : length list ≤ 8192) where
+        pub free-no-list : listOf Pairs list ≡ absent → freeOutcome list row wl room ≡ refusal 2
+        unfolding freeOutcome
+        free-no-list o = rw (le-leb 16384 wl enough, le-leb (length row) 8192 (x .short), x .is-found, le-leb (length list) 8192 short, o)
+
+        free-named : (es : List Entry) → listOf Pairs list ≡ some es → freeOutcome list row wl room ≡ needs 4 (goodNames (map wordOf es)) (finish (x .sort) room (substitute es (x .form)))
+        unfolding freeOutcome
+        free-named es o = rw (le-leb 16384 wl enough, le-leb (length row) 8192 (x .short), x .is-found, le-leb (length list) 8192 short, o)
+
+        module _ (a b : List ℕ) (l : Listed) (h : Listing (listOf Pairs list) a b l) (ok : l .ok ≡ true) where
+          pub free-bad : (g : Bool) → g ≡ goodTable (l .table) → g ≡ false → freeOutcome list row wl room ≡ refusal 4
+          free-bad g e n =
+              let (es, o, t, k) = listing-yes (listOf Pairs list) a b l h ok in
+              go es o t
+            where
+              go : (es : List Entry) → listOf Pairs list ≡ some es → l .table ≡ tabled es 0 emptyTable → freeOutcome list row wl room ≡ refusal 4
+              go es o t = free-named es o ∙ rw (← good-listed es (leb (length es) 32) refl, ← t, ← e, n)
+
+few-names-of : (es : List Entry) → goodNames (map wordOf es) ≡ true → length es ≤ 32
+unfolding goodNames
+few-names-of es e = rw (length-map es wordOf) at (leb-true (length (map wordOf es)) 32 (and-left (leb (length (map wordOf es)) 32) (distinct (map wordOf es)) e))
+
+front-same : (a b : List ℕ) (n : ℕ) → n ≤ 8192 → take 8192 a ≡ take 8192 b → take n a ≡ take n b
+front-same a b n h e = sym (take-take n 8192 a h) ∙ (ap (λ l. take n l) e ∙ take-take n 8192 b h)
+
+-- what is known when the list was read into the work row
+pub record Pairing (list : List ℕ) (t : Table) (work : List ℕ) : Type 0 where
+  pub es : List Entry
+  pub is : listOf Pairs list ≡ some es
+  pub good : goodNames (map wordOf es) ≡ true
+  pub few : length es ≤ 32
+  pub table : t ≡ tabled es 0 emptyTable
+  pub marks : take (length list) (drop 8192 work) ≡ markEntries es 0 (replicate (length list) 0)
+
+module _ (list work : List ℕ) (l : Listed) where
+  pairing-of : (es : List Entry) → listOf Pairs list ≡ some es → l .table ≡ tabled es 0 emptyTable → take (length list) (drop 8192 work) ≡ markEntries es 0 (replicate (length list) 0) → goodTable (l .table) ≡ true
+      → Pairing list (l .table) work
+  pairing-of es o t k g =
+      let n : goodNames (map wordOf es) ≡ true = sym (good-listed es (leb (length es) 32) refl) ∙ rw t at g in
+      record { es = es; is = o; good = n; few = few-names-of es n; table = t; marks = k }
+
+  pub pairing : Listing (listOf Pairs list) (replicate (length list) 0) (take (length list) (drop 8192 work)) l → l .ok ≡ true → (g : Bool) → g ≡ goodTable (l .table) → g ≡ true → Pairing list (l .table) work
+  pairing h ok g e y =
+      let (es, o, t, k) = listing-yes (listOf Pairs list) (replicate (length list) 0) (take (length list) (drop 8192 work)) l h ok in
+      pairing-of es o t k (sym e ∙ y)
+
+module _ (list : List ℕ) (t : Table) (work : List ℕ) (y : Pairing list t work) where
+  pub pairs-few : t .n ≤ 32
+  pairs-few = let n = listed-n (y .es) in let f = y .few in rw (y .table) (omega arith)
+
+  pub pairs-in-row : InRow (freePlan t) (length list)
+  unfolding InRow
+  pairs-in-row i h = rw (y .table) (listed-in-row Pairs list (y .es) (y .is) (y .few) i (let n = listed-n (y .es) in let q = rw (y .table) at h in omega arith))
+
+  module _ (row : List ℕ) (wl room : ℕ) (enough : 16384 ≤ wl) (short : length list ≤ 8192) (work₀ : List ℕ) (x : Checked Either row (take (length row) work₀) (length row)) (same : take 8192 work ≡ take 8192 work₀) where
+    row-items : items row work ≡ itemsOf 0 (x .form)
+    row-items =
+        sym (items-take row work)
+        ∙ (rw (front-same work work₀ (length row) (x .short) same, x .marks, x .words) (marked-items (x .form) (length (encode (x .form))) (le-refl _)))
+
+    free-built : replaced (kindFor (asExpr Either row)) [] (freePlan t) list (drop 8192 work) row work room ≡ finish (x .sort) room (substitute (y .es) (x .form))
+    unfolding replaced
+    free-built =
+        let g = free-tree (tabled (y .es) 0 emptyTable) list (drop 8192 work) (y .es) (listed-words (y .es) (y .few)) (listed-n (y .es)) (listed-places Pairs list (y .es) (y .is) (y .few) (drop 8192 work) (y .marks)) (x .sort) (x .form) (x .ok) in
+        rw (y .table, row-items, g, kind-sort row (x .sort) (x .form) (x .is-found) (asExpr Either row) refl) (emit-form (x .sort) room (substitute (y .es) (x .form)))
+
+    free-said : freeOutcome list row wl room ≡ finish (x .sort) room (substitute (y .es) (x .form))
+    free-said = free-named list row wl room enough (take (length row) work₀) x short (y .es) (y .is) ∙ rw (y .good)
+
+    pub free-row : replaced (kindFor (asExpr Either row)) [] (freePlan t) list (drop 8192 work) row work room ≡ freeOutcome list row wl room
+    free-row = free-built ∙ sym free-said
+
+  pub pairs-ready : length (t .words) ≡ 32 → length (t .starts) ≡ 32 → length (t .ends) ≡ 32 → 8192 + length list ≤ length work → Ready (freePlan t) list (drop 8192 work)
+  pairs-ready a b c h = record { tabled = record { few = pairs-few; words = a; starts = b; ends = c }; in-row = pairs-in-row; marked = rw length-drop (omega arith) }

@@ -1,0 +1,12 @@
+pub mod PieceLaws
+pub mod MarkLaws
+pub mod EntryLaws
+pub mod BuildLaws
+pub mod CallLaws
+pub mod ActionLaws
+pub mod FreeLaws
+pub mod FillTree
+pub mod NameLaws
+pub mod QuantLaws
+pub mod FillLaws
+pub mod PruneLaws

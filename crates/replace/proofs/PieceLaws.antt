@@ -1,0 +1,208 @@
+-- The loops over a plan's pieces: searches in the table, lengths, and the words stored one piece after another. Assumes nothing.
+use mathlib.Core.Path.{_≡_, refl, ap, sym, _∙_}
+use mathlib.Core.Bool.{Bool, true, false}
+use mathlib.Core.List.{List, [], _∷_, _++_}
+use Prim.Native.Nat.{ℕ, zero, suc, _+_, _-_, _≤_, _<_}
+use native.Mathlib.Nat.{add-zero}
+use native.Mathlib.Omega.{arith}
+use borrow.Author.Tests.{le-leb, lt-leb, leb-true, leb-false, lt-ltb, le-ltb, ltb-false, eq-eqb, ne-eqb}
+use lib.Dec.{leb, ltb, eqb}
+use lib.ListN.{length, getD, take, drop, length-append, length-drop}
+use lib.Seq.{length-take-le}
+use Rattle.form.specs.Form.{pick}
+use Rattle.form.proofs.HeadLaws.{here, gone}
+use Rattle.subst.specs.Internal.Items.{itemAt, items, sizeOf, wordsOf, rewritten, store, moveItem, movedWords}
+use Rattle.subst.specs.declared.items.Item.{Item}
+use Rattle.subst.specs.declared.items.Item.the-variants.{Plain, Ident}
+use Rattle.subst.proofs.ItemLaws.{next, store-append, rewritten-length, size-pos}
+use Rattle.subst.proofs.ShiftLaws.{keeps}
+use Rattle.replace.specs.Internal.Pieces.{part, pieceWords, pieceSize, spot, filledWords, freePiece, placePiece, fillPiece, pieceOf, planned, sizes, capped, Tabled, InRow, Ready, Fits}
+use Rattle.replace.specs.declared.pieces.Piece.{Piece}
+use Rattle.replace.specs.declared.pieces.Piece.the-variants.{Same, Index, Part}
+use Rattle.replace.specs.declared.pieces.Plan.{Plan}
+
+-- a name in the table, and the filled places
+module _ (ns : List ℕ) (m i : ℕ) where
+  pub spot-here : i < length ns → getD ns i 0 ≡ m → spot m (drop i ns) ≡ 0
+  unfolding spot
+  spot-here low e = rw (here ns i low, eq-eqb (getD ns i 0) m e)
+
+  pub spot-on : i < length ns → (getD ns i 0 ≡ m → ⊥) → i + spot m (drop i ns) ≡ i + 1 + spot m (drop (i + 1) ns)
+  unfolding spot
+  spot-on low e = rw (here ns i low, ne-eqb (getD ns i 0) m e) (omega arith)
+
+  pub spot-end : length ns ≤ i → spot m (drop i ns) ≡ 0
+  unfolding spot
+  spot-end h = rw (gone ns i h)
+
+pub filled-word : (w : ℕ) (ws : List ℕ) → filledWords (w ∷ ws) ≡ filledWords (w ∷ []) + filledWords ws
+unfolding filledWords
+filled-word zero ws = omega arith
+filled-word (suc w) ws = omega arith
+
+pub filled-zero : (w : ℕ) → w ≡ 0 → filledWords (w ∷ []) ≡ 0
+unfolding filledWords
+filled-zero w e = rw e
+
+pub filled-one : (w : ℕ) → (w ≡ 0 → ⊥) → filledWords (w ∷ []) ≡ 1
+unfolding filledWords
+filled-one zero n = absurd (n refl)
+filled-one (suc w) n = refl
+
+pub filled-few : (w : ℕ) → filledWords (w ∷ []) ≤ 1
+unfolding filledWords
+filled-few zero = omega arith
+filled-few (suc w) = omega arith
+
+pub filled-next : (ws : List ℕ) (i n : ℕ) → i < length ws → n + filledWords (drop i ws) ≡ n + filledWords (getD ws i 0 ∷ []) + filledWords (drop (i + 1) ws)
+filled-next ws i n h = rw (here ws i h, filled-word (getD ws i 0)) (omega arith)
+
+pub filled-end : (ws : List ℕ) (i n : ℕ) → length ws ≤ i → n + filledWords (drop i ws) ≡ n
+unfolding filledWords
+filled-end ws i n h = rw (gone ws i h) (omega arith)
+
+-- where a piece lies, and how many words it has
+module _ (p : Plan) (n : ℕ) (inside : InRow p n) where
+  free-fits : (k i : ℕ) (b : Bool) → leb (p .table .n) i ≡ b → Fits (pick b Same (Part (getD (p .table .starts) i 0) (getD (p .table .ends) i 0) k (p .down))) n
+  unfolding Fits InRow
+  free-fits k i true e = tt
+  free-fits k i false e = inside i (leb-false (p .table .n) i e)
+
+  place-fits : (k v i : ℕ) (b : Bool) → i < p .table .n
+      → Fits (pick b (Index v) (Part (getD (p .table .starts) i 0) (getD (p .table .ends) i 0) k (p .down))) n
+  unfolding Fits InRow
+  place-fits k v i true h = tt
+  place-fits k v i false h = inside i h
+
+  fill-fits : (k v : ℕ) (a b : Bool) → leb (p .table .n) (v - (k - p .table .n)) ≡ b
+      → Fits (pick a Same (pick b (Index (v - p .gone)) (placePiece p k v (p .table .n - 1 - (v - (k - p .table .n)))))) n
+  unfolding Fits placePiece
+  fill-fits k v true b e = tt
+  fill-fits k v false true e = tt
+  fill-fits k v false false e =
+      let l = leb-false (p .table .n) (v - (k - p .table .n)) e in
+      place-fits _ _ (p .table .n - 1 - (v - (k - p .table .n))) (eqb (getD (p .table .words) (p .table .n - 1 - (v - (k - p .table .n))) 0) 0) (omega arith)
+
+  pick-fits : (b : Bool) (x y : Piece) → Fits x n → Fits y n → Fits (pick b x y) n
+  pick-fits true x y h k = h
+  pick-fits false x y h k = k
+
+  same-fits : Fits Same n
+  unfolding Fits
+  same-fits = tt
+
+  pub piece-fits : (x : Item) → Fits (pieceOf p x) n
+  unfolding pieceOf freePiece fillPiece
+  piece-fits (Plain w) = same-fits
+  piece-fits (Ident k t v) =
+      pick-fits (p .fills) _ _ (pick-fits (eqb t 2) _ _ (fill-fits k v (ltb v (k - p .table .n)) (leb (p .table .n) (v - (k - p .table .n))) refl) same-fits)
+      (pick-fits (eqb t 1) _ _ (free-fits k (spot v (take (p .table .n) (p .table .words))) _ refl) same-fits)
+
+pub part-length : (s e : ℕ) (l : List ℕ) → s ≤ e → e ≤ length l → length (part s e l) ≡ e - s
+unfolding part
+part-length s e l h k = length-take-le (e - s) (drop s l) (rw length-drop (omega arith))
+
+words-length : (x : Item) → length (wordsOf x) ≡ sizeOf x
+unfolding wordsOf sizeOf
+words-length (Plain w) = refl
+words-length (Ident k t v) = refl
+
+pub piece-length : (list lm : List ℕ) (c : Piece) (x : Item) → Fits c (length list) → length (pieceWords list lm c x) ≡ pieceSize c x
+unfolding pieceWords pieceSize Fits
+piece-length list lm Same x h = words-length x
+piece-length list lm (Index v) x h = refl
+piece-length list lm (Part s e u d) x h = rewritten-length (movedWords u d) (keeps u d) (part s e list) (part s e lm) ∙ part-length s e list (h .0) (h .1)
+
+pub planned-length : (p : Plan) (list lm : List ℕ) → InRow p (length list) → (xs : List Item) → length (rewritten (planned p list lm) xs) ≡ sizes p xs
+unfolding rewritten sizes
+planned-length p list lm h [] = refl
+planned-length p list lm h (x ∷ xs) = rw (length-append, piece-length list lm (pieceOf p x) x (piece-fits p (length list) h x), planned-length p list lm h xs)
+
+-- lengths are added as far as they matter
+pub capped-over : (n k : ℕ) → n ≤ 8192 → 8192 - n < k → capped (n + k) ≡ 8193
+unfolding capped
+capped-over n k h l = rw (lt-leb (n + k) 8192 (omega arith))
+
+pub capped-same : (n : ℕ) → n ≤ 8192 → capped n ≡ n
+unfolding capped
+capped-same n h = rw (le-leb n 8192 h)
+
+pub capped-high : (n r : ℕ) → r ≡ capped n → 8192 < r → 8192 < n
+capped-high n r e h = go (leb n 8192) refl
+  where
+    go : (b : Bool) → leb n 8192 ≡ b → 8192 < n
+    go true q = let z = capped-same n (leb-true n 8192 q) in omega arith
+    go false q = leb-false n 8192 q
+
+capped-else : (n : ℕ) → 8192 < n → capped n ≡ 8193
+unfolding capped
+capped-else n h = rw (lt-leb n 8192 h)
+
+pub capped-low : (n r : ℕ) → r ≡ capped n → r ≤ 8192 → r ≡ n
+capped-low n r e h = go (leb n 8192) refl
+  where
+    go : (b : Bool) → leb n 8192 ≡ b → r ≡ n
+    go true q = e ∙ capped-same n (leb-true n 8192 q)
+    go false q = let z = capped-else n (leb-false n 8192 q) in absurd (omega arith)
+
+-- one item after another
+module _ (row marks : List ℕ) (i : ℕ) (low : i < length row) {x : Item} (at : x ≡ itemAt (drop i row) (drop i marks)) where
+  pub store-next : (g : Item → List ℕ) (out out′ : List ℕ) (p q : ℕ) → out′ ≡ store out p (g x) → q ≡ p + length (g x)
+      → store out p (rewritten g (items (drop i row) (drop i marks))) ≡ store out′ q (rewritten g (items (drop (i + sizeOf x) row) (drop (i + sizeOf x) marks)))
+  unfolding rewritten
+  store-next g out out′ p q e n = rw (next row marks i low at, store-append out p (g x), ← e, n)
+
+  pub sizes-next : (p : Plan) → sizes p (items (drop i row) (drop i marks)) ≡ pieceSize (pieceOf p x) x + sizes p (items (drop (i + sizeOf x) row) (drop (i + sizeOf x) marks))
+  unfolding sizes
+  sizes-next p = rw (next row marks i low at)
+
+module _ (row marks : List ℕ) (i : ℕ) (high : length row ≤ i) where
+  pub store-stop : (g : Item → List ℕ) (out : List ℕ) (p : ℕ) → store out p (rewritten g (items (drop i row) (drop i marks))) ≡ out
+  unfolding rewritten items store
+  store-stop g out p = rw (gone row i high)
+
+  pub sizes-stop : (p : Plan) → sizes p (items (drop i row) (drop i marks)) ≡ 0
+  unfolding sizes items
+  sizes-stop p = rw (gone row i high)
+
+-- a piece by its case
+pub same-size : {c : Piece} (x : Item) → c ≡ Same → 0 < pieceSize c x
+unfolding pieceSize
+same-size x e = rw e (size-pos x)
+
+pub index-size : {c : Piece} {v : ℕ} (x : Item) → c ≡ Index v → pieceSize c x ≡ 2
+unfolding pieceSize
+index-size x e = rw e
+
+pub part-size : {c : Piece} {s e u d : ℕ} (x : Item) → c ≡ Part s e u d → pieceSize c x ≡ e - s
+unfolding pieceSize
+part-size x q = rw q
+
+pub part-fits : (n : ℕ) {c : Piece} {s e u d : ℕ} → Fits c n → c ≡ Part s e u d → (s ≤ e) × (e ≤ n)
+unfolding Fits
+part-fits n h q = rw q at h
+
+-- a piece in the loops
+module _ (p : Plan) (x : Item) {c : Piece} (is : c ≡ pieceOf p x) {n : ℕ} (size : n ≡ pieceSize c x) where
+  pub planned-size : (list lm : List ℕ) → InRow p (length list) → n ≡ length (planned p list lm x)
+  planned-size list lm h = rw (size, is) (sym (piece-length list lm (pieceOf p x) x (piece-fits p (length list) h x)))
+
+  pub sizes-step : (row marks : List ℕ) (i : ℕ) → i < length row → x ≡ itemAt (drop i row) (drop i marks)
+      → sizes p (items (drop i row) (drop i marks)) ≡ n + sizes p (items (drop (i + sizeOf x) row) (drop (i + sizeOf x) marks))
+  sizes-step row marks i low at = rw (size, is) (sizes-next row marks i low at p)
+
+  module _ (row marks : List ℕ) (i : ℕ) (low : i < length row) (at : x ≡ itemAt (drop i row) (drop i marks)) (k : ℕ) where
+    pub needed-next : capped (k + sizes p (items (drop i row) (drop i marks))) ≡ capped (k + n + sizes p (items (drop (i + sizeOf x) row) (drop (i + sizeOf x) marks)))
+    needed-next = rw (sizes-step row marks i low at) (ap capped (omega arith))
+
+    pub needed-over : k ≤ 8192 → 8192 - k < n → capped (k + sizes p (items (drop i row) (drop i marks))) ≡ 8193
+    needed-over h l = rw (sizes-step row marks i low at) (capped-over k _ h (omega arith))
+
+pub needed-end : (p : Plan) (row marks : List ℕ) (i k : ℕ) → length row ≤ i → k ≤ 8192 → capped (k + sizes p (items (drop i row) (drop i marks))) ≡ k
+needed-end p row marks i k l h = rw (sizes-stop row marks i l p, add-zero) (capped-same k h)
+
+pub pick-yes : {A : Type 0} {b : Bool} (x y : A) → b ≡ true → pick b x y ≡ x
+pick-yes x y e = rw e
+
+pub pick-no : {A : Type 0} {b : Bool} (x y : A) → b ≡ false → pick b x y ≡ y
+pick-no x y e = rw e

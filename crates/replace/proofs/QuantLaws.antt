@@ -1,0 +1,197 @@
+-- A row that is a quantified predicate: its tag, its number of declarations, their names, its body with the body's marks. Assumes nothing.
+use mathlib.Core.Path.{_≡_, refl, ap, sym, _∙_}
+use mathlib.Core.Bool.{Bool, true, false, _||_}
+use mathlib.Core.List.{List, [], _∷_, _++_, append-assoc, append-nil}
+use Prim.Native.Nat.{ℕ, zero, suc, _+_, _-_, _≤_, _<_}
+use native.Mathlib.Nat.{add-zero}
+use native.Mathlib.Omega.{arith}
+use borrow.Author.Tests.{eqb-true, leb-true, le-ltb}
+use lib.Dec.{leb, eqb, ltb}
+use lib.ListN.{length, getD, take, drop, replicate, length-append, take-append-drop}
+use lib.Seq.{drop-at}
+use Rattle.form.specs.Form.{Form, leaf, node, Forms, none, more, pick, between, encode, encodeAll}
+use Rattle.form.specs.Tag.{Sort, expr, pred, Own, ask, kids, own, ownOf, shapeOf, predTags, sorts}
+use Rattle.form.specs.Decode.{Head, head, bad, addWord, addName, only, names, read}
+use Rattle.form.specs.Internal.Reads.{mark}
+use Rattle.form.proofs.DecodeLaws.{clash, Ok, ok-node, OkAll, ok-none, ok-more}
+use Rattle.subst.specs.Internal.Items.{items}
+use Rattle.subst.proofs.WalkLaws.{and-left, and-right}
+use Rattle.subst.proofs.RowLaws.{itemsOf, marksOf, zeros, zeros-length, items-encode}
+use Rattle.replace.specs.Fill.{Quantified, quantifier, other, quantified}
+use Rattle.replace.specs.Internal.Pieces.{declaredIn}
+use Rattle.replace.proofs.MarkLaws.{only-mark}
+
+-- what was read after a quantifier's tag
+name-count : (b : Bool) (w : ℕ) (h : Head) (o ds : List ℕ) (p e n : ℕ) (r : List ℕ) → only b (addName w h) ≡ head o ds p e r
+    → ((o′ ds′ : List ℕ) (p′ e′ : ℕ) (r′ : List ℕ) → h ≡ head o′ ds′ p′ e′ r′ → (o′ ≡ []) × (length ds′ ≡ n) × (p′ ≡ 1) × (e′ ≡ 0)) → (o ≡ []) × (length ds ≡ suc n) × (p ≡ 1) × (e ≡ 0)
+name-count true w (head o′ ds′ p′ e′ r′) o ds p e n r q k =
+    let z = k o′ ds′ p′ e′ r′ refl in
+    let a : o′ ≡ o = cc in
+    let b : w ∷ ds′ ≡ ds = cc in
+    let c : p′ ≡ p = cc in
+    let d : e′ ≡ e = cc in
+    rw (← a, ← b, ← c, ← d) (z .0, ap suc (z .1), z .2, z .3)
+name-count true w bad o ds p e n r q k = absurd (clash cc)
+name-count false w h o ds p e n r q k = absurd (clash cc)
+
+names-count : (n : ℕ) (ws o ds : List ℕ) (p e : ℕ) (r : List ℕ) → names n 1 0 ws ≡ head o ds p e r → (o ≡ []) × (length ds ≡ n) × (p ≡ 1) × (e ≡ 0)
+names-count zero ws o ds p e r q =
+    let a : [] ≡ o = cc in
+    let b : [] ≡ ds = cc in
+    let c : 1 ≡ p = cc in
+    let d : 0 ≡ e = cc in
+    rw (← a, ← b, ← c, ← d) (refl, refl, refl, refl)
+names-count (suc n) [] o ds p e r q = absurd (clash cc)
+names-count (suc n) (w ∷ ws) o ds p e r q = name-count (between 0 65535 w) w (names n 1 0 ws) o ds p e n r q (λ o′ ds′ p′ e′ r′ h. names-count n ws o′ ds′ p′ e′ r′ h)
+
+pub record Heading (o ds : List ℕ) (p e : ℕ) : Type 0 where
+  pub words : o ≡ length ds ∷ []
+  pub least : 1 ≤ length ds
+  pub most : length ds ≤ 32
+  pub preds : p ≡ 1
+  pub exprs : e ≡ 0
+
+heading-of : (b : Bool) (w : ℕ) (h : Head) (o ds : List ℕ) (p e : ℕ) (r : List ℕ) → between 1 32 w ≡ b → only b (addWord w h) ≡ head o ds p e r
+    → ((o′ ds′ : List ℕ) (p′ e′ : ℕ) (r′ : List ℕ) → h ≡ head o′ ds′ p′ e′ r′ → (o′ ≡ []) × (length ds′ ≡ w) × (p′ ≡ 1) × (e′ ≡ 0)) → Heading o ds p e
+heading-of true w (head o′ ds′ p′ e′ r′) o ds p e r i q k =
+    let z = k o′ ds′ p′ e′ r′ refl in
+    let a : w ∷ o′ ≡ o = cc in
+    let b : ds′ ≡ ds = cc in
+    let c : p′ ≡ p = cc in
+    let d : e′ ≡ e = cc in
+    let x = leb-true 1 w (and-left (leb 1 w) (leb w 32) i) in
+    let y = leb-true w 32 (and-right (leb 1 w) (leb w 32) i) in
+    let n = z .1 in
+    rw (← a, ← b, ← c, ← d) (record { words = rw (z .0, n); least = omega arith; most = omega arith; preds = z .2; exprs = z .3 })
+heading-of true w bad o ds p e r i q k = absurd (clash cc)
+heading-of false w h o ds p e r i q k = absurd (clash cc)
+
+read-heading : (ws o ds : List ℕ) (p e : ℕ) (r : List ℕ) → read (ask 1 32 (λ n. kids n 1 0)) ws ≡ head o ds p e r → Heading o ds p e
+unfolding read
+read-heading [] o ds p e r q = absurd (clash cc)
+read-heading (w ∷ ws) o ds p e r q = heading-of (between 1 32 w) w (names w 1 0 ws) o ds p e r refl q (λ o′ ds′ p′ e′ r′ h. names-count w ws o′ ds′ p′ e′ r′ h)
+
+tag-851 : own pred 851 ≡ ask 1 32 (λ n. kids n 1 0)
+unfolding own ownOf shapeOf predTags
+tag-851 = refl
+
+tag-852 : own pred 852 ≡ ask 1 32 (λ n. kids n 1 0)
+unfolding own ownOf shapeOf predTags
+tag-852 = refl
+
+tag-heading : (t : ℕ) (ws o ds : List ℕ) (p e : ℕ) (r : List ℕ) → (eqb t 851 || eqb t 852) ≡ true → read (own pred t) ws ≡ head o ds p e r → Heading o ds p e
+tag-heading t ws o ds p e r h q = go (eqb t 851) (eqb t 852) refl refl h
+  where
+    go : (a b : Bool) → eqb t 851 ≡ a → eqb t 852 ≡ b → (a || b) ≡ true → Heading o ds p e
+    go true b x y z = read-heading ws o ds p e r (rw (eqb-true t 851 x, tag-851) at q)
+    go false true x y z = read-heading ws o ds p e r (rw (eqb-true t 852 y, tag-852) at q)
+    go false false x y z = absurd (clash cc)
+
+one-kid : {d : ℕ} {ks : Forms} → OkAll d (pred ∷ []) ks → (b : Form) × (ks ≡ more b none) × Ok d pred b
+one-kid (ok-more {f = f} h ok-none) = (f, refl, h)
+
+-- a row that is a quantified predicate
+pub record Quant (f : Form) : Type 0 where
+  pub tag : ℕ
+  pub decls : List ℕ
+  pub body : Form
+  pub is : quantified f ≡ quantifier tag decls body
+  pub which : (eqb tag 851 || eqb tag 852) ≡ true
+  pub form : f ≡ node tag (length decls ∷ []) decls (more body none)
+  pub least : 1 ≤ length decls
+  pub most : length decls ≤ 32
+  pub ok : Ok 63 pred body
+
+kid-quant : (t : ℕ) (o ds : List ℕ) (p e : ℕ) (ks : Forms) → (eqb t 851 || eqb t 852) ≡ true → Heading o ds p e → OkAll 63 (sorts p e) ks → Quant (node t o ds ks)
+unfolding quantified
+kid-quant t o ds p e ks h g w =
+    let (b, k, ok) = one-kid (rw (g .preds, g .exprs) at w) in
+    go b k ok
+  where
+    go : (b : Form) → ks ≡ more b none → Ok 63 pred b → Quant (node t o ds ks)
+    go b k ok = record { tag = t; decls = ds; body = b; is = rw (k, h); which = h; form = rw (k, g .words); least = g .least; most = g .most; ok = ok }
+
+-- the number of declarations as the code finds it
+dec-yes : (t n : ℕ) (ws : List ℕ) → (eqb t 851 || eqb t 852) ≡ true → declaredIn (t ∷ n ∷ ws) ≡ n
+unfolding declaredIn
+dec-yes t n ws h = rw (le-ltb (length (t ∷ n ∷ ws)) 2 (omega arith)) (go (eqb t 851) (eqb t 852) h)
+  where
+    go : (a b : Bool) → (a || b) ≡ true → pick a n (pick b n 0) ≡ n
+    go true b e = refl
+    go false true e = refl
+    go false false e = absurd (clash cc)
+
+dec-no : (t : ℕ) (ws : List ℕ) → (eqb t 851 || eqb t 852) ≡ false → declaredIn (t ∷ ws) ≡ 0
+unfolding declaredIn
+dec-no t ws h = go (ltb (length (t ∷ ws)) 2) (eqb t 851) (eqb t 852) (getD (t ∷ ws) 1 0) h
+  where
+    go : (c a b : Bool) (n : ℕ) → (a || b) ≡ false → pick c 0 (pick a n (pick b n 0)) ≡ 0
+    go true a b n e = refl
+    go false true b n e = absurd (clash cc)
+    go false false true n e = absurd (clash cc)
+    go false false false n e = refl
+
+pub is-quant : {f : Form} → Ok 64 pred f → 0 < declaredIn (encode f) → Quant f
+unfolding encode
+is-quant (ok-node {t = t} {o = o} {ds = ds} {p = p} {e = e} {ks = ks} l r w) h = go (eqb t 851 || eqb t 852) refl
+  where
+    go : (b : Bool) → (eqb t 851 || eqb t 852) ≡ b → Quant (node t o ds ks)
+    go true q = kid-quant t o ds p e ks q (tag-heading t (o ++ (ds ++ [])) o ds p e [] q (r [])) w
+    go false q = let z = dec-no t (o ++ (ds ++ encodeAll ks)) q in absurd (omega arith)
+
+other-tag : (t : ℕ) (o ds : List ℕ) (ks : Forms) → (eqb t 851 || eqb t 852) ≡ false → quantified (node t o ds ks) ≡ other
+unfolding quantified
+other-tag t o ds none h = refl
+other-tag t o ds (more f none) h = rw h
+other-tag t o ds (more f (more g gs)) h = refl
+
+pub not-quant : {f : Form} → Ok 64 pred f → declaredIn (encode f) ≡ 0 → quantified f ≡ other
+unfolding encode
+not-quant (ok-node {t = t} {o = o} {ds = ds} {p = p} {e = e} {ks = ks} l r w) h = go (eqb t 851 || eqb t 852) refl
+  where
+    go : (b : Bool) → (eqb t 851 || eqb t 852) ≡ b → quantified (node t o ds ks) ≡ other
+    go true q =
+        let g = tag-heading t (o ++ (ds ++ [])) o ds p e [] q (r []) in
+        let n = g .least in
+        let z : declaredIn (t ∷ (o ++ (ds ++ encodeAll ks))) ≡ length ds = rw (g .words) (dec-yes t (length ds) (ds ++ encodeAll ks) q) in
+        absurd (omega arith)
+    go false q = other-tag t o ds ks q
+
+-- its row and its body's items
+items-nil : (m : List ℕ) → items [] m ≡ []
+unfolding items
+items-nil m = refl
+
+module _ (t n : ℕ) (ds : List ℕ) (b : Form) (rest : List ℕ) (e : n ≡ length ds) where
+  node-items : items (drop (2 + n) (encode (node t (length ds ∷ []) ds (more b none)))) (drop (2 + n) (marksOf 0 (node t (length ds ∷ []) ds (more b none)) ++ rest)) ≡ itemsOf n b
+  unfolding encode marksOf
+  node-items =
+      let k : 2 + n ≡ suc (suc n) = omega arith in
+      let x : (zeros ds ++ (marksOf (length ds + 0) b ++ [])) ++ rest ≡ zeros ds ++ (marksOf n b ++ rest) = rw (append-assoc (zeros ds), append-nil, add-zero, ← e) in
+      rw (k, drop-at ds (encode b ++ []) n (sym e), x, drop-at (zeros ds) (marksOf n b ++ rest) n (zeros-length ds ∙ sym e))
+      (items-encode n b [] rest ∙ (rw (items-nil rest) (append-nil (itemsOf n b))))
+
+module _ (f : Form) (y : Quant f) where
+  pub quant-count : declaredIn (encode f) ≡ length (y .decls)
+  unfolding encode
+  quant-count = rw (y .form) (dec-yes (y .tag) (length (y .decls)) (y .decls ++ (encode (y .body) ++ [])) (y .which))
+
+  pub quant-tag : getD (encode f) 0 0 ≡ y .tag
+  unfolding encode
+  quant-tag = rw (y .form)
+
+  pub quant-names : drop 2 (encode f) ≡ y .decls ++ encode (y .body)
+  unfolding encode
+  quant-names = rw (y .form, append-nil)
+
+  pub quant-long : 2 + length (y .decls) ≤ length (encode f)
+  unfolding encode
+  quant-long = rw (y .form, length-append (y .decls)) (omega arith)
+
+  pub quant-items : (n : ℕ) (m : List ℕ) → n ≡ length (y .decls) → take (length (encode f)) m ≡ mark f 0 0 (replicate (length (encode f)) 0) → items (drop (2 + n) (encode f)) (drop (2 + n) m) ≡ itemsOf n (y .body)
+  quant-items n m e k =
+      let q : marksOf 0 f ++ drop (length (encode f)) m ≡ m = rw (← (k ∙ only-mark f)) (take-append-drop (length (encode f)) m) in
+      rw (← q) (by-form (drop (length (encode f)) m))
+    where
+      by-form : (rest : List ℕ) → items (drop (2 + n) (encode f)) (drop (2 + n) (marksOf 0 f ++ rest)) ≡ itemsOf n (y .body)
+      by-form rest = rw (y .form) (node-items (y .tag) n (y .decls) (y .body) rest e)

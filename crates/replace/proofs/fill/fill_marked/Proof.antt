@@ -1,0 +1,45 @@
+-- `replace::fill::fill_marked` meets its contract. Assumes nothing.
+use mathlib.Core.Path.{_≡_, refl, sym, ap, _∙_}
+use native.Mathlib.Omega.{arith}
+use borrow.Author.Needs.{needs}
+use Prim.Native.Nat.{_-_}
+use lib.ListN.{length, take, drop}
+use Rattle.subst.proofs.CheckedLaws.{passed}
+use Rattle.replace.specs.Internal.Pieces.{Ready, fillPlan}
+use Rattle.replace.proofs.BuildLaws.{rest-part}
+use Rattle.replace.proofs.FillLaws.{same-filled}
+use borrow.Author.Needs.{needs}
+use Rattle.replace.proofs.fill.fill_marked.Statement.{statement}
+use Rattle.replace.proofs.fill.fill_marked.Tie as tie
+use Rattle.replace.proofs.fill.fill_marked.Reads as reads
+use Rattle.replace.proofs.fill.fill_marked.Lts as lts
+use Rattle.replace.proofs.fill.fill_with.Reads as fill-with-reads
+
+sub-fill-with : tie.Need-sub-fill-with
+sub-fill-with c = search needs
+
+part-fill-with-start : tie.Need-part-fill-with-start
+part-fill-with-start c = search needs
+
+part-fill-with-end : tie.Need-part-fill-with-end
+part-fill-with-end c = search needs
+
+fill-with-requires : tie.Need-fill-with-requires
+fill-with-requires c κs = (let h : Ready (fillPlan (c .before .before .before .before .before .before .args .table)) (c .before .before .before .before .before .before .args .list .now) (take (length (c .before .before .before .before .before .before .args .work .now) - 8192) (drop 8192 (c .before .before .before .before .before .before .args .work .now))) = rw (rest-part (c .before .before .before .before .before .before .args .work .now) 8192) (c .before .before .before .before .before .before .pre .1 .0) in h, c .before .before .before .before .before .before .pre .1 .1)
+
+same-length : tie.Need-same-length
+same-length c = search needs
+
+returns : tie.Need-returns
+returns c = passed _ _ _ _ _ (same-filled _ _ _ _ _ _ _ (rest-part (c .before .before .before .before .before .before .before .before .before .args .work .now) 8192)) (c .before .before .fill-with .ensures)
+
+pub fill-marked-spec : {M : Type 1} → statement M
+fill-marked-spec =
+    tie.close
+    (tie.spec
+    sub-fill-with
+    part-fill-with-start
+    part-fill-with-end
+    fill-with-requires
+    same-length
+    returns)

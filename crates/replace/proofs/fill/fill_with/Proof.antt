@@ -1,0 +1,75 @@
+-- `replace::fill::fill_with` meets its contract. Assumes nothing.
+use mathlib.Core.Path.{_≡_, refl, sym, ap, _∙_}
+use native.Mathlib.Omega.{arith}
+use borrow.Author.Needs.{needs}
+use Prim.Native.Nat.{_+_, _≤_}
+use lib.ListN.{length, take}
+use lib.Seq.{length-take-le}
+use Rattle.subst.proofs.CheckedLaws.{passed}
+use Rattle.replace.proofs.BuildLaws.{built-fits}
+use Rattle.replace.proofs.FillLaws.{ready-gone, filled-same}
+use borrow.Author.Needs.{needs}
+use Rattle.replace.proofs.fill.fill_with.Statement.{statement}
+use Rattle.replace.proofs.fill.fill_with.Tie as tie
+use Rattle.replace.proofs.fill.fill_with.Reads as reads
+use Rattle.replace.proofs.fill.fill_with.Lts as lts
+use Rattle.replace.proofs.build.replace.Reads as replace-reads
+use Rattle.replace.proofs.fill.write_head.Reads as write-head-reads
+use Rattle.replace.proofs.pieces.filled_from.Reads as filled-from-reads
+
+array-share-prefix-words : tie.Need-array-share-prefix-words
+array-share-prefix-words c = search needs
+
+slice-aggregate-filled-from : tie.Need-slice-aggregate-filled-from
+slice-aggregate-filled-from c = sym (length-take-le _ _ (let a = c .before .before .before .before .before .before .before .pre .0 .tabled .few in let b = c .before .before .before .before .before .before .before .pre .0 .tabled .words in let h : c .before .before .before .before .before .before .before .args .table .n ≤ length (c .before .before .before .before .before .before .before .args .table .words) = omega arith in h))
+
+filled-from-requires : tie.Need-filled-from-requires
+filled-from-requires c κs = let l = length-take-le (c .before .before .before .before .before .before .before .args .table .n) (c .before .before .before .before .before .before .before .args .table .words) (let a = c .before .before .before .before .before .before .before .pre .0 .tabled .few in let b = c .before .before .before .before .before .before .before .pre .0 .tabled .words in let h : c .before .before .before .before .before .before .before .args .table .n ≤ length (c .before .before .before .before .before .before .before .args .table .words) = omega arith in h) in let a = c .before .before .before .before .before .before .before .pre .0 .tabled .few in let b = c .before .before .before .before .before .before .before .pre .1 in let z : length (take (c .before .before .before .before .before .before .before .args .table .n) (c .before .before .before .before .before .before .before .args .table .words)) ≤ 32 = omega arith in z
+
+array-share-prefix-words-2 : tie.Need-array-share-prefix-words-2
+array-share-prefix-words-2 c = search needs
+
+slice-aggregate-write-head : tie.Need-slice-aggregate-write-head
+slice-aggregate-write-head c = sym (length-take-le _ _ (let a = c .before .before .before .before .before .before .before .before .before .pre .0 .tabled .few in let b = c .before .before .before .before .before .before .before .before .before .pre .0 .tabled .words in let h : c .before .before .before .before .before .before .before .before .before .args .table .n ≤ length (c .before .before .before .before .before .before .before .before .before .args .table .words) = omega arith in h))
+
+slice-aggregate-write-head-2 : tie.Need-slice-aggregate-write-head-2
+slice-aggregate-write-head-2 c = search needs
+
+write-head-requires : tie.Need-write-head-requires
+write-head-requires c κs = let l = length-take-le (c .before .before .before .before .before .before .before .before .before .before .args .table .n) (c .before .before .before .before .before .before .before .before .before .before .args .table .words) (let a = c .before .before .before .before .before .before .before .before .before .before .pre .0 .tabled .few in let b = c .before .before .before .before .before .before .before .before .before .before .pre .0 .tabled .words in let h : c .before .before .before .before .before .before .before .before .before .before .args .table .n ≤ length (c .before .before .before .before .before .before .before .before .before .before .args .table .words) = omega arith in h) in let a = c .before .before .before .before .before .before .before .before .before .before .pre .0 .tabled .few in let b = c .before .before .before .before .before .before .before .before .before .before .pre .1 in let x : 2 + length (take (c .before .before .before .before .before .before .before .before .before .before .args .table .n) (c .before .before .before .before .before .before .before .before .before .before .args .table .words)) ≤ length (c .before .before .before .before .before .before .before .before .before .before .args .row .now) = omega arith in let y : 2 + length (take (c .before .before .before .before .before .before .before .before .before .before .args .table .n) (c .before .before .before .before .before .before .before .before .before .before .args .table .words)) ≤ 34 = omega arith in let z : length (take (c .before .before .before .before .before .before .before .before .before .before .args .table .n) (c .before .before .before .before .before .before .before .before .before .before .args .table .words)) ≤ 32 = omega arith in (x, (y, z))
+
+array-share-prefix-head : tie.Need-array-share-prefix-head
+array-share-prefix-head c = search needs
+
+slice-aggregate-replace : tie.Need-slice-aggregate-replace
+slice-aggregate-replace c = sym (length-take-le _ _ (built-fits (c .before .before .write-head .kept .1 .1 .0) refl (c .before .before .write-head .ensures .0)))
+
+add-replace : tie.Need-add-replace
+add-replace c = search needs
+
+replace-requires : tie.Need-replace-requires
+replace-requires c κs = ready-gone _ _ _ _ (c .before .before .before .before .before .before .filled-from .ensures) (c .before .before .before .before .before .before .before .before .before .before .before .before .before .before .pre .0)
+
+same-length : tie.Need-same-length
+same-length c = search needs
+
+returns : tie.Need-returns
+returns c = passed _ _ _ _ _ (filled-same _ _ _ _ _ _ _ _ (c .before .before .before .before .before .before .write-head .ensures .1) (c .before .before .before .before .before .before .before .before .before .filled-from .ensures)) (c .before .before .replace .ensures)
+
+pub fill-with-spec : {M : Type 1} → statement M
+fill-with-spec =
+    tie.close
+    (tie.spec
+    array-share-prefix-words
+    slice-aggregate-filled-from
+    filled-from-requires
+    array-share-prefix-words-2
+    slice-aggregate-write-head
+    slice-aggregate-write-head-2
+    write-head-requires
+    array-share-prefix-head
+    slice-aggregate-replace
+    add-replace
+    replace-requires
+    same-length
+    returns)

@@ -1,0 +1,53 @@
+-- `replace::free::substitute_marked` meets its contract. Assumes nothing.
+use mathlib.Core.Path.{_≡_, refl, sym, ap, _∙_}
+use native.Mathlib.Omega.{arith}
+use borrow.Author.Needs.{needs}
+use Prim.Native.Nat.{_-_}
+use lib.ListN.{length, take, drop}
+use Rattle.subst.proofs.CheckedLaws.{passed}
+use Rattle.replace.specs.Internal.Pieces.{Ready, freePlan}
+use Rattle.replace.proofs.BuildLaws.{rest-part, same-replaced}
+use borrow.Author.Needs.{needs}
+use Rattle.replace.proofs.free.substitute_marked.Statement.{statement}
+use Rattle.replace.proofs.free.substitute_marked.Tie as tie
+use Rattle.replace.proofs.free.substitute_marked.Reads as reads
+use Rattle.replace.proofs.free.substitute_marked.Lts as lts
+use Rattle.replace.proofs.build.replace.Reads as replace-reads
+use Rattle.replace.proofs.free.kind_of.Reads as kind-of-reads
+
+kind-of-requires : tie.Need-kind-of-requires
+kind-of-requires c κs = search needs
+
+slice-aggregate-replace : tie.Need-slice-aggregate-replace
+slice-aggregate-replace c = search needs
+
+sub-replace : tie.Need-sub-replace
+sub-replace c = search needs
+
+part-replace-start : tie.Need-part-replace-start
+part-replace-start c = search needs
+
+part-replace-end : tie.Need-part-replace-end
+part-replace-end c = search needs
+
+replace-requires : tie.Need-replace-requires
+replace-requires c κs = let h : Ready (freePlan (c .before .before .before .before .before .before .before .before .args .table)) (c .before .before .before .before .before .before .before .before .args .list .now) (take (length (c .before .before .before .before .before .before .before .before .args .work .now) - 8192) (drop 8192 (c .before .before .before .before .before .before .before .before .args .work .now))) = rw (rest-part (c .before .before .before .before .before .before .before .before .args .work .now) 8192) (c .before .before .before .before .before .before .before .before .pre .1) in h
+
+same-length : tie.Need-same-length
+same-length c = search needs
+
+returns : tie.Need-returns
+returns c = passed _ _ _ _ _ (same-replaced _ _ _ _ _ _ _ _ _ _ (c .before .before .before .before .before .before .kind-of .ensures) (rest-part (c .before .before .before .before .before .before .before .before .before .before .before .args .work .now) 8192)) (c .before .before .replace .ensures)
+
+pub substitute-marked-spec : {M : Type 1} → statement M
+substitute-marked-spec =
+    tie.close
+    (tie.spec
+    kind-of-requires
+    slice-aggregate-replace
+    sub-replace
+    part-replace-start
+    part-replace-end
+    replace-requires
+    same-length
+    returns)

@@ -1,0 +1,68 @@
+-- `replace::prune::remove_unused_decls` meets its contract. Assumes nothing.
+use mathlib.Core.Path.{_≡_, refl, sym, ap, _∙_}
+use borrow.Author.Needs.{needs}
+use Rattle.subst.proofs.CheckedLaws.{refused}
+use Rattle.replace.proofs.PruneLaws.{prune-long}
+use borrow.Author.Needs.{needs}
+use Rattle.replace.proofs.prune.remove_unused_decls.Statement.{statement}
+use Rattle.replace.proofs.prune.remove_unused_decls.Tie as tie
+use Rattle.replace.proofs.prune.remove_unused_decls.Reads as reads
+use Rattle.replace.proofs.prune.remove_unused_decls.Lts as lts
+use Rattle.replace.proofs.prune.prune_in.Reads as prune-in-reads
+
+slice-aggregate-prune-in : tie.Need-slice-aggregate-prune-in
+slice-aggregate-prune-in c = search needs
+
+prune-in-requires : tie.Need-prune-in-requires
+prune-in-requires c κs = search needs
+
+same-length : tie.Need-same-length
+same-length c = search needs
+
+returns : tie.Need-returns
+returns c = search needs
+
+slice-aggregate-prune-in-2 : tie.Need-slice-aggregate-prune-in-2
+slice-aggregate-prune-in-2 c = search needs
+
+prune-in-requires-2 : tie.Need-prune-in-requires-2
+prune-in-requires-2 c κs = search needs
+
+same-length-2 : tie.Need-same-length-2
+same-length-2 c = search needs
+
+returns-2 : tie.Need-returns-2
+returns-2 c = search needs
+
+returns-3 : tie.Need-returns-3
+returns-3 c = refused _ _ _ _ (prune-long _ _ (c .if3 .taken)) refl
+
+slice-aggregate-prune-in-3 : tie.Need-slice-aggregate-prune-in-3
+slice-aggregate-prune-in-3 c = search needs
+
+prune-in-requires-3 : tie.Need-prune-in-requires-3
+prune-in-requires-3 c κs = search needs
+
+same-length-3 : tie.Need-same-length-3
+same-length-3 c = search needs
+
+returns-4 : tie.Need-returns-4
+returns-4 c = search needs
+
+pub remove-unused-decls-spec : {M : Type 1} → statement M
+remove-unused-decls-spec =
+    tie.close
+    (tie.spec
+    slice-aggregate-prune-in
+    prune-in-requires
+    same-length
+    returns
+    slice-aggregate-prune-in-2
+    prune-in-requires-2
+    same-length-2
+    returns-2
+    returns-3
+    slice-aggregate-prune-in-3
+    prune-in-requires-3
+    same-length-3
+    returns-4)

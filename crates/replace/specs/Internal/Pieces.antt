@@ -1,0 +1,159 @@
+-- What stands for each item of a form: the item itself, an index, or a part of the list row whose dangling indices are moved. A plan says
+-- which. Nothing here is needed to read a public contract.
+use mathlib.Core.Path.{_≡_}
+use mathlib.Core.Bool.{Bool, true, false, not}
+use mathlib.Core.List.{List, [], _∷_, _++_}
+use Prim.Native.Nat.{ℕ, zero, suc, _+_, _-_, _≤_, _<_}
+use lib.Dec.{leb, ltb, eqb}
+use lib.ListN.{length, getD, take, drop, replicate}
+use Rattle.form.specs.Form.{pick}
+use Rattle.form.specs.Decode.{Found, found, missing, formOf}
+use Rattle.form.specs.Answer.{Outcome, answer, needs}
+use Rattle.form.specs.declared.answer.Kind.{Kind}
+use Rattle.form.specs.declared.answer.Kind.the-variants.{Expression, Predicate}
+use Rattle.form.specs.declared.lists.Table.{Table}
+use Rattle.subst.specs.Internal.Items.{items, sizeOf, wordsOf, rewritten, allItems, store, movedWords}
+use Rattle.subst.specs.declared.items.Item.{Item}
+use Rattle.subst.specs.declared.items.Item.the-variants.{Plain, Ident}
+use Rattle.replace.specs.declared.pieces.Piece.{Piece}
+use Rattle.replace.specs.declared.pieces.Piece.the-variants.{Same, Index, Part}
+use Rattle.replace.specs.declared.pieces.Plan.{Plan}
+
+-- the words from s up to e
+unfoldable pub part : ℕ → ℕ → List ℕ → List ℕ
+part s e l = take (e - s) (drop s l)
+
+unfoldable pub pieceWords : List ℕ → List ℕ → Piece → Item → List ℕ
+pieceWords list lm Same x = wordsOf x
+pieceWords list lm (Index v) x = 2 ∷ v ∷ []
+pieceWords list lm (Part s e u d) x = rewritten (movedWords u d) (items (part s e list) (part s e lm))
+
+unfoldable pub pieceSize : Piece → Item → ℕ
+pieceSize Same x = sizeOf x
+pieceSize (Index v) x = 2
+pieceSize (Part s e u d) x = e - s
+
+-- where a name stands first; past the end where it does not
+unfoldable pub spot : ℕ → List ℕ → ℕ
+spot m [] = 0
+spot m (n ∷ ns) = pick (eqb n m) 0 (suc (spot m ns))
+
+-- how many words are not 0: the places that are filled
+unfoldable pub filledWords : List ℕ → ℕ
+filledWords [] = 0
+filledWords (zero ∷ ws) = filledWords ws
+filledWords (suc w ∷ ws) = suc (filledWords ws)
+
+-- a name at depth k: the first entry that has it
+unfoldable pub freePiece : Plan → ℕ → ℕ → Piece
+freePiece p k m =
+    let i = spot m (take (p .table .n) (p .table .words)) in
+    pick (leb (p .table .n) i) Same (Part (getD (p .table .starts) i 0) (getD (p .table .ends) i 0) k (p .down))
+
+-- an index at place i: it falls by the filled places inside it, or becomes the expression of its place
+unfoldable pub placePiece : Plan → ℕ → ℕ → ℕ → Piece
+placePiece p k v i =
+    pick (eqb (getD (p .table .words) i 0) 0) (Index (v - filledWords (drop (i + 1) (take (p .table .n) (p .table .words)))))
+    (Part (getD (p .table .starts) i 0) (getD (p .table .ends) i 0) (k - p .gone) (p .down))
+
+-- an index under k declarations, of which the outermost are those that the plan fills
+unfoldable pub fillPiece : Plan → ℕ → ℕ → Piece
+fillPiece p k v =
+    let b = k - p .table .n in
+    pick (ltb v b) Same (pick (leb (p .table .n) (v - b)) (Index (v - p .gone)) (placePiece p k v (p .table .n - 1 - (v - b))))
+
+unfoldable pub pieceOf : Plan → Item → Piece
+pieceOf p (Plain w) = Same
+pieceOf p (Ident k t v) = pick (p .fills) (pick (eqb t 2) (fillPiece p k v) Same) (pick (eqb t 1) (freePiece p k v) Same)
+
+-- what a plan puts for an item, from the list row and its marks
+abbrev pub planned : Plan → List ℕ → List ℕ → Item → List ℕ
+planned p list lm x = pieceWords list lm (pieceOf p x) x
+
+unfoldable pub sizes : Plan → List Item → ℕ
+sizes p [] = 0
+sizes p (x ∷ xs) = pieceSize (pieceOf p x) x + sizes p xs
+
+-- a number that matters only up to 8,192
+unfoldable pub capped : ℕ → ℕ
+capped n = pick (leb n 8192) n 8193
+
+-- the plan's table has 32 places, of which it uses n
+pub record Tabled (p : Plan) : Type 0 where
+  pub few : p .table .n ≤ 32
+  pub words : length (p .table .words) ≡ 32
+  pub starts : length (p .table .starts) ≡ 32
+  pub ends : length (p .table .ends) ≡ 32
+
+-- its parts lie in a row of so many words
+unfoldable pub InRow : Plan → ℕ → Type 0
+InRow p n = (i : ℕ) → i < p .table .n → (getD (p .table .starts) i 0 ≤ getD (p .table .ends) i 0) × (getD (p .table .ends) i 0 ≤ n)
+
+pub record Ready (p : Plan) (list lm : List ℕ) : Type 0 where
+  pub tabled : Tabled p
+  pub in-row : InRow p (length list)
+  pub marked : length list ≤ length lm
+
+unfoldable pub Fits : Piece → ℕ → Type 0
+Fits Same n = Unit {0}
+Fits (Index v) n = Unit {0}
+Fits (Part s e u d) n = (s ≤ e) × (e ≤ n)
+
+-- words that are checked as a form, and then answered
+abbrev pub isFound : Found → Bool
+isFound (found s f) = true
+isFound missing = false
+
+unfoldable pub emitted : Kind → List ℕ → ℕ → Outcome
+emitted kind ws room = needs 7 (isFound (formOf kind ws)) (needs 14 (leb (length ws) room) (answer ws))
+
+-- a head, and what a plan puts for the items of a row
+unfoldable pub replaced : Kind → List ℕ → Plan → List ℕ → List ℕ → List ℕ → List ℕ → ℕ → Outcome
+replaced kind head p list lm row marks room = emitted kind (head ++ rewritten (planned p list lm) (items row marks)) room
+
+-- the kind as which a row of either kind was read
+abbrev pub kindFor : Bool → Kind
+kindFor true = Expression
+kindFor false = Predicate
+
+-- names become the entries of a table
+abbrev pub freePlan : Table → Plan
+freePlan t = record { table = t; fills = false; gone = 0; down = 0 }
+
+-- the plan that fills the declarations of a quantifier by the places of a table
+abbrev pub fillPlan : Table → Plan
+fillPlan t = record { table = t; fills = true; gone = filledWords (take (t .n) (t .words)); down = 0 }
+
+-- the names whose word is 0, and the head of a quantifier that declares them
+unfoldable pub keptWords : List ℕ → List ℕ → List ℕ
+keptWords [] ns = []
+keptWords (w ∷ ws) [] = []
+keptWords (zero ∷ ws) (n ∷ ns) = n ∷ keptWords ws ns
+keptWords (suc w ∷ ws) (n ∷ ns) = keptWords ws ns
+
+unfoldable pub headWords : ℕ → List ℕ → List ℕ
+headWords t [] = []
+headWords t (k ∷ ks) = t ∷ suc (length ks) ∷ k ∷ ks
+
+-- how many declarations a row has that begins with a quantifier; 0 for any other
+unfoldable pub declaredIn : List ℕ → ℕ
+declaredIn row = pick (ltb (length row) 2) 0 (pick (eqb (getD row 0 0) 851) (getD row 1 0) (pick (eqb (getD row 0 0) 852) (getD row 1 0) 0))
+
+-- a quantified row filled by the places of a table
+unfoldable pub filledRow : List ℕ → List ℕ → List ℕ → List ℕ → Table → ℕ → Outcome
+filledRow list lm row marks t room =
+    replaced Predicate (headWords (getD row 0 0) (keptWords (take (t .n) (t .words)) (drop 2 row))) (fillPlan t) list lm (drop (2 + t .n) row) (drop (2 + t .n) marks) room
+
+-- an item that is not index j of a body round which n declarations are open
+unfoldable pub notIndex : ℕ → ℕ → Item → Bool
+notIndex n j (Plain w) = true
+notIndex n j (Ident k t v) = pick (eqb t 2) (pick (ltb v (k - n)) true (not (eqb j (v - (k - n))))) true
+
+-- for the k inner ones of n declarations, from the outermost on: 1 where the items never use it
+unfoldable pub usedWords : ℕ → ℕ → List Item → List ℕ
+usedWords n zero xs = []
+usedWords n (suc k) xs = pick (allItems (notIndex n k) xs) 1 0 ∷ usedWords n k xs
+
+-- all dropped places have the expression that stands in the first two words of the list row
+unfoldable pub usedTable : ℕ → List Item → Table
+usedTable n xs = record { words = store (replicate 32 0) 0 (usedWords n n xs); starts = replicate 32 0; ends = replicate 32 2; n = n }

@@ -1,0 +1,138 @@
+// The words that a plan makes of a form: counted, built, checked as a form, and answered.
+use crate::pieces::Plan;
+use crate::pieces::words_needed;
+use crate::pieces::write_pieces;
+use form::answer::Answer;
+use form::answer::Kind;
+use form::answer::Limit;
+ghost use mathlib.Core.Path.{_≡_};
+ghost use mathlib.Core.List.{_++_};
+ghost use Prim.Native.Nat.{_+_, _≤_};
+ghost use lib.ListN.{length, drop};
+ghost use Rattle.form.specs.Answer.{told, written};
+ghost use Rattle.subst.specs.Internal.Items.{items, rewritten, store};
+ghost use Rattle.replace.specs.Internal.Pieces.{planned, sizes, Ready, emitted, replaced};
+
+// The words, stored at the start of the output row.
+fn copy(words: &[u32], out: &mut [u32])
+    requires { ⌜ length (now words) ≤ length (now out) ⌝ }
+    ensures { λ _. ⌜ now (out .exit) ≡ store (now (out .entry)) 0 (now (words .entry)) ⌝ }
+{
+    let mut i = 0;
+    while i < words.len() {
+        out[i] = words[i];
+        i += 1;
+    }
+}
+
+// The words as an answer: 7 where they are no form of the kind, 14 where the output row is shorter.
+fn emit(kind: Kind, words: &[u32], out: &mut [u32]) -> Answer
+    ensures { λ r. ⌜ r ≡ told (emitted kind (now (words .entry)) (length (now (out .entry)))) ⌝ }
+    ensures { λ _. ⌜ now (out .exit) ≡ written (emitted kind (now (words .entry)) (length (now (out .entry)))) (now (out .entry)) ⌝ }
+{
+    let Answer::Done(n) = form::check::check(words, kind) else {
+        return Answer::No(7);
+    };
+    if out.len() < words.len() {
+        return Answer::No(14);
+    }
+    copy(words, out);
+    Answer::Done(words.len())
+}
+
+// The head and what stands for the items from `from` on, built in the first n words of a work row.
+fn replace_in(
+    kind: Kind,
+    head: &[u32],
+    plan: Plan,
+    list: &[u32],
+    list_marks: &[u32],
+    row: &[u32],
+    marks: &[u32],
+    from: usize,
+    n: usize,
+    work: &mut [u32],
+    out: &mut [u32],
+) -> Answer
+    requires { ⌜ Ready plan (now list) (now «list_marks») ⌝ }
+    requires { ⌜ n ≡ length (now head) + sizes plan (items (drop from (now row)) (drop from (now marks))) ⌝ }
+    requires { ⌜ n ≤ length (now work) ⌝ }
+    ensures { λ r. ⌜ r ≡ told (replaced kind (now (head .entry)) plan (now (list .entry)) (now («list_marks» .entry)) (drop from (now (row .entry))) (drop from (now (marks .entry))) (length (now (out .entry)))) ⌝ }
+    ensures { λ _. ⌜ now (out .exit) ≡ written (replaced kind (now (head .entry)) plan (now (list .entry)) (now («list_marks» .entry)) (drop from (now (row .entry))) (drop from (now (marks .entry))) (length (now (out .entry)))) (now (out .entry)) ⌝ }
+{
+    copy(head, work);
+    write_pieces(plan, list, list_marks, row, marks, from, work, head.len());
+    emit(kind, &work[..n], out)
+}
+
+// The head and what stands for the items from `from` on, as a form of the kind.
+pub fn replace(
+    kind: Kind,
+    head: &[u32],
+    plan: Plan,
+    list: &[u32],
+    list_marks: &[u32],
+    row: &[u32],
+    marks: &[u32],
+    from: usize,
+    out: &mut [u32],
+) -> Answer
+    requires { ⌜ Ready plan (now list) (now «list_marks») ⌝ }
+    ensures { λ r. ⌜ r ≡ told (replaced kind (now (head .entry)) plan (now (list .entry)) (now («list_marks» .entry)) (drop from (now (row .entry))) (drop from (now (marks .entry))) (length (now (out .entry)))) ⌝ }
+    ensures { λ _. ⌜ now (out .exit) ≡ written (replaced kind (now (head .entry)) plan (now (list .entry)) (now («list_marks» .entry)) (drop from (now (row .entry))) (drop from (now (marks .entry))) (length (now (out .entry)))) (now (out .entry)) ⌝ }
+{
+    let body = words_needed(plan, row, marks, from);
+    if Limit::WORDS < body {
+        return Answer::No(7);
+    }
+    if Limit::WORDS - body < head.len() {
+        return Answer::No(7);
+    }
+    let n = head.len() + body;
+    if n <= 64 {
+        let mut work = [0u32; 64];
+        return replace_in(
+            kind,
+            head,
+            plan,
+            list,
+            list_marks,
+            row,
+            marks,
+            from,
+            n,
+            &mut work,
+            out,
+        );
+    }
+    if n <= 512 {
+        let mut work = [0u32; 512];
+        return replace_in(
+            kind,
+            head,
+            plan,
+            list,
+            list_marks,
+            row,
+            marks,
+            from,
+            n,
+            &mut work,
+            out,
+        );
+    }
+    let mut work = [0u32; 8192];
+    replace_in(
+        kind,
+        head,
+        plan,
+        list,
+        list_marks,
+        row,
+        marks,
+        from,
+        n,
+        &mut work,
+        out,
+    )
+}

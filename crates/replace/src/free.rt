@@ -1,0 +1,93 @@
+// Free substitution: each name of the list, where it is free, becomes its expression lifted by the depth.
+use crate::build::replace;
+use crate::marks::mark_entries;
+use crate::marks::mark_row;
+use crate::pieces::Plan;
+use form::answer::Answer;
+use form::answer::Kind;
+use form::answer::Limit;
+use form::lists::ListKind;
+use form::lists::Table;
+ghost use mathlib.Core.Path.{_≡_};
+ghost use mathlib.Core.List.{[]};
+ghost use Prim.Native.Nat.{_≤_};
+ghost use lib.ListN.{length, drop};
+ghost use Rattle.form.specs.Answer.{told, written};
+ghost use Rattle.form.specs.Internal.Reads.{asExpr};
+ghost use Rattle.form.specs.declared.answer.Kind.the-variants.{Either};
+ghost use Rattle.replace.specs.Free.{freeOutcome};
+ghost use Rattle.replace.specs.Internal.Pieces.{Ready, replaced, kindFor, freePlan};
+
+fn kind_of(row: &[u32]) -> Kind
+    ensures { λ r. ⌜ r ≡ kindFor (asExpr Either (now (row .entry))) ⌝ }
+{
+    if form::check::is_expr(row, Kind::Either) {
+        return Kind::Expression;
+    }
+    Kind::Predicate
+}
+
+// The names of a form replaced by the entries of a table; the form's marks stand at the start of the work row, the list's from word
+// 8,192 on.
+fn substitute_marked(
+    list: &[u32],
+    row: &[u32],
+    table: Table,
+    work: &[u32],
+    out: &mut [u32],
+) -> Answer
+    requires { ⌜ 8192 ≤ length (now work) ⌝ }
+    requires { ⌜ Ready (freePlan table) (now list) (drop 8192 (now work)) ⌝ }
+    ensures { λ r. ⌜ r ≡ told (replaced (kindFor (asExpr Either (now (row .entry)))) [] (freePlan table) (now (list .entry)) (drop 8192 (now (work .entry))) (now (row .entry)) (now (work .entry)) (length (now (out .entry)))) ⌝ }
+    ensures { λ _. ⌜ now (out .exit) ≡ written (replaced (kindFor (asExpr Either (now (row .entry)))) [] (freePlan table) (now (list .entry)) (drop 8192 (now (work .entry))) (now (row .entry)) (now (work .entry)) (length (now (out .entry)))) (now (out .entry)) ⌝ }
+{
+    let plan = Plan {
+        table: table,
+        fills: false,
+        gone: 0,
+        down: 0,
+    };
+    replace(
+        kind_of(row),
+        &row[..0],
+        plan,
+        list,
+        &work[8192..],
+        row,
+        work,
+        0,
+        out,
+    )
+}
+
+// Replaces each free name of the list by its expression, lifted by the depth at which it comes to stand.
+pub fn substitute_free_idents(
+    list: &[u32],
+    row: &[u32],
+    work: &mut [u32],
+    out: &mut [u32],
+) -> Answer
+    ensures { λ r. ⌜ r ≡ told (freeOutcome (now (list .entry)) (now (row .entry)) (length (now (work .entry))) (length (now (out .entry)))) ⌝ }
+    ensures { λ _. ⌜ now (out .exit) ≡ written (freeOutcome (now (list .entry)) (now (row .entry)) (length (now (work .entry))) (length (now (out .entry)))) (now (out .entry)) ⌝ }
+{
+    if work.len() < 16384 {
+        return Answer::No(15);
+    }
+    if Limit::WORDS < row.len() {
+        return Answer::No(1);
+    }
+    let Answer::Done(n) = mark_row(row, Kind::Either, work) else {
+        return Answer::No(2);
+    };
+    if Limit::WORDS < list.len() {
+        return Answer::No(1);
+    }
+    let listed = mark_entries(list, ListKind::Pairs, work);
+    if !listed.ok {
+        return Answer::No(2);
+    }
+    if !form::lists::good_table(listed.table) {
+        return Answer::No(4);
+    }
+    substitute_marked(list, row, listed.table, work, out)
+}

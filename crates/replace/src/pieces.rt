@@ -1,0 +1,228 @@
+// What stands for each name and index of a form, by a plan: itself, an index, or a part of the list row.
+use form::lists::Table;
+use subst::items::Item;
+use subst::items::item_at;
+use subst::items::put_item;
+use subst::items::size_of;
+use subst::shift::move_item;
+ghost use mathlib.Core.Path.{_≡_};
+ghost use mathlib.Core.List.{[], _∷_};
+ghost use Prim.Native.Nat.{_+_, _-_, _≤_};
+ghost use lib.ListN.{length, drop};
+ghost use Rattle.subst.specs.Internal.Items.{items, rewritten, movedWords, store};
+ghost use Rattle.replace.specs.Internal.Pieces.{part, pieceWords, pieceSize, spot, filledWords, freePiece, fillPiece, pieceOf, planned, sizes, capped, Tabled, Ready, Fits};
+
+// The item itself; an index; or the list row's words from a start to an end, their dangling indices moved up and down.
+pub enum Piece {
+    Same,
+    Index(u32),
+    Part(usize, usize, u32, u32),
+}
+
+// What is replaced: indices by the places of the table, of which so many are filled, or names by its entries. The parts of the list
+// row are moved down by `down`.
+pub struct Plan {
+    pub table: Table,
+    pub fills: bool,
+    pub gone: u32,
+    pub down: u32,
+}
+
+pub fn less(a: u32, b: u32) -> u32
+    ensures { λ r. ⌜ r ≡ a - b ⌝ }
+{
+    if a < b {
+        return 0;
+    }
+    a - b
+}
+
+// Where a name stands first; the length where it does not.
+fn index_of(names: &[u32], m: u32) -> usize
+    ensures { λ r. ⌜ r ≡ spot m (now (names .entry)) ⌝ }
+{
+    let mut i = 0;
+    while i < names.len() {
+        if names[i] == m {
+            return i;
+        }
+        i += 1;
+    }
+    i
+}
+
+fn one_if(w: u32) -> u32
+    ensures { λ r. ⌜ r ≡ filledWords (w ∷ []) ⌝ }
+{
+    if w == 0 {
+        return 0;
+    }
+    1
+}
+
+// How many of the words from `from` on are not 0.
+pub fn filled_from(words: &[u32], from: usize) -> u32
+    requires { ⌜ length (now words) ≤ 32 ⌝ }
+    ensures { λ r. ⌜ r ≡ filledWords (drop from (now (words .entry))) ⌝ }
+{
+    let mut n = 0u32;
+    let mut i = from;
+    while i < words.len() {
+        n += one_if(words[i]);
+        i += 1;
+    }
+    n
+}
+
+fn free_piece(plan: Plan, k: u32, m: u32) -> Piece
+    requires { ⌜ Tabled plan ⌝ }
+    ensures { λ r. ⌜ r ≡ freePiece plan k m ⌝ }
+{
+    let table = plan.table;
+    let n = table.n;
+    let words = table.words;
+    let i = index_of(&words[..n], m);
+    if n <= i {
+        return Piece::Same;
+    }
+    let starts = table.starts;
+    let ends = table.ends;
+    Piece::Part(starts[i], ends[i], k, plan.down)
+}
+
+// A dangling index of the body: it falls by the filled places inside its own, or becomes the expression of its place.
+fn fill_piece(plan: Plan, k: u32, v: u32) -> Piece
+    requires { ⌜ Tabled plan ⌝ }
+    ensures { λ r. ⌜ r ≡ fillPiece plan k v ⌝ }
+{
+    let table = plan.table;
+    let n = table.n;
+    let b = less(k, n as u32);
+    if v < b {
+        return Piece::Same;
+    }
+    let j = (v - b) as usize;
+    if n <= j {
+        return Piece::Index(less(v, plan.gone));
+    }
+    let i = n - 1 - j;
+    let words = table.words;
+    if words[i] == 0 {
+        return Piece::Index(less(v, filled_from(&words[..n], i + 1)));
+    }
+    let starts = table.starts;
+    let ends = table.ends;
+    Piece::Part(starts[i], ends[i], less(k, plan.gone), plan.down)
+}
+
+fn piece_of(plan: Plan, it: Item) -> Piece
+    requires { ⌜ Tabled plan ⌝ }
+    ensures { λ r. ⌜ r ≡ pieceOf plan it ⌝ }
+{
+    let Item::Ident(k, t, v) = it else {
+        return Piece::Same;
+    };
+    if plan.fills {
+        if t == 2 {
+            return fill_piece(plan, k, v);
+        }
+        return Piece::Same;
+    }
+    if t == 1 {
+        return free_piece(plan, k, v);
+    }
+    Piece::Same
+}
+
+fn piece_size(piece: Piece, it: Item) -> usize
+    ensures { λ r. ⌜ r ≡ pieceSize piece it ⌝ }
+{
+    match piece {
+        Piece::Same => size_of(it),
+        Piece::Index(v) => 2,
+        Piece::Part(s, e, u, d) => {
+            if e < s {
+                return 0;
+            }
+            e - s
+        }
+    }
+}
+
+// How many words stand for the items from `from` on; 8,193 for any number above 8,192.
+pub fn words_needed(plan: Plan, row: &[u32], marks: &[u32], from: usize) -> usize
+    requires { ⌜ Tabled plan ⌝ }
+    ensures { λ r. ⌜ r ≡ capped (sizes plan (items (drop from (now (row .entry))) (drop from (now (marks .entry))))) ⌝ }
+{
+    let mut n = 0;
+    let mut i = from;
+    while i < row.len() {
+        let it = item_at(row, marks, i);
+        let size = piece_size(piece_of(plan, it), it);
+        if 8192 - n < size {
+            return 8193;
+        }
+        n += size;
+        i += size_of(it);
+    }
+    n
+}
+
+// The words of a row with its dangling indices moved, stored at `at`.
+fn write_part(row: &[u32], marks: &[u32], up: u32, down: u32, out: &mut [u32], at: usize)
+    requires { ⌜ at + length (now row) ≤ length (now out) ⌝ }
+    ensures { λ _. ⌜ now (out .exit) ≡ store (now (out .entry)) at (rewritten (movedWords up down) (items (now (row .entry)) (now (marks .entry)))) ⌝ }
+{
+    let mut i = 0;
+    while i < row.len() {
+        let it = item_at(row, marks, i);
+        put_item(out, at + i, move_item(up, down, it));
+        i += size_of(it);
+    }
+}
+
+fn write_piece(list: &[u32], list_marks: &[u32], piece: Piece, it: Item, out: &mut [u32], at: usize)
+    requires { ⌜ Fits piece (length (now list)) ⌝ }
+    requires { ⌜ length (now list) ≤ length (now «list_marks») ⌝ }
+    requires { ⌜ at + pieceSize piece it ≤ length (now out) ⌝ }
+    ensures { λ _. ⌜ now (out .exit) ≡ store (now (out .entry)) at (pieceWords (now (list .entry)) (now («list_marks» .entry)) piece it) ⌝ }
+{
+    match piece {
+        Piece::Same => {
+            put_item(out, at, it);
+        }
+        Piece::Index(v) => {
+            out[at] = 2;
+            out[at + 1] = v;
+        }
+        Piece::Part(s, e, u, d) => {
+            write_part(&list[s..e], &list_marks[s..e], u, d, out, at);
+        }
+    }
+}
+
+// What stands for the items from `from` on, stored at `at`.
+pub fn write_pieces(
+    plan: Plan,
+    list: &[u32],
+    list_marks: &[u32],
+    row: &[u32],
+    marks: &[u32],
+    from: usize,
+    out: &mut [u32],
+    at: usize,
+)
+    requires { ⌜ Ready plan (now list) (now «list_marks») ⌝ }
+    requires { ⌜ at + sizes plan (items (drop from (now row)) (drop from (now marks))) ≤ length (now out) ⌝ }
+    ensures { λ _. ⌜ now (out .exit) ≡ store (now (out .entry)) at (rewritten (planned plan (now (list .entry)) (now («list_marks» .entry))) (items (drop from (now (row .entry))) (drop from (now (marks .entry))))) ⌝ }
+{
+    let mut i = from;
+    let mut p = at;
+    while i < row.len() {
+        let it = item_at(row, marks, i);
+        let piece = piece_of(plan, it);
+        write_piece(list, list_marks, piece, it, out, p);
+        p += piece_size(piece, it);
+        i += size_of(it);
+    }
+}
