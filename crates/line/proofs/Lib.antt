@@ -7,3 +7,4 @@ pub mod LineLaws
 pub mod AnswerLaws
 pub mod EntryLaws
 pub mod FitLaws
+pub mod ReadBack
