@@ -72,10 +72,10 @@ fill-at m c (filled x ∷ qs) rs j =
     let e : suc (length qs) + j ≡ suc (length qs + j) = omega arith in
     rw e (fill-at m c qs rs j)
 
-fill-past : (m : ℕ) (qs : List Place) (j : ℕ) → fillIndex m 0 qs (length qs + j) ≡ leaf (bound (m + j))
+pub fill-past : (m : ℕ) (qs : List Place) (j : ℕ) → fillIndex m 0 qs (length qs + j) ≡ leaf (bound (m + j))
 fill-past m qs j = rw append-nil at (fill-at m 0 qs [] j)
 
-fill-here : (m : ℕ) (a b : List Place) (x : Place) → fillIndex m 0 (reverse (a ++ (x ∷ b))) (length b) ≡ fillIndex m (keptCount b) (x ∷ reverse a) 0
+pub fill-here : (m : ℕ) (a b : List Place) (x : Place) → fillIndex m 0 (reverse (a ++ (x ∷ b))) (length b) ≡ fillIndex m (keptCount b) (x ∷ reverse a) 0
 fill-here m a b x =
     let e : reverse (a ++ (x ∷ b)) ≡ reverse b ++ (x ∷ reverse a) = rw (reverse-append a (x ∷ b), reverse-cons x b) (append-assoc (reverse b) (x ∷ []) (reverse a)) in
     let n : length b ≡ length (reverse b) + 0 = rw (length-reverse b) (omega arith) in

@@ -41,6 +41,7 @@ use Rattle.replace.proofs.EntryLaws.{PlaceAt, listed-places, listed-in-
 use Rattle.replace.proofs.MarkLaws.{items-take}
 use Rattle.replace.proofs.ActionLaws.{tight, tight-depth, ok-tight, moved-words, moved-lift}
 use Rattle.replace.proofs.BuildLaws.{kindOf, emit-form}
+use Rattle.replace.proofs.CallLaws.{call-small, call-long, call-missing, call-list-long, call-no-list, call-read, front-same}
 
 -- the list is searched as the words are
 seek-step : (n m : ℕ) (p : Place) (es : List Entry) (b : Bool) → seek es m ≡ orName m (getD (map placeOf es) (spot m (map wordOf es)) kept)
@@ -141,33 +142,36 @@ kind-sort row s f q b e = go b (rowForm (sortFor b) row) (sym (form-of Either ro
     go b not-one q = absurd (clash cc)
 
 -- the whole call
+abbrev freeGo : ℕ → Sort → Form → List Entry → Outcome
+freeGo room s f es = needs 4 (goodNames (map wordOf es)) (finish s room (substitute es f))
+
 module _ (list row : List ℕ) (wl room : ℕ) where
   pub free-small : wl < 16384 → freeOutcome list row wl room ≡ refusal 15
   unfolding freeOutcome
-  free-small h = rw (lt-leb 16384 wl h)
+  free-small h = call-small Either Pairs (freeGo room) list row wl h
 
   module _ (enough : 16384 ≤ wl) where
     pub free-long : 8192 < length row → freeOutcome list row wl room ≡ refusal 1
     unfolding freeOutcome
-    free-long h = rw (le-leb 16384 wl enough, lt-leb (length row) 8192 h)
+    free-long h = call-long Either Pairs (freeGo room) list row wl enough h
 
     pub free-missing : length row ≤ 8192 → formOf Either row ≡ missing → freeOutcome list row wl room ≡ refusal 2
     unfolding freeOutcome
-    free-missing h q = rw (le-leb 16384 wl enough, le-leb (length row) 8192 h, q)
+    free-missing h q = call-missing Either Pairs (freeGo room) list row wl enough h q
 
     module _ (m : List ℕ) (x : Checked Either row m (length row)) where
       pub free-list-long : 8192 < length list → freeOutcome list row wl room ≡ refusal 1
       unfolding freeOutcome
-      free-list-long h = rw (le-leb 16384 wl enough, le-leb (length row) 8192 (x .short), x .is-found, lt-leb (length list) 8192 h)
+      free-list-long h = call-list-long Either Pairs (freeGo room) list row wl enough m x h
 
       module _ (short : length list ≤ 8192) where
         pub free-no-list : listOf Pairs list ≡ absent → freeOutcome list row wl room ≡ refusal 2
         unfolding freeOutcome
-        free-no-list o = rw (le-leb 16384 wl enough, le-leb (length row) 8192 (x .short), x .is-found, le-leb (length list) 8192 short, o)
+        free-no-list o = call-no-list Either Pairs (freeGo room) list row wl enough m x short o
 
-        free-named : (es : List Entry) → listOf Pairs list ≡ some es → freeOutcome list row wl room ≡ needs 4 (goodNames (map wordOf es)) (finish (x .sort) room (substitute es (x .form)))
+        free-named : (es : List Entry) → listOf Pairs list ≡ some es → freeOutcome list row wl room ≡ freeGo room (x .sort) (x .form) es
         unfolding freeOutcome
-        free-named es o = rw (le-leb 16384 wl enough, le-leb (length row) 8192 (x .short), x .is-found, le-leb (length list) 8192 short, o)
+        free-named es o = call-read Either Pairs (freeGo room) list row wl enough m x short es o
 
         module _ (a b : List ℕ) (l : Listed) (h : Listing (listOf Pairs list) a b l) (ok : l .ok ≡ true) where
           pub free-bad : (g : Bool) → g ≡ goodTable (l .table) → g ≡ false → freeOutcome list row wl room ≡ refusal 4
@@ -181,9 +185,6 @@ module _ (list row : List ℕ) (wl room : ℕ) where
 few-names-of : (es : List Entry) → goodNames (map wordOf es) ≡ true → length es ≤ 32
 unfolding goodNames
 few-names-of es e = rw (length-map es wordOf) at (leb-true (length (map wordOf es)) 32 (and-left (leb (length (map wordOf es)) 32) (distinct (map wordOf es)) e))
-
-front-same : (a b : List ℕ) (n : ℕ) → n ≤ 8192 → take 8192 a ≡ take 8192 b → take n a ≡ take n b
-front-same a b n h e = sym (take-take n 8192 a h) ∙ (ap (λ l. take n l) e ∙ take-take n 8192 b h)
 
 -- what is known when the list was read into the work row
 pub record Pairing (list : List ℕ) (t : Table) (work : List ℕ) : Type 0 where

@@ -10,3 +10,4 @@ pub mod NameLaws
 pub mod QuantLaws
 pub mod FillLaws
 pub mod PruneLaws
+pub mod TreeLaws

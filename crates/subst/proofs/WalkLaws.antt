@@ -145,23 +145,21 @@ module _ (w p q : ℕ → Outer → Bool) (e : (k : ℕ) (x : Outer) → w k x �
     each-agreeAll k none h = refl
     each-agreeAll k (more f fs) h = rw (each-agree k f (and-left (each w k f) (eachAll w k fs) h), each-agreeAll k fs (and-right (each w k f) (eachAll w k fs) h))
 
-always : ℕ → Outer → Bool
+abbrev pub always : ℕ → Outer → Bool
 always k x = true
 
 always-index : (k : ℕ) (z : Binding) → collectIndex true always k z ≡ true
-unfolding always
 always-index k inside = refl
 always-index k (outside j) = refl
 
 always-leaf : (k : ℕ) (x : Leaf) → collectLeaf true always k x ≡ true
-unfolding always
 always-leaf k (free n) = refl
 always-leaf k (bound i) = always-index k (binding k i)
 
 mutual
   unfolding collect
 
-  each-always : (k : ℕ) (f : Form) → each always k f ≡ true
+  pub each-always : (k : ℕ) (f : Form) → each always k f ≡ true
   each-always k (leaf x) = always-leaf k x
   each-always k (node t o ds ks) = each-alwaysAll (length ds + k) ks
 
@@ -173,7 +171,6 @@ pub each-same : (p q : ℕ → Outer → Bool) → ((k : ℕ) (x : Outer) → p 
 each-same p q e k f = each-agree always p q (λ k x h. e k x) k f (each-always k f)
 
 pub each-all : (w p : ℕ → Outer → Bool) → ((k : ℕ) (x : Outer) → w k x ≡ true → p k x ≡ true) → (k : ℕ) (f : Form) → each w k f ≡ true → each p k f ≡ true
-unfolding always
 each-all w p e k f h = each-agree w p always e k f h ∙ each-always k f
 
 -- two actions that agree wherever a test holds
