@@ -1,1 +1,4 @@
 pub mod Starred
+pub mod ViewLaws
+pub mod SidesLaws
+pub mod PlacesLaws
