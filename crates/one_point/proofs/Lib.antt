@@ -2,3 +2,4 @@ pub mod Starred
 pub mod ViewLaws
 pub mod SidesLaws
 pub mod PlacesLaws
+pub mod WriteLaws
