@@ -38,7 +38,7 @@ plain-node {o = o} {ds = ds} (ok-node {p = p′} {e = e′} l h k) p e q =
     let z : e′ ≡ e = cc in
     (sym a, sym b, rw (c, z) at k)
 
-two-more : {d : ℕ} {s s′ : Sort} {ks : Forms} → OkAll d (s ∷ s′ ∷ []) ks → (l : Form) × (r : Form) × (ks ≡ more l (more r none)) × Ok d s l × Ok d s′ r
+pub two-more : {d : ℕ} {s s′ : Sort} {ks : Forms} → OkAll d (s ∷ s′ ∷ []) ks → (l : Form) × (r : Form) × (ks ≡ more l (more r none)) × Ok d s l × Ok d s′ r
 two-more (ok-more {f = l} h (ok-more {f = r} k ok-none)) = (l, r, refl, h, k)
 
 -- an equality

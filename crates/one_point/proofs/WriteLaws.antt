@@ -155,3 +155,22 @@ module _ (pos end : ℕ) (out : List ℕ) (room : pos + 2 ≤ length out) where
   say h f (neat-not {f = g} n) w = absurd (h (first-word (pos + 1) end 8 out (encode g ++ []) (omega arith) w))
   say h f (neat-other {t = t} {o = o} {ds = ds} {ks = ks} ne) w =
       rw (negate-other t o ds ks ne, append-nil) (behind pos end 8 out (encode (node t o ds ks)) (omega arith) w)
+
+-- words after words
+pub wrote-end : (pos end : ℕ) (out ws out′ : List ℕ) → Wrote pos out ws end out′ → end ≡ pos + length ws
+unfolding Wrote
+wrote-end pos end out ws out′ w = w .0
+
+pub wrote-on : (pos mid end : ℕ) (out a out₁ b out₂ : List ℕ) → Wrote pos out a mid out₁ → Wrote mid out₁ b end out₂ → Wrote pos out (a ++ b) end out₂
+unfolding Wrote
+wrote-on pos mid end out a out₁ b out₂ w v =
+    let l : length (a ++ b) ≡ length a + length b = length-append a b in
+    (omega (arith, w .0, v .0), rw (v .1, w .1, append-assoc))
+
+pub wrote-word : (pos t : ℕ) (out : List ℕ) → pos < length out → Wrote pos out (t ∷ []) (pos + 1) (set out pos t)
+unfolding Wrote
+wrote-word pos t out h = (refl, rw (add-one, take-suc-set out pos t h))
+
+pub wrote-equal : (pos mid end : ℕ) (out a out₁ b out₂ : List ℕ) (t : ℕ) → pos < length out → Wrote (pos + 1) (set out pos t) a mid out₁ → Wrote mid out₁ b end out₂ → Wrote pos out (t ∷ (a ++ b)) end out₂
+wrote-equal pos mid end out a out₁ b out₂ t h w v =
+    wrote-on pos (pos + 1) end out (t ∷ []) (set out pos t) (a ++ b) out₂ (wrote-word pos t out h) (wrote-on (pos + 1) mid end (set out pos t) a out₁ b out₂ w v)

@@ -1,3 +1,4 @@
 -- What the contracts of private functions cite. Nothing here is needed to read a public contract.
 pub mod Sides
 pub mod Writes
+pub mod Parts

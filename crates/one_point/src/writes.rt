@@ -17,6 +17,7 @@ pub struct Left {
 pub fn copy_part(row: &[u32], from: usize, to: usize, out: &mut [u32], pos: usize) -> usize
     requires { ⌜ (from ≤ to) × (to ≤ length (now row)) × (pos + (to - from) ≤ length (now out)) ⌝ }
     ensures { λ r. ⌜ Wrote pos (now (out .entry)) (take (to - from) (drop from (now (row .entry)))) r (now (out .exit)) ⌝ }
+    ensures { λ r. ⌜ r ≡ pos + (to - from) ⌝ }
 {
     let n = to - from;
     let mut i = 0;

@@ -59,7 +59,7 @@ same-length : tie.Need-same-length Inv-loop μ-loop
 same-length c = omega arith
 
 returns : tie.Need-returns Inv-loop μ-loop
-returns c = copy-all _ _ (c .before .loop .i) _ _ (drop (c .before .before .args .from) (c .before .before .args .row .now)) (c .before .loop .inv .1) (omega arith) (omega (arith, length-drop (c .before .before .args .from) (c .before .before .args .row .now))) (c .before .loop .inv .0)
+returns c = (copy-all _ _ (c .before .loop .i) _ _ (drop (c .before .before .args .from) (c .before .before .args .row .now)) (c .before .loop .inv .1) (omega arith) (omega (arith, length-drop (c .before .before .args .from) (c .before .before .args .row .now))) (c .before .loop .inv .0), refl)
 
 pub copy-part-spec : {M : Type 1} → statement M
 copy-part-spec =
