@@ -6,3 +6,5 @@ pub mod WriteLaws
 pub mod PartsLaws
 pub mod AcceptLaws
 pub mod PartsStepLaws
+pub mod ScanLaws
+pub mod EqualityLaws

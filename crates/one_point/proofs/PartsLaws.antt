@@ -21,7 +21,7 @@ use Rattle.one_point.specs.declared.sides.Sides.{Sides}
 use Rattle.one_point.proofs.ViewLaws.{ok-deep, plain-node, two-more}
 
 -- the first word of a form
-abbrev tagOf : Form → ℕ
+abbrev pub tagOf : Form → ℕ
 tagOf (leaf (free n)) = 1
 tagOf (leaf (bound i)) = 2
 tagOf (node t o ds ks) = t
@@ -32,12 +32,12 @@ tag-first (leaf (free n)) x = refl
 tag-first (leaf (bound i)) x = refl
 tag-first (node t o ds ks) x = refl
 
-tag-at : (row : List ℕ) (p : ℕ) (f : Form) (x : List ℕ) → drop p row ≡ encode f ++ x → getD row p 0 ≡ tagOf f
+pub tag-at : (row : List ℕ) (p : ℕ) (f : Form) (x : List ℕ) → drop p row ≡ encode f ++ x → getD row p 0 ≡ tagOf f
 tag-at row p f x e =
     let a : getD (drop p row) 0 0 ≡ getD row (p + 0) 0 = getD-drop p row 0 0 in
     sym (rw (add-zero, e) at a) ∙ tag-first f x
 
-some-words : (f : Form) → 0 < length (encode f)
+pub some-words : (f : Form) → 0 < length (encode f)
 unfolding encode
 some-words (leaf (free n)) = omega arith
 some-words (leaf (bound i)) = omega arith

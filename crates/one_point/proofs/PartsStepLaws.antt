@@ -33,7 +33,7 @@ pub copied-none : (ps : List (Form × Form)) (w k : ℕ) (out : List ℕ) → ps
 unfolding PartsCopied Wrote encode
 copied-none ps w k out e = rw e ((omega arith, sym (append-nil (take w out))), omega arith)
 
-equal-length : (l r : Form) → length (encode (equal l r)) ≡ suc (length (encode l) + length (encode r))
+pub equal-length : (l r : Form) → length (encode (equal l r)) ≡ suc (length (encode l) + length (encode r))
 unfolding encode
 equal-length l r = rw append-nil (ap suc (length-append (encode l) (encode r)))
 

@@ -2,3 +2,4 @@
 pub mod Sides
 pub mod Writes
 pub mod Parts
+pub mod Scans

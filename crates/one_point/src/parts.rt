@@ -45,7 +45,7 @@ fn both_pairs(row: &[u32], p: usize, q: usize) -> bool
 }
 
 // Where the expression at `at` ends; where none stands there, `at` itself.
-fn expr_end(row: &[u32], at: usize) -> usize
+pub fn expr_end(row: &[u32], at: usize) -> usize
     ensures { λ r. ⌜ r ≡ partWords (now (row .entry)) at at .middle ⌝ }
 {
     let Step::End(end) = skip_expr(row, at, 64) else {
@@ -94,7 +94,7 @@ fn write_equal(row: &[u32], sides: Sides, out: &mut [u32], pos: usize) -> usize
 }
 
 // The parts of the expressions at p and q, copied.
-fn copy_parts(
+pub fn copy_parts(
     row: &[u32],
     at: usize,
     beside: usize,
@@ -141,7 +141,7 @@ pub fn is_taken(found: Replacement) -> bool
 }
 
 // The parts of the equality whose sides stand at `at` and `beside`, offered in order for n declarations; those that are passed are written.
-fn search_parts(
+pub fn search_parts(
     row: &[u32],
     at: usize,
     beside: usize,
