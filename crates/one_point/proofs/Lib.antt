@@ -8,3 +8,4 @@ pub mod AcceptLaws
 pub mod PartsStepLaws
 pub mod ScanLaws
 pub mod EqualityLaws
+pub mod RebuildLaws

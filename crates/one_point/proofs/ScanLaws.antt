@@ -32,7 +32,7 @@ use Rattle.one_point.proofs.PartsLaws.{tagOf, tag-at, some-words, in-ro
 use Rattle.one_point.proofs.PartsStepLaws.{equal-length}
 
 -- a well-formed predicate that is a not has one child
-one-more : {d : ℕ} {s : Sort} {ks : Forms} → OkAll d (s ∷ []) ks → (g : Form) × (ks ≡ more g none) × Ok d s g
+pub one-more : {d : ℕ} {s : Sort} {ks : Forms} → OkAll d (s ∷ []) ks → (g : Form) × (ks ≡ more g none) × Ok d s g
 one-more (ok-more {f = g} h ok-none) = (g, refl, h)
 
 not-made : {o ds : List ℕ} {ks : Forms} (g : Form) → o ≡ [] → ds ≡ [] → ks ≡ more g none → Neat g → Neat (node 8 o ds ks)
