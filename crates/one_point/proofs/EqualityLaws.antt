@@ -11,7 +11,7 @@ use Rattle.form.specs.Form.{Leaf, Form, leaf, node, Forms, none, more, pick, co
 use Rattle.one_point.specs.Replacement.{Taken, taken, nothing, accept}
 use Rattle.one_point.specs.Split.{isPair, parts, partsAll, equal}
 use Rattle.one_point.specs.Scan.{Scan, scanned, Scans, scans, joined, present, copied, before, offerPart, offerParts, with, scan}
-use Rattle.one_point.specs.Internal.Writes.{Wrote, leftWords, isGone, Neat, neat-other}
+use Rattle.one_point.specs.Internal.Writes.{Wrote, leftWords, isGone, Neat, neat-other, Neats, no-more, and-more}
 use Rattle.one_point.specs.Internal.Parts.{TookIs, PartsTold}
 use Rattle.one_point.specs.Internal.Scans.{NeatLeft, Left, Became}
 use Rattle.one_point.specs.declared.sides.Replacement.{Replacement}
@@ -21,14 +21,14 @@ use Rattle.one_point.proofs.PartsLaws.{some-words}
 use Rattle.one_point.proofs.PartsStepLaws.{equal-length}
 
 -- words of forms
-words : Forms → ℕ
+unfoldable pub words : Forms → ℕ
 words fs = length (encodeAll fs)
 
-words-more : (f : Form) (fs : Forms) → words (more f fs) ≡ length (encode f) + words fs
+pub words-more : (f : Form) (fs : Forms) → words (more f fs) ≡ length (encode f) + words fs
 unfolding words encode
 words-more f fs = length-append (encode f) (encodeAll fs)
 
-words-none : words none ≡ 0
+pub words-none : words none ≡ 0
 unfolding words encode
 words-none = refl
 
@@ -82,10 +82,6 @@ mutual
       omega arith
 
 -- what is left of them has no more words, and no not
-data Neats : Forms → Type 0 where
-  no-more : Neats none
-  and-more : {f : Form} {fs : Forms} → Neat f → Neats fs → Neats (more f fs)
-
 equal-neat : (l r : Form) → Neat (equal l r)
 equal-neat l r = neat-other not-eight
   where
@@ -96,7 +92,7 @@ copied-neat : (ps : List (Form × Form)) → Neats (present (copied ps))
 copied-neat [] = no-more
 copied-neat (p ∷ ps) = and-more (equal-neat (p .0) (p .1)) (copied-neat ps)
 
-joined-neat : {t : ℕ} {fs : Forms} → (t ≡ 8 → ⊥) → Neats fs → NeatLeft (joined t fs)
+pub joined-neat : {t : ℕ} {fs : Forms} → (t ≡ 8 → ⊥) → Neats fs → NeatLeft (joined t fs)
 joined-neat h no-more = tt
 joined-neat h (and-more n no-more) = n
 joined-neat h (and-more n (and-more m k)) = neat-other h
@@ -126,7 +122,7 @@ unfolding offerParts
 offer-neat d [] = no-more
 offer-neat d (p ∷ ps) = neat-by (p .0) (p .1) ps (accept d (p .0) (p .1)) (offerParts d ps) (offer-neat d ps)
 
-joined-words : (t : ℕ) (fs : Forms) → length (leftWords (joined t fs)) ≤ words fs + 2
+pub joined-words : (t : ℕ) (fs : Forms) → length (leftWords (joined t fs)) ≤ words fs + 2
 unfolding encode words
 joined-words t none = omega arith
 joined-words t (more f none) = rw append-nil (omega arith)

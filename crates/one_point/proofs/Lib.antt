@@ -9,3 +9,6 @@ pub mod PartsStepLaws
 pub mod ScanLaws
 pub mod EqualityLaws
 pub mod RebuildLaws
+pub mod BecameLaws
+pub mod ImpliesLaws
+pub mod ChildrenLaws

@@ -27,10 +27,10 @@ use Rattle.one_point.proofs.WriteLaws.{wrote-end, nothing-written, behi
 use Rattle.one_point.proofs.EqualityLaws.{wrote-in, kept, wrote-self, based}
 use Rattle.one_point.proofs.ScanLaws.{one-more, stands-words, stands-ok}
 
-abbrev notOf : Form → Form
+abbrev pub notOf : Form → Form
 notOf f = node 8 [] [] (more f none)
 
-abbrev impliesOf : Form → Form → Form
+abbrev pub impliesOf : Form → Form → Form
 impliesOf l r = node 251 [] [] (more l (more r none))
 
 -- by the scans of the children
@@ -110,7 +110,7 @@ not-kids w =
     let (g, e, h) = one-more k in
     (g, not-is g a b e, h)
 
-not-words : (g : Form) → length (encode (notOf g)) ≡ suc (length (encode g))
+pub not-words : (g : Form) → length (encode (notOf g)) ≡ suc (length (encode g))
 unfolding encode
 not-words g = ap (λ l. suc (length l)) (append-nil (encode g))
 
@@ -153,7 +153,7 @@ implies-kids w =
     let (l, r, e, h, j) = two-more k in
     (l, r, implies-is l r a b e, h, j)
 
-implies-words : (l r : Form) → length (encode (impliesOf l r)) ≡ suc (length (encode l) + length (encode r))
+pub implies-words : (l r : Form) → length (encode (impliesOf l r)) ≡ suc (length (encode l) + length (encode r))
 unfolding encode
 implies-words l r = rw append-nil (ap suc (length-append (encode l) (encode r)))
 

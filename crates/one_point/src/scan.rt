@@ -30,7 +30,7 @@ pub struct Scanned {
 }
 
 // Where the predicate at `at` ends.
-fn skip_pred(row: &[u32], at: usize, depth: u32) -> Step
+pub fn skip_pred(row: &[u32], at: usize, depth: u32) -> Step
     requires { ⌜ 32 * depth < 2 ^ 32 ⌝ }
     ensures { λ r. ⌜ r ≡ endAt at (decode depth pred (drop at (now (row .entry)))) ⌝ }
 {

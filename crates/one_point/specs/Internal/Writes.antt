@@ -24,3 +24,7 @@ isGone absent = true
 pub data Neat : Form → Type 0 where
   neat-not : {f : Form} → Neat f → Neat (node 8 [] [] (more f none))
   neat-other : {t : ℕ} {o ds : List ℕ} {ks : Forms} → (t ≡ 8 → ⊥) → Neat (node t o ds ks)
+
+pub data Neats : Forms → Type 0 where
+  no-more : Neats none
+  and-more : {f : Form} {fs : Forms} → Neat f → Neats fs → Neats (more f fs)
