@@ -12,3 +12,5 @@ pub mod RebuildLaws
 pub mod BecameLaws
 pub mod ImpliesLaws
 pub mod ChildrenLaws
+pub mod JunctionLaws
+pub mod NodeLaws

@@ -38,11 +38,11 @@ unfolding encode
 equal-length l r = rw append-nil (ap suc (length-append (encode l) (encode r)))
 
 -- a part that is passed, and one that is taken
-not-taken : (r : Replacement) → isTaken r ≡ false → r ≡ Not
+pub not-taken : (r : Replacement) → isTaken r ≡ false → r ≡ Not
 not-taken (Is i s t) e = absurd (clash cc)
 not-taken Not e = refl
 
-took-not : (row : List ℕ) (t : Taken) → TookIs row t Not → t ≡ nothing
+pub took-not : (row : List ℕ) (t : Taken) → TookIs row t Not → t ≡ nothing
 unfolding TookIs
 took-not row (taken i e) h = let z = h .2 in absurd (clash cc)
 took-not row nothing h = refl

@@ -31,7 +31,7 @@ pub fn one_more(k: u32, gone: bool) -> u32
 }
 
 // Where n predicates end.
-fn skip_preds(row: &[u32], at: usize, n: u32, depth: u32) -> usize
+pub fn skip_preds(row: &[u32], at: usize, n: u32, depth: u32) -> usize
     requires { ⌜ Kids (now row) depth at n 0 (2 * length (now row)) × (depth ≤ 64) ⌝ }
     ensures { λ r. ⌜ r ≡ at + length (encodeAll (kidsAt (now (row .entry)) depth at n)) ⌝ }
 {
