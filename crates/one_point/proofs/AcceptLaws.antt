@@ -1,7 +1,7 @@
 -- A part offered and written: from the words of its sides to the definitions. Assumes nothing.
-use mathlib.Core.Path.{_≡_, refl, ap, sym, _∙_}
+use mathlib.Core.Path.{_≡_, refl, ap, _∙_}
 use mathlib.Core.Bool.{Bool, true, false}
-use mathlib.Core.List.{List, [], _∷_, _++_, append-nil}
+use mathlib.Core.List.{List, _++_}
 use Prim.Native.Nat.{ℕ, _+_, _-_, _≤_}
 use native.Mathlib.Omega.{arith}
 use lib.Dec.{ltb}
@@ -9,7 +9,7 @@ use lib.ListN.{length, take, drop}
 use Rattle.form.specs.Form.{Form, pick, encode}
 use Rattle.form.specs.Tag.{expr}
 use Rattle.form.proofs.DecodeLaws.{clash, Ok}
-use Rattle.one_point.specs.Replacement.{Side, left, right, sideOf, Offer, offer, no-offer, offered, Taken, taken, nothing, above, allowed, ofOffer, accept}
+use Rattle.one_point.specs.Replacement.{left, right, Offer, offer, no-offer, offered, taken, nothing, above, allowed, ofOffer, accept}
 use Rattle.one_point.specs.Internal.Sides.{indexWords, replaceBy, replacementWords, aboveWords}
 use Rattle.one_point.specs.Internal.Parts.{acceptBy, acceptWords, Within, TookIs}
 use Rattle.one_point.specs.declared.sides.Sides.{Sides}

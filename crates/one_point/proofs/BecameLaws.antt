@@ -2,16 +2,16 @@
 use mathlib.Core.Path.{_≡_, refl, ap, sym, _∙_}
 use mathlib.Core.Bool.{Bool, true, false, not}
 use mathlib.Core.Option.{Option, none as absent, some}
-use mathlib.Core.List.{List, [], _∷_, _++_, append-nil}
-use Prim.Native.Nat.{ℕ, suc, _+_, _-_, _*_, _≤_, _<_}
+use mathlib.Core.List.{List, [], append-nil}
+use Prim.Native.Nat.{ℕ, suc, _+_, _-_, _≤_}
 use native.Mathlib.Omega.{arith}
 use lib.ListN.{length, take}
-use Rattle.form.specs.Form.{Form, node, Forms, none, more, encode, encodeAll}
+use Rattle.form.specs.Form.{Form, node, encode}
 use Rattle.form.proofs.DecodeLaws.{clash}
 use Rattle.one_point.specs.Replacement.{Taken}
 use Rattle.one_point.specs.Scan.{Scan, scanned, negate, negated, scan}
-use Rattle.one_point.specs.Internal.Writes.{Wrote, leftWords, isGone, Neat, neat-not, neat-other}
-use Rattle.one_point.specs.Internal.Scans.{NeatLeft, Left, Became}
+use Rattle.one_point.specs.Internal.Writes.{Wrote, Neat, neat-not, neat-other}
+use Rattle.one_point.specs.Internal.Scans.{Left, Became}
 use Rattle.one_point.specs.declared.scan.Scanned.{Scanned}
 use Rattle.one_point.proofs.PartsLaws.{some-words}
 use Rattle.one_point.proofs.WriteLaws.{wrote-end, negate-other}

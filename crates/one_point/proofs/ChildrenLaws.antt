@@ -1,16 +1,15 @@
 -- Children one after another: the first of them, the rest, and those that are copied. Assumes nothing.
 use mathlib.Core.Path.{_≡_, refl, ap, sym, _∙_}
-use mathlib.Core.Bool.{Bool, true, false}
-use mathlib.Core.List.{List, [], _∷_, _++_, append-assoc, append-nil}
+use mathlib.Core.List.{List, _∷_, _++_, append-assoc}
 use Prim.Native.Nat.{ℕ, zero, suc, _+_, _-_, _*_, _≤_, _<_}
 use native.Mathlib.Numerals.{sub-one}
 use native.Mathlib.Omega.{arith}
 use lib.ListN.{length, take, drop, replicate, length-append, length-drop}
 use lib.Seq.{drop-drop, drop-append-seam}
 use Rattle.form.specs.Form.{Form, Forms, none, more, count, encode, encodeAll}
-use Rattle.form.specs.Tag.{Sort, pred}
-use Rattle.form.specs.Decode.{Got, got, Gots, gots, decode, decodeAll}
-use Rattle.form.proofs.DecodeLaws.{clash, Ok, OkAll, ok-none, ok-more, decode-encode, decodeAll-encode, all-sound}
+use Rattle.form.specs.Tag.{pred}
+use Rattle.form.specs.Decode.{got, gots, decode, decodeAll}
+use Rattle.form.proofs.DecodeLaws.{OkAll, ok-none, ok-more, decode-encode, decodeAll-encode, all-sound}
 use Rattle.one_point.specs.Internal.Writes.{Wrote, Neats, no-more, and-more}
 use Rattle.one_point.specs.Internal.Scans.{kidsAt, Kids, KidsCopied}
 use Rattle.one_point.proofs.SidesLaws.{part-words}

@@ -1,21 +1,20 @@
 -- What is left of a scanned equality: its length, and that a not in it is neat. Assumes nothing.
 use mathlib.Core.Path.{_≡_, refl, ap, sym, _∙_}
 use mathlib.Core.Bool.{Bool, true, false, _&&_}
-use mathlib.Core.Option.{Option, none as absent, some}
+use mathlib.Core.Option.{Option}
 use mathlib.Core.List.{List, [], _∷_, _++_, append-nil}
-use Prim.Native.Nat.{ℕ, zero, suc, _+_, _-_, _*_, _≤_, _<_}
+use Prim.Native.Nat.{ℕ, _+_, _-_, _*_, _≤_}
 use native.Mathlib.Omega.{arith}
 use lib.ListN.{length, take, length-append, length-take}
 use lib.Seq.{length-take-le, take-take, take-append-le}
-use Rattle.form.specs.Form.{Leaf, Form, leaf, node, Forms, none, more, pick, count, encode, encodeAll}
+use Rattle.form.specs.Form.{Form, leaf, node, Forms, none, more, pick, count, encode, encodeAll}
 use Rattle.one_point.specs.Replacement.{Taken, taken, nothing, accept}
 use Rattle.one_point.specs.Split.{isPair, parts, partsAll, equal}
-use Rattle.one_point.specs.Scan.{Scan, scanned, Scans, scans, joined, present, copied, before, offerPart, offerParts, with, scan}
+use Rattle.one_point.specs.Scan.{Scans, scans, joined, present, copied, offerPart, offerParts, with, scan}
 use Rattle.one_point.specs.Internal.Writes.{Wrote, leftWords, isGone, Neat, neat-other, Neats, no-more, and-more}
-use Rattle.one_point.specs.Internal.Parts.{TookIs, PartsTold}
+use Rattle.one_point.specs.Internal.Parts.{PartsTold}
 use Rattle.one_point.specs.Internal.Scans.{NeatLeft, Left, Became}
 use Rattle.one_point.specs.declared.sides.Replacement.{Replacement}
-use Rattle.one_point.specs.declared.scan.Scanned.{Scanned}
 use Rattle.one_point.proofs.WriteLaws.{wrote-end}
 use Rattle.one_point.proofs.PartsLaws.{some-words}
 use Rattle.one_point.proofs.PartsStepLaws.{equal-length}

@@ -1,24 +1,24 @@
 -- What stands in the output row once both sides of an implication are scanned. Assumes nothing.
-use mathlib.Core.Path.{_≡_, refl, ap, sym, _∙_}
-use mathlib.Core.Bool.{Bool, true, false}
+use mathlib.Core.Path.{_≡_, refl, ap, _∙_}
+use mathlib.Core.Bool.{true, false}
 use mathlib.Core.Option.{Option, none as absent, some}
 use mathlib.Core.List.{List, [], _∷_, _++_, append-nil}
-use Prim.Native.Nat.{ℕ, suc, _+_, _-_, _*_, _≤_, _<_}
+use Prim.Native.Nat.{ℕ, suc, _+_, _-_, _≤_}
 use native.Mathlib.Omega.{arith}
 use lib.ListN.{length, take, set, length-set}
 use lib.Seq.{take-set-le}
-use Rattle.form.specs.Form.{Form, node, Forms, none, more, encode, encodeAll}
+use Rattle.form.specs.Form.{Form, encode}
 use Rattle.form.proofs.DecodeLaws.{clash}
 use Rattle.one_point.specs.Replacement.{Taken, taken, nothing}
-use Rattle.one_point.specs.Scan.{Scan, scanned, negate, implies, scan}
-use Rattle.one_point.specs.Internal.Writes.{Wrote, leftWords, isGone, Neat, neat-other}
-use Rattle.one_point.specs.Internal.Scans.{NeatLeft, Left, Became, nextScan}
+use Rattle.one_point.specs.Scan.{scanned, negate, implies, scan}
+use Rattle.one_point.specs.Internal.Writes.{Wrote, leftWords, Neat, neat-other}
+use Rattle.one_point.specs.Internal.Scans.{Left, Became, nextScan}
 use Rattle.one_point.specs.declared.scan.Scanned.{Scanned}
 use Rattle.one_point.proofs.PartsLaws.{some-words}
 use Rattle.one_point.proofs.WriteLaws.{wrote-end, wrote-on, wrote-word}
 use Rattle.one_point.proofs.EqualityLaws.{wrote-in, kept, wrote-self, based}
-use Rattle.one_point.proofs.RebuildLaws.{impliesOf, implies-words, scan-left, scan-both}
-use Rattle.one_point.proofs.BecameLaws.{neat-negate, negate-words, Child, child-of}
+use Rattle.one_point.proofs.RebuildLaws.{impliesOf, scan-left, scan-both}
+use Rattle.one_point.proofs.BecameLaws.{neat-negate, negate-words, child-of}
 
 pub scan-implies : (n : ℕ) (l r : Form) (x y : Taken) (g h : Option Form) → scan n true l ≡ scanned x g → nextScan x (scan n false r) r ≡ scanned y h → scan n false (impliesOf l r) ≡ scanned y (implies g h)
 unfolding nextScan

@@ -1,37 +1,25 @@
 -- Children searched in order, and what is left of an associative node. Assumes nothing.
-use mathlib.Core.Path.{_≡_, refl, ap, sym, _∙_}
-use mathlib.Core.Bool.{Bool, true, false, not, _&&_, _||_}
+use mathlib.Core.Path.{_≡_, refl, ap}
+use mathlib.Core.Bool.{Bool, true, false}
 use mathlib.Core.Option.{Option, none as absent, some}
-use mathlib.Core.List.{List, [], _∷_, _++_, append-assoc, append-nil}
-use Prim.Native.Nat.{ℕ, zero, suc, _+_, _-_, _*_, _≤_, _<_}
-use native.Mathlib.Numerals.{add-one}
+use mathlib.Core.List.{List, [], _∷_}
+use Prim.Native.Nat.{ℕ, _+_, _-_, _≤_}
 use native.Mathlib.Omega.{arith}
-use borrow.Author.Tests.{eqb-true}
-use lib.Dec.{eqb}
-use lib.ListN.{length, getD, take, drop, replicate, length-append}
-use lib.Seq.{drop-drop, getD-drop}
-use Rattle.form.specs.Form.{Form, node, Forms, none, more, pick, count, encode, encodeAll}
-use Rattle.form.specs.Tag.{Sort, pred, sorts, own, ownOf, shapeOf, predTags}
-use Rattle.form.specs.Decode.{head, only, read, Got, got, Gots, gots, decode, decodeAll}
-use Rattle.form.specs.declared.tag.Shape.the-variants.{Preds}
-use Rattle.form.proofs.DecodeLaws.{clash, Ok, ok-node, OkAll, decodeAll-encode}
+use lib.ListN.{length}
+use Rattle.form.specs.Form.{Form, Forms, none, more, count, encode, encodeAll}
+use Rattle.form.proofs.DecodeLaws.{clash}
 use Rattle.one_point.specs.Replacement.{Taken, taken, nothing}
 use Rattle.one_point.specs.Scan as S
-use Rattle.one_point.specs.Scan.{Scan, scanned, Scans, scans, joined, present, copies, before, follow, Role, roleOf, with, scan, scanAll}
-use Rattle.one_point.specs.Internal.Writes.{Wrote, leftWords, isGone, Neat, Neats, no-more, and-more}
+use Rattle.one_point.specs.Scan.{scanned, Scans, scans, present, copies, before, follow, scan, scanAll}
+use Rattle.one_point.specs.Internal.Writes.{Wrote, Neats, no-more, and-more}
 use Rattle.one_point.specs.Internal.Parts.{isTaken, TookIs}
-use Rattle.one_point.specs.Internal.Scans.{NeatLeft, Left, Became, kidsAt, Kids, oneMore, KidsTold, KidsCopied}
+use Rattle.one_point.specs.Internal.Scans.{Left, Became, kidsAt, Kids, oneMore, KidsTold, KidsCopied}
 use Rattle.one_point.specs.declared.sides.Replacement.{Replacement}
-use Rattle.one_point.specs.declared.sides.Replacement.the-variants.{Is, Not}
+use Rattle.one_point.specs.declared.sides.Replacement.the-variants.{Not}
 use Rattle.one_point.specs.declared.scan.Scanned.{Scanned}
 use Rattle.one_point.proofs.WriteLaws.{wrote-end, wrote-on}
-use Rattle.one_point.proofs.PartsLaws.{tagOf, tag-at, some-words}
-use Rattle.one_point.proofs.PartsStepLaws.{not-taken, took-not}
-use Rattle.one_point.proofs.EqualityLaws.{wrote-in, kept, wrote-self, based, joined-neat, joined-words}
-use Rattle.one_point.proofs.RebuildLaws.{scan-and, scan-or}
-use Rattle.one_point.proofs.ScanLaws.{stands-words, stands-ok}
-use Rattle.one_point.proofs.BecameLaws.{Child, child-of}
-use Rattle.one_point.proofs.ChildrenLaws.{KidIs, kid-length, words-zero}
+use Rattle.one_point.proofs.BecameLaws.{child-of}
+use Rattle.one_point.proofs.ChildrenLaws.{KidIs, kid-length}
 
 present-copies : (fs : Forms) → present (copies fs) ≡ fs
 present-copies none = refl

@@ -1,27 +1,26 @@
 -- An associative node where it stands, what is left of it, and what follows a child. Assumes nothing.
 use mathlib.Core.Path.{_≡_, refl, ap, sym, _∙_}
 use mathlib.Core.Bool.{Bool, true, false, not, _&&_, _||_}
-use mathlib.Core.Option.{Option, none as absent, some}
-use mathlib.Core.List.{List, [], _∷_, _++_, append-assoc, append-nil}
-use Prim.Native.Nat.{ℕ, zero, suc, _+_, _-_, _*_, _≤_, _<_}
+use mathlib.Core.Option.{Option, some}
+use mathlib.Core.List.{List, [], _∷_, _++_, append-nil}
+use Prim.Native.Nat.{ℕ, suc, _+_, _-_, _*_, _≤_, _<_}
 use native.Mathlib.Omega.{arith}
 use borrow.Author.Tests.{eqb-true}
 use lib.Dec.{eqb}
-use lib.ListN.{length, getD, take, drop, replicate, length-append, length-drop}
+use lib.ListN.{length, getD, drop, replicate, length-append, length-drop}
 use lib.Seq.{drop-drop, getD-drop}
-use Rattle.form.specs.Form.{Form, node, Forms, none, more, pick, count, between, encode, encodeAll}
-use Rattle.form.specs.Tag.{Sort, expr, pred, sorts, predsFrom, own, ownOf, shapeOf, predTags}
-use Rattle.form.specs.Decode.{Head, head, bad, only, read, Got, got, Gots, gots, decode, decodeAll}
+use Rattle.form.specs.Form.{Form, node, Forms, pick, count, between, encode, encodeAll}
+use Rattle.form.specs.Tag.{pred, sorts, predsFrom, own, ownOf, shapeOf, predTags}
+use Rattle.form.specs.Decode.{head, only, read, got, gots, decode, decodeAll}
 use Rattle.form.specs.declared.tag.Shape.the-variants.{Preds}
 use Rattle.form.proofs.DecodeLaws.{clash, Ok, ok-node, OkAll, decodeAll-encode, all-sound}
 use Rattle.one_point.specs.Replacement.{Taken, taken, nothing}
 use Rattle.one_point.specs.Scan as S
 use Rattle.one_point.specs.Scan.{Scan, scanned, Scans, scans, joined, present, Role, roleOf, with, scan, scanAll}
-use Rattle.one_point.specs.Internal.Writes.{Wrote, leftWords, isGone, Neat}
+use Rattle.one_point.specs.Internal.Writes.{Wrote, leftWords, isGone}
 use Rattle.one_point.specs.Internal.Parts.{isTaken, TookIs}
-use Rattle.one_point.specs.Internal.Scans.{NeatLeft, Left, Became, nextScan, kidsAt, Kids, KidsTold}
+use Rattle.one_point.specs.Internal.Scans.{Left, Became, nextScan, kidsAt, Kids, KidsTold}
 use Rattle.one_point.specs.declared.sides.Replacement.{Replacement}
-use Rattle.one_point.specs.declared.sides.Replacement.the-variants.{Is, Not}
 use Rattle.one_point.specs.declared.scan.Scanned.{Scanned}
 use Rattle.one_point.proofs.WriteLaws.{wrote-end}
 use Rattle.one_point.proofs.PartsLaws.{tagOf, tag-at}

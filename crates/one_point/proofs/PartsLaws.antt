@@ -4,20 +4,18 @@ use mathlib.Core.Bool.{Bool, true, false, _&&_}
 use mathlib.Core.List.{List, [], _∷_, _++_, append-assoc, append-nil}
 use Prim.Native.Nat.{ℕ, zero, suc, _+_, _-_, _*_, _≤_, _<_}
 use native.Mathlib.Nat.{add-zero}
-use native.Mathlib.Numerals.{add-one, sub-one}
+use native.Mathlib.Numerals.{sub-one}
 use native.Mathlib.Omega.{arith}
 use borrow.Author.Tests.{eqb-true}
 use lib.Dec.{eqb}
-use lib.ListN.{length, getD, take, drop, replicate, length-append, length-drop}
+use lib.ListN.{length, getD, drop, replicate, length-append, length-drop}
 use lib.Seq.{drop-drop, drop-append-seam, getD-drop}
-use Rattle.form.specs.Form.{Leaf, free, bound, Form, leaf, node, Forms, none, more, pick, encode, encodeAll}
+use Rattle.form.specs.Form.{free, bound, Form, leaf, node, Forms, none, more, encode, encodeAll}
 use Rattle.form.specs.Tag.{Sort, expr, shapeOf, exprTags}
-use Rattle.form.specs.Decode.{Got, got, Gots, gots, no-forms, decode, decodeAll}
-use Rattle.form.proofs.DecodeLaws.{clash, Ok, ok-free, ok-bound, ok-node, OkAll, ok-none, ok-more, decode-encode, decodeAll-encode, all-sound}
+use Rattle.form.specs.Decode.{Gots, gots}
+use Rattle.form.proofs.DecodeLaws.{clash, Ok, ok-free, ok-bound, ok-node, OkAll, ok-none, ok-more, decodeAll-encode, all-sound}
 use Rattle.one_point.specs.Split.{isTwo, isNil, parts, partsAll}
-use Rattle.one_point.specs.Internal.Sides.{endAt}
-use Rattle.one_point.specs.Internal.Parts.{readAll, Beside, partsOf, partsAt, bothPairs, partWords}
-use Rattle.one_point.specs.declared.sides.Sides.{Sides}
+use Rattle.one_point.specs.Internal.Parts.{readAll, Beside, partsOf, partsAt, bothPairs}
 use Rattle.one_point.proofs.ViewLaws.{ok-deep, plain-node, two-more}
 
 -- the first word of a form

@@ -1,16 +1,16 @@
 -- The loops over the parts of an equality: what is told of the rest is told of the whole. Assumes nothing.
 use mathlib.Core.Path.{_≡_, refl, ap, sym, _∙_}
-use mathlib.Core.Bool.{Bool, true, false}
-use mathlib.Core.Option.{Option, none as absent, some}
-use mathlib.Core.List.{List, [], _∷_, _++_, append-nil}
-use Prim.Native.Nat.{ℕ, zero, suc, _+_, _-_, _*_, _≤_, _<_}
+use mathlib.Core.Bool.{true, false}
+use mathlib.Core.Option.{some}
+use mathlib.Core.List.{List, [], _∷_, append-nil}
+use Prim.Native.Nat.{ℕ, zero, suc, _+_, _-_, _≤_}
 use native.Mathlib.Omega.{arith}
 use lib.ListN.{length, take, drop, length-append}
-use Rattle.form.specs.Form.{Form, node, Forms, none, more, count, encode, encodeAll}
-use Rattle.form.specs.Decode.{gots, decodeAll, decode}
+use Rattle.form.specs.Form.{Form, encode, encodeAll}
+use Rattle.form.specs.Decode.{decodeAll}
 use Rattle.form.proofs.DecodeLaws.{clash, decode-encode}
 use Rattle.one_point.specs.Replacement.{Taken, taken, nothing, accept}
-use Rattle.one_point.specs.Split.{parts, partsAll, equal}
+use Rattle.one_point.specs.Split.{parts, equal}
 use Rattle.one_point.specs.Scan.{Scans, scans, present, copied, before, offerPart, offerParts}
 use Rattle.one_point.specs.Internal.Sides.{endAt}
 use Rattle.one_point.specs.Internal.Writes.{Wrote}

@@ -2,24 +2,24 @@
 use mathlib.Core.Path.{_≡_, refl, ap, sym, _∙_}
 use mathlib.Core.Bool.{Bool, true, false}
 use mathlib.Core.List.{List, [], _∷_, _++_, append-nil}
-use Prim.Native.Nat.{ℕ, zero, suc, _+_, _-_, _≤_, _<_}
+use Prim.Native.Nat.{ℕ, suc, _+_, _-_, _≤_, _<_}
 use native.Mathlib.Omega.{arith}
-use borrow.Author.Tests.{le-leb, lt-leb, ne-eqb, eq-eqb, eqb-true}
+use borrow.Author.Tests.{le-leb, lt-leb, eqb-true}
 use lib.Dec.{eqb}
 use lib.ListN.{length, take, drop, length-append}
 use lib.Seq.{drop-append-seam}
-use Rattle.form.specs.Form.{Leaf, Form, leaf, node, Forms, none, more, pick, encode}
-use Rattle.form.specs.Tag.{Sort, expr, pred}
-use Rattle.form.specs.Decode.{Got, got, decode, Whole, one, not-one, rowForm, Found, found, missing, asSort, formOf}
+use Rattle.form.specs.Form.{Form, node, Forms, none, more, encode}
+use Rattle.form.specs.Tag.{expr, pred}
+use Rattle.form.specs.Decode.{Whole, one, not-one, rowForm, found, asSort, formOf}
 use Rattle.form.specs.Answer.{answer, told, ofFound, checkOutcome}
 use Rattle.form.specs.declared.answer.Kind.the-variants.{Predicate}
 use Rattle.form.specs.declared.answer.Answer.{Answer}
 use Rattle.form.specs.declared.answer.Answer.the-variants.{Done, No}
 use Rattle.form.proofs.DecodeLaws.{clash, Ok, decode-encode}
 use Rattle.subst.proofs.CheckedLaws.{row-one, is-missing}
-use Rattle.one_point.specs.Replacement.{Side, left, right, sideOf, Offer, offer, no-offer, offered}
+use Rattle.one_point.specs.Replacement.{left, right, Offer, offer, no-offer, offered}
 use Rattle.one_point.specs.Split.{equal}
-use Rattle.one_point.specs.Places.{says, offerSides, offerForm, offerFound, offerAnswer}
+use Rattle.one_point.specs.Places.{says, offerForm, offerAnswer}
 use Rattle.one_point.specs.Internal.Sides.{endAt, equalityWords, replacementWords, aboveWords, offerPart}
 use Rattle.one_point.specs.declared.sides.Sides.{Sides}
 use Rattle.one_point.specs.declared.sides.Equality.the-variants.{Of, None}

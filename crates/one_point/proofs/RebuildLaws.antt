@@ -1,30 +1,24 @@
 -- The scan of a node by the scans of its children, and what then stands in the output row. Assumes nothing.
 use mathlib.Core.Path.{_≡_, refl, ap, sym, _∙_}
 use mathlib.Core.Bool.{Bool, true, false, not, _&&_, _||_}
-use mathlib.Core.Option.{Option, none as absent, some}
-use mathlib.Core.List.{List, [], _∷_, _++_, append-assoc, append-nil}
-use Prim.Native.Nat.{ℕ, zero, suc, _+_, _-_, _*_, _≤_, _<_}
+use mathlib.Core.Option.{Option, some}
+use mathlib.Core.List.{List, [], _++_, append-assoc, append-nil}
+use Prim.Native.Nat.{ℕ, suc, _+_, _-_, _<_}
 use native.Mathlib.Omega.{arith}
-use borrow.Author.Tests.{eq-eqb, ne-eqb}
+use borrow.Author.Tests.{ne-eqb}
 use lib.Dec.{eqb}
-use lib.ListN.{length, getD, take, drop, set, length-append}
+use lib.ListN.{length, getD, drop, length-append}
 use lib.Seq.{drop-drop, drop-append-seam}
-use Rattle.form.specs.Form.{Leaf, Form, leaf, node, Forms, none, more, pick, count, encode, encodeAll}
-use Rattle.form.specs.Tag.{Sort, expr, pred, shapeOf, predTags}
-use Rattle.form.specs.Decode.{Got, got, decode}
-use Rattle.form.proofs.DecodeLaws.{clash, Ok, ok-node, OkAll, ok-none, ok-more, decode-encode}
+use Rattle.form.specs.Form.{Form, node, Forms, none, more, pick, encode}
+use Rattle.form.specs.Tag.{pred, shapeOf, predTags}
+use Rattle.form.specs.Decode.{got, decode}
+use Rattle.form.proofs.DecodeLaws.{Ok, ok-node, decode-encode}
 use Rattle.one_point.specs.Replacement.{Taken, taken, nothing}
 use Rattle.one_point.specs.Split.{isNil}
 use Rattle.one_point.specs.Scan as S
-use Rattle.one_point.specs.Scan.{Scan, scanned, Scans, scans, negate, implies, negated, joined, present, Role, roleOf, role, suits, rebuild, with, scan, scanAll}
-use Rattle.one_point.specs.Internal.Writes.{Wrote, leftWords, isGone, Neat, neat-not, neat-other}
-use Rattle.one_point.specs.Internal.Parts.{TookIs}
-use Rattle.one_point.specs.Internal.Scans.{NeatLeft, Left, Became}
-use Rattle.one_point.specs.declared.scan.Scanned.{Scanned}
+use Rattle.one_point.specs.Scan.{scanned, scans, implies, negated, joined, present, roleOf, role, with, scan, scanAll}
 use Rattle.one_point.proofs.ViewLaws.{plain-node, two-more}
-use Rattle.one_point.proofs.PartsLaws.{tagOf, tag-at, some-words}
-use Rattle.one_point.proofs.WriteLaws.{wrote-end, nothing-written, behind, negate-other}
-use Rattle.one_point.proofs.EqualityLaws.{wrote-in, kept, wrote-self, based}
+use Rattle.one_point.proofs.PartsLaws.{tagOf, tag-at}
 use Rattle.one_point.proofs.ScanLaws.{one-more, stands-words, stands-ok}
 
 abbrev pub notOf : Form → Form

@@ -1,30 +1,28 @@
 -- The scan at a predicate that is copied, and at an equality. Assumes nothing.
-use mathlib.Core.Path.{_≡_, refl, ap, sym, _∙_}
-use mathlib.Core.Bool.{Bool, true, false, _&&_}
-use mathlib.Core.Option.{Option, none as absent, some}
+use mathlib.Core.Path.{_≡_, refl, sym, _∙_}
+use mathlib.Core.Bool.{Bool, true, false}
+use mathlib.Core.Option.{some}
 use mathlib.Core.List.{List, [], _∷_, _++_, append-assoc, append-nil}
-use Prim.Native.Nat.{ℕ, zero, suc, _+_, _-_, _*_, _≤_, _<_}
+use Prim.Native.Nat.{ℕ, suc, _+_, _-_, _*_, _≤_}
 use native.Mathlib.Omega.{arith}
 use borrow.Author.Tests.{eqb-true, eqb-false}
 use lib.Dec.{eqb}
-use lib.ListN.{length, getD, take, drop, length-append}
+use lib.ListN.{length, getD, take, drop}
 use lib.Seq.{drop-drop, drop-append-seam}
-use Rattle.form.specs.Form.{Leaf, Form, leaf, node, Forms, none, more, pick, count, encode, encodeAll}
+use Rattle.form.specs.Form.{Form, node, Forms, none, more, encode, encodeAll}
 use Rattle.form.specs.Tag.{Sort, expr, pred, shapeOf, predTags}
-use Rattle.form.specs.Decode.{Got, got, gots, decode, decodeAll}
+use Rattle.form.specs.Decode.{got, gots, decode}
 use Rattle.form.specs.declared.head.Step.{Step}
 use Rattle.form.specs.declared.head.Step.the-variants.{End, Bad}
 use Rattle.form.proofs.DecodeLaws.{clash, Ok, ok-node, OkAll, ok-none, ok-more, decode-encode, decodeAll-encode, decode-sound}
-use Rattle.one_point.specs.Replacement.{Taken, taken, nothing, accept}
-use Rattle.one_point.specs.Split.{isNil, isTwo, parts, partsAll, equal}
-use Rattle.one_point.specs.Scan.{Scan, scanned, Scans, scans, joined, present, copied, before, offerPart, offerParts, with, scan}
+use Rattle.one_point.specs.Replacement.{nothing}
+use Rattle.one_point.specs.Split.{parts, equal}
+use Rattle.one_point.specs.Scan.{scanned}
 use Rattle.one_point.specs.Internal.Sides.{endAt}
-use Rattle.one_point.specs.Internal.Writes.{Wrote, leftWords, isGone, Neat, neat-not, neat-other}
-use Rattle.one_point.specs.Internal.Parts.{readAll, Beside, partsAt, partWords, TookIs, PartsTold}
-use Rattle.one_point.specs.Internal.Scans.{NeatLeft, Left, Became, Room}
-use Rattle.one_point.specs.declared.sides.Replacement.{Replacement}
-use Rattle.one_point.specs.declared.sides.Replacement.the-variants.{Is, Not}
-use Rattle.one_point.specs.declared.scan.Scanned.{Scanned}
+use Rattle.one_point.specs.Internal.Writes.{Wrote, Neat, neat-not, neat-other}
+use Rattle.one_point.specs.Internal.Parts.{readAll, Beside, partsAt, partWords, TookIs}
+use Rattle.one_point.specs.Internal.Scans.{Left, Became}
+use Rattle.one_point.specs.declared.sides.Replacement.the-variants.{Not}
 use Rattle.one_point.proofs.ViewLaws.{ok-deep, plain-node, Equal, equal-node}
 use Rattle.one_point.proofs.SidesLaws.{part-words}
 use Rattle.one_point.proofs.WriteLaws.{wrote-end}

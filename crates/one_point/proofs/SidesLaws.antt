@@ -1,24 +1,23 @@
 -- The rule of Places on the words of a row is the rule on trees. Assumes nothing.
-use mathlib.Core.Path.{_≡_, refl, ap, sym, _∙_}
+use mathlib.Core.Path.{_≡_, refl}
 use mathlib.Core.Bool.{Bool, true, false}
 use mathlib.Core.Option.{Option, none as absent, some}
-use mathlib.Core.List.{List, [], _∷_, _++_, append-nil}
-use Prim.Native.Nat.{ℕ, zero, suc, _+_, _-_, _≤_, _<_}
+use mathlib.Core.List.{List, [], _∷_, _++_}
+use Prim.Native.Nat.{ℕ, suc, _+_, _-_, _≤_}
 use native.Mathlib.Numerals.{add-one}
 use native.Mathlib.Omega.{arith}
 use borrow.Author.Tests.{ne-eqb, eq-eqb}
-use lib.Dec.{ltb, eqb}
+use lib.Dec.{ltb}
 use lib.ListN.{length, getD, take, drop, replicate}
 use lib.Seq.{take-append-seam}
-use Rattle.form.specs.Form.{Leaf, free, bound, Form, leaf, node, Forms, none, more, pick, encode, encodeAll}
+use Rattle.form.specs.Form.{Form, pick, encode, encodeAll}
 use Rattle.form.specs.Tag.{Sort, expr}
-use Rattle.form.specs.Decode.{Got, got, no-form, isLeaf, decode, Whole, one, not-one, rowForm, Found, found, missing, asSort, formOf}
+use Rattle.form.specs.Decode.{Got, got, no-form, isLeaf, decode, Whole, one, not-one, rowForm, found, missing, asSort, formOf}
 use Rattle.form.specs.Internal.Reads.{mark, Told}
 use Rattle.form.specs.declared.head.Step.{Step}
 use Rattle.form.specs.declared.answer.Kind.the-variants.{Expression}
 use Rattle.form.proofs.DecodeLaws.{clash, Ok, ok-free, ok-bound, ok-node}
 use Rattle.form.proofs.RowLaws.{row-encode}
-use Rattle.subst.specs.Walk.{each}
 use Rattle.subst.specs.Shift.{reaches}
 use Rattle.subst.specs.Internal.Items.{items, allItems, itemIn}
 use Rattle.subst.proofs.RowLaws.{marked-items, each-items}
@@ -26,12 +25,12 @@ use Rattle.subst.proofs.WalkLaws.{each-agree}
 use Rattle.subst.proofs.LimitLaws.{small, ok-small}
 use Rattle.subst.proofs.ShiftLaws.{inRange, range-leaf, range-word, down-range}
 use Rattle.subst.proofs.CheckedLaws.{Checked}
-use Rattle.one_point.specs.Replacement.{Side, left, right, sideOf, Offer, offer, no-offer, indexOf, offerOf, offered, above}
+use Rattle.one_point.specs.Replacement.{left, right, Offer, offer, no-offer, indexOf, offerOf, offered, above}
 use Rattle.one_point.specs.Internal.Sides.{endAt, sidesFrom, equalityWords, indexWords, replaceBy, replacementWords, aboveWhole, aboveWords}
 use Rattle.one_point.specs.declared.sides.Sides.{Sides}
 use Rattle.one_point.specs.declared.sides.Index.{Index}
 use Rattle.one_point.specs.declared.sides.Index.the-variants.{Bound, Unbound}
-use Rattle.one_point.specs.declared.sides.Equality.the-variants.{Of, None}
+use Rattle.one_point.specs.declared.sides.Equality.the-variants.{None}
 use Rattle.one_point.specs.declared.sides.Replacement.{Replacement}
 use Rattle.one_point.specs.declared.sides.Replacement.the-variants.{Is, Not}
 

@@ -1,15 +1,13 @@
 -- What a well-formed predicate is, by its tag. Assumes nothing.
-use mathlib.Core.Path.{_≡_, refl, sym, _∙_}
-use mathlib.Core.Bool.{Bool, true, false}
+use mathlib.Core.Path.{_≡_, refl, sym}
 use mathlib.Core.List.{List, [], _∷_, _++_}
 use Prim.Native.Nat.{ℕ, zero, suc, _≤_}
 use native.Mathlib.Omega.{arith}
-use lib.ListN.{length}
-use Rattle.form.specs.Form.{Leaf, Form, leaf, node, Forms, none, more, encode, encodeAll}
-use Rattle.form.specs.Tag.{Sort, expr, pred, own, ownOf, shapeOf, exprTags, predTags, sorts}
-use Rattle.form.specs.Decode.{head, read, isLeaf}
+use Rattle.form.specs.Form.{Form, node, Forms, none, more}
+use Rattle.form.specs.Tag.{Sort, expr, pred, own, ownOf, shapeOf, predTags, sorts}
+use Rattle.form.specs.Decode.{head, read}
 use Rattle.form.specs.declared.tag.Shape.the-variants.{Plain}
-use Rattle.form.proofs.DecodeLaws.{clash, Ok, ok-free, ok-bound, ok-node, OkAll, ok-none, ok-more}
+use Rattle.form.proofs.DecodeLaws.{Ok, ok-free, ok-bound, ok-node, OkAll, ok-none, ok-more}
 use Rattle.one_point.specs.Split.{equal}
 
 -- a form within one depth is within a greater one

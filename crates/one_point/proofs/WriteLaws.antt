@@ -1,17 +1,15 @@
 -- Words written into the output row, and nodes rebuilt there. Assumes nothing.
 use mathlib.Core.Path.{_≡_, refl, ap, sym, _∙_}
 use mathlib.Core.Bool.{Bool, true, false}
-use mathlib.Core.Option.{Option, none as absent, some}
 use mathlib.Core.List.{List, [], _∷_, _++_, append-assoc, append-nil}
-use Prim.Native.Nat.{ℕ, zero, suc, _+_, _-_, _≤_, _<_}
+use Prim.Native.Nat.{ℕ, suc, _+_, _-_, _≤_, _<_}
 use native.Mathlib.Nat.{add-zero}
 use native.Mathlib.Numerals.{add-one}
 use native.Mathlib.Omega.{arith}
 use borrow.Author.Tests.{ne-eqb}
-use lib.ListN.{length, getD, take, drop, set, length-append, length-drop}
-use lib.Seq.{take-suc, take-suc-set, take-set-lt, drop-set-lt, drop-drop, take-add, take-at, drop-at, getD-at, getD-drop, getD-take, set-at, length-take-le}
-use Rattle.form.specs.Form.{Leaf, Form, leaf, node, Forms, none, more, count, encode, encodeAll}
-use Rattle.form.proofs.DecodeLaws.{clash}
+use lib.ListN.{length, getD, take, drop, set, length-append}
+use lib.Seq.{take-suc, take-suc-set, take-set-lt, drop-set-lt, drop-drop, take-add, getD-at, getD-drop, getD-take, set-at, length-take-le}
+use Rattle.form.specs.Form.{Form, node, Forms, none, more, count, encode, encodeAll}
 use Rattle.form.proofs.HeadLaws.{here}
 use Rattle.one_point.specs.Scan.{negate, joined}
 use Rattle.one_point.specs.Internal.Writes.{Wrote, leftWords, isGone, Neat, neat-not, neat-other}

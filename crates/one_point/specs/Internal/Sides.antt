@@ -1,10 +1,10 @@
 -- What the code's parts of an offer answer, by the words at the positions of the two sides.
-use mathlib.Core.Bool.{Bool, true, false}
+use mathlib.Core.Bool.{Bool, false}
 use mathlib.Core.List.{List, [], _∷_}
 use Prim.Native.Nat.{ℕ, suc, _+_, _-_}
 use lib.Dec.{ltb, eqb}
 use lib.ListN.{length, getD, take, drop}
-use Rattle.form.specs.Form.{Form, pick, encode}
+use Rattle.form.specs.Form.{pick, encode}
 use Rattle.form.specs.Tag.{expr}
 use Rattle.form.specs.Decode.{Got, got, no-form, decode, Whole, one, not-one, rowForm}
 use Rattle.form.specs.declared.head.Step.{Step}
