@@ -1,1 +1,16 @@
 pub mod Starred
+pub mod ViewLaws
+pub mod SidesLaws
+pub mod PlacesLaws
+pub mod WriteLaws
+pub mod PartsLaws
+pub mod AcceptLaws
+pub mod PartsStepLaws
+pub mod ScanLaws
+pub mod EqualityLaws
+pub mod RebuildLaws
+pub mod BecameLaws
+pub mod ImpliesLaws
+pub mod ChildrenLaws
+pub mod JunctionLaws
+pub mod NodeLaws

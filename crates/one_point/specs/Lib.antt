@@ -6,3 +6,4 @@ pub mod Partial
 pub mod Point
 pub mod Member
 pub mod Command
+pub mod Internal

@@ -125,7 +125,7 @@ unfolding downLeaf walk
 down-leaf n k (named m) = refl
 down-leaf n k (dangling j) = refl
 
-down-range : (n k : ℕ) (x : Outer) → small k x ≡ true → inRange n 65536 k x ≡ reaches n k x
+pub down-range : (n k : ℕ) (x : Outer) → small k x ≡ true → inRange n 65536 k x ≡ reaches n k x
 down-range n k (named m) h = refl
 down-range n k (dangling j) h =
     let l : k + j ≤ 65535 = between-high 65535 (k + j) h in

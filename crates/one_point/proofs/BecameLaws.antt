@@ -1,0 +1,96 @@
+-- What stands in the output row once the children of a not or of an implication are scanned. Assumes nothing.
+use mathlib.Core.Path.{_≡_, refl, ap, sym, _∙_}
+use mathlib.Core.Bool.{Bool, true, false, not}
+use mathlib.Core.Option.{Option, none as absent, some}
+use mathlib.Core.List.{List, [], append-nil}
+use Prim.Native.Nat.{ℕ, suc, _+_, _-_, _≤_}
+use native.Mathlib.Omega.{arith}
+use lib.ListN.{length, take}
+use Rattle.form.specs.Form.{Form, node, encode}
+use Rattle.form.proofs.DecodeLaws.{clash}
+use Rattle.one_point.specs.Replacement.{Taken}
+use Rattle.one_point.specs.Scan.{Scan, scanned, negate, negated, scan}
+use Rattle.one_point.specs.Internal.Writes.{Wrote, Neat, neat-not, neat-other}
+use Rattle.one_point.specs.Internal.Scans.{Left, Became}
+use Rattle.one_point.specs.declared.scan.Scanned.{Scanned}
+use Rattle.one_point.proofs.PartsLaws.{some-words}
+use Rattle.one_point.proofs.WriteLaws.{wrote-end, negate-other}
+use Rattle.one_point.proofs.EqualityLaws.{wrote-in, kept, wrote-self, based}
+use Rattle.one_point.proofs.RebuildLaws.{notOf, not-words, scan-not}
+
+-- a negated predicate is neat, and has one word more at most
+pub neat-negate : {f : Form} → Neat f → Neat (negate f)
+neat-negate (neat-not n) = n
+neat-negate (neat-other {t = t} {o = o} {ds = ds} {ks = ks} h) = rw (negate-other t o ds ks h) (neat-not (neat-other h))
+
+pub negate-words : {f : Form} → Neat f → length (encode (negate f)) ≤ suc (length (encode f))
+negate-words (neat-not {f = g} n) = let a = not-words g in omega arith
+negate-words (neat-other {t = t} {o = o} {ds = ds} {ks = ks} h) =
+    let a = not-words (node t o ds ks) in
+    let b = ap (λ z. length (encode z)) (negate-other t o ds ks h) in
+    omega arith
+
+-- a scanned child, taken apart
+pub record Child (row : List ℕ) (at : ℕ) (f : Form) (pos : ℕ) (out : List ℕ) (z : Scan) (r : Scanned) (out′ : List ℕ) : Type 0 where
+  pub took : Taken
+  pub left : Option Form
+  pub is : z ≡ scanned took left
+  pub became : Became row at f pos out (scanned took left) r out′
+
+pub child-of : {row : List ℕ} {at : ℕ} {f : Form} {pos : ℕ} {out : List ℕ} {z : Scan} {r : Scanned} {out′ : List ℕ} → Became row at f pos out z r out′ → Child row at f pos out z r out′
+child-of {z = scanned x g} b = record { took = x; left = g; is = refl; became = b }
+
+module _ (row : List ℕ) (at n pos : ℕ) (b : Bool) (f g : Form) (is : f ≡ notOf g) (words : length (encode f) ≡ suc (length (encode g))) (out out₁ : List ℕ) (low : pos + 1 ≤ length out) (s : Scanned) where
+  module _ (x : Taken) where
+    gone-left : (h : Option Form) → scan n (not b) g ≡ scanned x h → s .gone ≡ true → Became row (at + 1) g (pos + 1) out (scanned x h) s out₁
+        → Became row at f pos out (scanned x (negated h)) (record { next = s .next; found = s .found; gone = true; end = pos }) out₁
+    unfolding Left Wrote
+    gone-left (some h) e q c = let z = c .left .1 in absurd (clash cc)
+    gone-left absent e q c =
+        let a = c .next in
+        record {
+          next = omega arith;
+          left = (c .left .0, refl, (omega arith, kept (pos + 1) (s .end) out [] out₁ low (c .left .2) pos (omega arith) ∙ sym (append-nil (take pos out))), tt);
+          short = omega arith;
+        }
+
+    not-left : (h : Option Form) → scan n (not b) g ≡ scanned x h → s .gone ≡ false → Became row (at + 1) g (pos + 1) out (scanned x h) s out₁ → (e : ℕ) (out₂ : List ℕ)
+        → ((k : Form) → Neat k → Wrote (pos + 1) out₁ (encode k) (s .end) out₁ → Wrote pos out₁ (encode (negate k)) e out₂)
+        → Became row at f pos out (scanned x (negated h)) (record { next = s .next; found = s .found; gone = false; end = e }) out₂
+    unfolding Left
+    not-left absent q w c e out₂ t = let z = c .left .1 in absurd (clash cc)
+    not-left (some h) q w c e out₂ t =
+        let a = c .next in
+        let d = c .short in
+        let m = c .left .3 in
+        let u = t h m (wrote-self (pos + 1) (s .end) out (encode h) out₁ low (c .left .2)) in
+        let v : Wrote pos out (encode (negate h)) e out₂ = based pos e out out₁ (encode (negate h)) out₂ (kept (pos + 1) (s .end) out (encode h) out₁ low (c .left .2) pos (omega arith)) u in
+        let i = wrote-end pos e out (encode (negate h)) out₂ v in
+        let j = wrote-end (pos + 1) (s .end) out (encode h) out₁ (c .left .2) in
+        let k = negate-words m in
+        record { next = omega arith; left = (c .left .0, refl, v, neat-negate m); short = omega arith }
+
+    end-in : (h : Option Form) → s .gone ≡ false → Became row (at + 1) g (pos + 1) out (scanned x h) s out₁ → (pos + 2 ≤ s .end) × (s .end ≤ length out₁)
+    unfolding Left
+    end-in absent q c = let z = c .left .1 in absurd (clash cc)
+    end-in (some h) q c =
+        let j = wrote-end (pos + 1) (s .end) out (encode h) out₁ (c .left .2) in
+        let w = some-words h in
+        (omega arith, wrote-in (pos + 1) (s .end) out (encode h) out₁ low (c .left .2))
+
+  module _ (c : Became row (at + 1) g (pos + 1) out (scan n (not b) g) s out₁) where
+    -- the child is gone, and the not with it
+    pub not-gone : s .gone ≡ true → Became row at f pos out (scan n b f) (record { next = s .next; found = s .found; gone = true; end = pos }) out₁
+    not-gone q =
+        let y = child-of c in
+        rw (ap (scan n b) is ∙ scan-not n b g (y .took) (y .left) (y .is)) (gone-left (y .took) (y .left) (y .is) q (y .became))
+
+    -- what is left of the child is negated
+    pub not-became : s .gone ≡ false → (e : ℕ) (out₂ : List ℕ) → ((k : Form) → Neat k → Wrote (pos + 1) out₁ (encode k) (s .end) out₁ → Wrote pos out₁ (encode (negate k)) e out₂)
+        → Became row at f pos out (scan n b f) (record { next = s .next; found = s .found; gone = false; end = e }) out₂
+    not-became q e out₂ t =
+        let y = child-of c in
+        rw (ap (scan n b) is ∙ scan-not n b g (y .took) (y .left) (y .is)) (not-left (y .took) (y .left) (y .is) q (y .became) e out₂ t)
+
+    pub not-room : s .gone ≡ false → (pos + 2 ≤ s .end) × (s .end ≤ length out₁)
+    not-room q = let y = child-of c in end-in (y .took) (y .left) q (y .became)

@@ -1,0 +1,111 @@
+-- Children searched in order, and what is left of an associative node. Assumes nothing.
+use mathlib.Core.Path.{_≡_, refl, ap}
+use mathlib.Core.Bool.{Bool, true, false}
+use mathlib.Core.Option.{Option, none as absent, some}
+use mathlib.Core.List.{List, [], _∷_}
+use Prim.Native.Nat.{ℕ, _+_, _-_, _≤_}
+use native.Mathlib.Omega.{arith}
+use lib.ListN.{length}
+use Rattle.form.specs.Form.{Form, Forms, none, more, count, encode, encodeAll}
+use Rattle.form.proofs.DecodeLaws.{clash}
+use Rattle.one_point.specs.Replacement.{Taken, taken, nothing}
+use Rattle.one_point.specs.Scan as S
+use Rattle.one_point.specs.Scan.{scanned, Scans, scans, present, copies, before, follow, scan, scanAll}
+use Rattle.one_point.specs.Internal.Writes.{Wrote, Neats, no-more, and-more}
+use Rattle.one_point.specs.Internal.Parts.{isTaken, TookIs}
+use Rattle.one_point.specs.Internal.Scans.{Left, Became, kidsAt, Kids, oneMore, KidsTold, KidsCopied}
+use Rattle.one_point.specs.declared.sides.Replacement.{Replacement}
+use Rattle.one_point.specs.declared.sides.Replacement.the-variants.{Not}
+use Rattle.one_point.specs.declared.scan.Scanned.{Scanned}
+use Rattle.one_point.proofs.WriteLaws.{wrote-end, wrote-on}
+use Rattle.one_point.proofs.BecameLaws.{child-of}
+use Rattle.one_point.proofs.ChildrenLaws.{KidIs, kid-length}
+
+present-copies : (fs : Forms) → present (copies fs) ≡ fs
+present-copies none = refl
+present-copies (more f fs) = ap (more f) (present-copies fs)
+
+-- one child before others
+module _ (row : List ℕ) (at w k : ℕ) (f : Form) (out out₁ : List ℕ) (s : Scanned) (fs : Forms) (all : Forms) (len : length (encodeAll all) ≡ length (encode f) + length (encodeAll fs)) where
+  written : (x : Taken) (g : Option Form) → Became row at f w out (scanned x g) s out₁ → (gs : List (Option Form)) (e m : ℕ) (o : List ℕ)
+      → Wrote (s .end) out₁ (encodeAll (present gs)) e o → m ≡ oneMore k (s .gone) + count (present gs) → Neats (present gs)
+      → Wrote w out (encodeAll (present (g ∷ gs))) e o × (m ≡ k + count (present (g ∷ gs))) × Neats (present (g ∷ gs))
+  unfolding Left encode
+  written x (some g) b gs e m o h c n =
+      let q : s .gone ≡ false = b .left .1 in
+      let c′ : m ≡ k + 1 + count (present gs) = rw q at c in
+      (wrote-on w (s .end) e out (encode g) out₁ (encodeAll (present gs)) o (b .left .2) h, omega arith, and-more (b .left .3) n)
+  written x absent b gs e m o h c n =
+      let q : s .gone ≡ true = b .left .1 in
+      (wrote-on w (s .end) e out [] out₁ (encodeAll (present gs)) o (b .left .2) h, rw q at c, n)
+
+  passed : (g : Option Form) → Became row at f w out (scanned nothing g) s out₁ → (z : Scans) (r : Replacement) (e m : ℕ) (o : List ℕ)
+      → KidsTold row fs (s .end) out₁ (oneMore k (s .gone)) z r e m o → KidsTold row all w out k (before g z) r e m o
+  unfolding KidsTold
+  passed g b (scans x gs) r e m o t =
+      let u = written nothing g b gs e m o (t .1) (t .2) (t .3) in
+      let l = b .short in
+      let l′ = t .4 in
+      (t .0, u .0, u .1, u .2, omega arith)
+
+  stopped : (i : ℕ) (e′ : Form) (g : Option Form) → Became row at f w out (scanned (taken i e′) g) s out₁ → (e m : ℕ) (o : List ℕ)
+      → KidsCopied fs (s .end) out₁ (oneMore k (s .gone)) e m o → KidsTold row all w out k (scans (taken i e′) (g ∷ copies fs)) (s .found) e m o
+  unfolding KidsTold KidsCopied Left
+  stopped i e′ g b e m o t =
+      let p = present-copies fs in
+      let u = written (taken i e′) g b (copies fs) e m o (rw p (t .0)) (rw p (t .1)) (rw p (t .2)) in
+      let l = b .short in
+      let l′ = wrote-end (s .end) e out₁ (encodeAll fs) o (t .0) in
+      (b .left .0, u .0, u .1, u .2, omega arith)
+
+module _ {row : List ℕ} {d q n w words : ℕ} (x : KidIs row d q n w words) (c k : ℕ) (b : Bool) (out out₁ : List ℕ) (s : Scanned) (became : Became row q (x .form) w out (scan c b (x .form)) s out₁) where
+  next-is : s .next ≡ q + length (encode (x .form))
+  next-is = became .next
+
+  abbrev Rest : Forms
+  Rest = kidsAt row d (q + length (encode (x .form))) (n - 1)
+
+  pass-by : (y : Taken) (g : Option Form) → scan c b (x .form) ≡ scanned y g → Became row q (x .form) w out (scanned y g) s out₁ → isTaken (s .found) ≡ false → (r : Replacement) (e m : ℕ) (o : List ℕ)
+      → KidsTold row Rest (s .end) out₁ (oneMore k (s .gone)) (scanAll c b b Rest) r e m o → KidsTold row (kidsAt row d q n) w out k (follow (scanned y g) Rest (scanAll c b b Rest)) r e m o
+  unfolding Left TookIs
+  pass-by (taken i e′) g h a p r e m o t = let z = a .left .0 .2 in absurd (clash cc)
+  pass-by nothing g h a p r e m o t = passed row q w k (x .form) out out₁ s Rest (kidsAt row d q n) (kid-length x) g a (scanAll c b b Rest) r e m o t
+
+  take-by : (y : Taken) (g : Option Form) → scan c b (x .form) ≡ scanned y g → Became row q (x .form) w out (scanned y g) s out₁ → isTaken (s .found) ≡ true → (e m : ℕ) (o : List ℕ)
+      → KidsCopied Rest (s .end) out₁ (oneMore k (s .gone)) e m o → KidsTold row (kidsAt row d q n) w out k (follow (scanned y g) Rest (scanAll c b b Rest)) (s .found) e m o
+  unfolding Left TookIs
+  take-by (taken i e′) g h a p e m o t = stopped row q w k (x .form) out out₁ s Rest (kidsAt row d q n) (kid-length x) i e′ g a e m o t
+  take-by nothing g h a p e m o t = let z = a .left .0 in absurd (clash cc)
+
+  all-is : (y : Taken) (g : Option Form) → scan c b (x .form) ≡ scanned y g → scanAll c b b (kidsAt row d q n) ≡ follow (scanned y g) Rest (scanAll c b b Rest)
+  unfolding scan
+  all-is y g e = rw (x .split, e)
+
+  pub child-passed : isTaken (s .found) ≡ false → (r : Replacement) (e m : ℕ) (o : List ℕ) → KidsTold row (kidsAt row d (s .next) (n - 1)) (s .end) out₁ (oneMore k (s .gone)) (scanAll c b b (kidsAt row d (s .next) (n - 1))) r e m o
+      → KidsTold row (kidsAt row d q n) w out k (scanAll c b b (kidsAt row d q n)) r e m o
+  child-passed p r e m o t =
+      let y = child-of became in
+      rw (all-is (y .took) (y .left) (y .is)) (pass-by (y .took) (y .left) (y .is) (y .became) p r e m o (rw next-is at t))
+
+  pub child-taken : isTaken (s .found) ≡ true → (e m : ℕ) (o : List ℕ) → KidsCopied (kidsAt row d (s .next) (n - 1)) (s .end) out₁ (oneMore k (s .gone)) e m o
+      → KidsTold row (kidsAt row d q n) w out k (scanAll c b b (kidsAt row d q n)) (s .found) e m o
+  child-taken p e m o t =
+      let y = child-of became in
+      rw (all-is (y .took) (y .left) (y .is)) (take-by (y .took) (y .left) (y .is) (y .became) p e m o (rw next-is at t))
+
+  pub child-next : Kids row d (s .next) (n - 1) (s .end) words
+  child-next = let a = became .short in rw next-is (x .next (s .end) (omega arith))
+
+  pub child-ends : s .next + length (encodeAll (kidsAt row d (s .next) (n - 1))) ≡ q + length (encodeAll (kidsAt row d q n))
+  child-ends = let a = kid-length x in rw next-is (omega arith)
+
+pub search-over : (row : List ℕ) (c : ℕ) (b : Bool) (fs : Forms) (w k : ℕ) (out : List ℕ) (r : Replacement) → r ≡ Not → fs ≡ none → (e m : ℕ) (o : List ℕ) → KidsCopied fs w out k e m o → KidsTold row fs w out k (scanAll c b b fs) r e m o
+unfolding KidsTold KidsCopied TookIs scan encode
+search-over row c b fs w k out r n h e m o t =
+    let t₀ : Wrote w out [] e o = rw h at (t .0) in
+    let l = wrote-end w e out [] o t₀ in
+    rw h (n, t₀, rw h at (t .1), no-more, omega arith)
+
+pub one-at-most : (k : ℕ) (gone : Bool) → oneMore k gone ≤ k + 1
+one-at-most k true = omega arith
+one-at-most k false = omega arith

@@ -1,0 +1,62 @@
+-- What a well-formed predicate is, by its tag. Assumes nothing.
+use mathlib.Core.Path.{_≡_, refl, sym}
+use mathlib.Core.List.{List, [], _∷_, _++_}
+use Prim.Native.Nat.{ℕ, zero, suc, _≤_}
+use native.Mathlib.Omega.{arith}
+use Rattle.form.specs.Form.{Form, node, Forms, none, more}
+use Rattle.form.specs.Tag.{Sort, expr, pred, own, ownOf, shapeOf, predTags, sorts}
+use Rattle.form.specs.Decode.{head, read}
+use Rattle.form.specs.declared.tag.Shape.the-variants.{Plain}
+use Rattle.form.proofs.DecodeLaws.{Ok, ok-free, ok-bound, ok-node, OkAll, ok-none, ok-more}
+use Rattle.one_point.specs.Split.{equal}
+
+-- a form within one depth is within a greater one
+mutual
+  pub ok-deep : {d : ℕ} {s : Sort} {f : Form} → Ok d s f → (e : ℕ) → d ≤ e → Ok e s f
+  ok-deep (ok-free h) zero l = absurd (omega arith)
+  ok-deep (ok-free h) (suc e) l = ok-free h
+  ok-deep (ok-bound h) zero l = absurd (omega arith)
+  ok-deep (ok-bound h) (suc e) l = ok-bound h
+  ok-deep (ok-node t h k) zero l = absurd (omega arith)
+  ok-deep (ok-node t h k) (suc e) l = ok-node t h (ok-deepAll k e (omega arith))
+
+  ok-deepAll : {d : ℕ} {ss : List Sort} {fs : Forms} → OkAll d ss fs → (e : ℕ) → d ≤ e → OkAll e ss fs
+  ok-deepAll ok-none e l = ok-none
+  ok-deepAll (ok-more h k) e l = ok-more (ok-deep h e l) (ok-deepAll k e l)
+
+-- a tag with no own words
+pub plain-node : {d : ℕ} {s : Sort} {t : ℕ} {o ds : List ℕ} {ks : Forms} → Ok (suc d) s (node t o ds ks) → (p e : ℕ) → shapeOf s t ≡ Plain p e
+    → (o ≡ []) × (ds ≡ []) × OkAll d (sorts p e) ks
+unfolding own ownOf read
+plain-node {o = o} {ds = ds} (ok-node {p = p′} {e = e′} l h k) p e q =
+    let x : head [] [] p e (o ++ (ds ++ [])) ≡ head o ds p′ e′ [] = rw q at (h []) in
+    let a : [] ≡ o = cc in
+    let b : [] ≡ ds = cc in
+    let c : p′ ≡ p = cc in
+    let z : e′ ≡ e = cc in
+    (sym a, sym b, rw (c, z) at k)
+
+pub two-more : {d : ℕ} {s s′ : Sort} {ks : Forms} → OkAll d (s ∷ s′ ∷ []) ks → (l : Form) × (r : Form) × (ks ≡ more l (more r none)) × Ok d s l × Ok d s′ r
+two-more (ok-more {f = l} h (ok-more {f = r} k ok-none)) = (l, r, refl, h, k)
+
+-- an equality
+pub record Equal (d : ℕ) (f : Form) : Type 0 where
+  pub left : Form
+  pub right : Form
+  pub is : f ≡ equal left right
+  pub ok-left : Ok d expr left
+  pub ok-right : Ok d expr right
+
+equal-made : {d : ℕ} {o ds : List ℕ} {ks : Forms} → o ≡ [] → ds ≡ [] → (l : Form) (r : Form) → ks ≡ more l (more r none) → Ok d expr l → Ok d expr r → Equal d (node 101 o ds ks)
+equal-made a b l r e h k = record { left = l; right = r; is = rw (a, b, e); ok-left = h; ok-right = k }
+
+pub equal-node : {d : ℕ} {o ds : List ℕ} {ks : Forms} → Ok (suc d) pred (node 101 o ds ks) → Equal d (node 101 o ds ks)
+unfolding shapeOf predTags
+equal-node w =
+    let (a, b, k) = plain-node w 0 2 refl in
+    let (l, r, e, h, k′) = two-more k in
+    equal-made a b l r e h k′
+
+-- a predicate is a node
+pub pred-node : {d : ℕ} {f : Form} → Ok d pred f → (t : ℕ) × (o : List ℕ) × (ds : List ℕ) × (ks : Forms) × (f ≡ node t o ds ks)
+pred-node (ok-node {t = t} {o = o} {ds = ds} {ks = ks} l h k) = (t, o, ds, ks, refl)

@@ -1,0 +1,19 @@
+-- `one_point::children::one_more` meets its contract. Assumes nothing.
+use borrow.Author.Needs.{needs}
+use borrow.Author.Needs.{needs}
+use Rattle.one_point.proofs.children.one_more.Statement.{statement}
+use Rattle.one_point.proofs.children.one_more.Tie as tie
+use Rattle.one_point.proofs.children.one_more.Reads as reads
+use Rattle.one_point.proofs.children.one_more.Lts as lts
+
+returns : tie.Need-returns
+returns c = rw (c .if1 .taken)
+
+add-result : tie.Need-add-result
+add-result c = search needs
+
+returns-2 : tie.Need-returns-2
+returns-2 c = rw (c .if1 .left)
+
+pub one-more-spec : {M : Type 1} → statement M
+one-more-spec = tie.close (tie.spec returns add-result returns-2)

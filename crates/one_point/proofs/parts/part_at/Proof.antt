@@ -1,0 +1,21 @@
+-- `one_point::parts::part_at` meets its contract. Assumes nothing.
+use Rattle.one_point.specs.Internal.Parts.{partWords}
+use borrow.Author.Needs.{needs}
+use Rattle.one_point.proofs.parts.part_at.Statement.{statement}
+use Rattle.one_point.proofs.parts.part_at.Tie as tie
+use Rattle.one_point.proofs.parts.part_at.Reads as reads
+use Rattle.one_point.proofs.parts.part_at.Lts as lts
+use Rattle.one_point.proofs.parts.expr_end.Reads as expr-end-reads
+
+expr-end-requires : tie.Need-expr-end-requires
+expr-end-requires c κs = search needs
+
+expr-end-requires-2 : tie.Need-expr-end-requires-2
+expr-end-requires-2 c κs = search needs
+
+returns : tie.Need-returns
+unfolding partWords
+returns c = rw (c .before .expr-end .ensures, c .expr-end2 .ensures)
+
+pub part-at-spec : {M : Type 1} → statement M
+part-at-spec = tie.close (tie.spec expr-end-requires expr-end-requires-2 returns)

@@ -1,0 +1,44 @@
+-- `one_point::scan::copy_pred` meets its contract. Assumes nothing.
+use borrow.Author.Needs.{needs}
+use native.Mathlib.Omega.{arith}
+use Rattle.one_point.proofs.ScanLaws.{not-bad, next-at, fits, copied-form}
+use borrow.Author.Needs.{needs}
+use Rattle.one_point.proofs.scan.copy_pred.Statement.{statement}
+use Rattle.one_point.proofs.scan.copy_pred.Tie as tie
+use Rattle.one_point.proofs.scan.copy_pred.Reads as reads
+use Rattle.one_point.proofs.scan.copy_pred.Lts as lts
+use Rattle.one_point.proofs.scan.skip_pred.Reads as skip-pred-reads
+use Rattle.one_point.proofs.writes.copy_part.Reads as copy-part-reads
+
+skip-pred-requires : tie.Need-skip-pred-requires
+skip-pred-requires c κs = let p = c .before .before .pre .deep in omega arith
+
+enum-known-next : tie.Need-enum-known-next
+enum-known-next c = search needs
+
+enum-told : tie.Need-enum-told
+enum-told c = search needs
+
+returns : tie.Need-returns
+returns c = absurd (not-bad (c .before .before .before .before .before .args .row .now) _ _ (c .before .before .before .before .before .pre .form) (c .before .before .before .before .before .pre .is) _ (c .before .before .skip-pred .ensures) (c .enum-told .given .1))
+
+copy-part-requires : tie.Need-copy-part-requires
+copy-part-requires c κs = let n = next-at (c .before .before .before .before .before .before .before .args .row .now) _ _ (c .before .before .before .before .before .before .before .pre .form) (c .before .before .before .before .before .before .before .pre .is) _ _ (c .before .before .before .before .skip-pred .ensures) (c .before .before .next .given .1) in let f = fits (c .before .before .before .before .before .before .before .args .row .now) _ _ (c .before .before .before .before .before .before .before .pre .form) (c .before .before .before .before .before .before .before .pre .is) in let p = c .before .before .before .before .before .before .before .pre .room in omega arith
+
+same-length : tie.Need-same-length
+same-length c = c .before .before .copy-part .kept .1 .1 .1 .0
+
+returns-2 : tie.Need-returns-2
+returns-2 c = λ f e. copied-form (c .before .before .before .before .before .before .before .before .before .before .args .row .now) _ _ f e _ _ _ _ _ (next-at (c .before .before .before .before .before .before .before .before .before .before .args .row .now) _ _ f e _ _ (c .before .before .before .before .before .before .before .skip-pred .ensures) (c .before .before .before .before .before .next .given .1)) (c .before .before .copy-part .ensures .0)
+
+pub copy-pred-spec : {M : Type 1} → statement M
+copy-pred-spec =
+    tie.close
+    (tie.spec
+    skip-pred-requires
+    enum-known-next
+    enum-told
+    returns
+    copy-part-requires
+    same-length
+    returns-2)

@@ -1,0 +1,53 @@
+-- `one_point::sides::above_marked` meets its contract. Assumes nothing.
+use mathlib.Core.Path.{refl, sym, _∙_}
+use native.Mathlib.Omega.{arith}
+use Rattle.subst.proofs.CheckedLaws.{is-missing, checked}
+use Rattle.one_point.proofs.SidesLaws.{above-missing, above-marked}
+use borrow.Author.Needs.{needs}
+use Rattle.one_point.proofs.sides.above_marked.Statement.{statement}
+use Rattle.one_point.proofs.sides.above_marked.Tie as tie
+use Rattle.one_point.proofs.sides.above_marked.Reads as reads
+use Rattle.one_point.proofs.sides.above_marked.Lts as lts
+use Rattle.form.proofs.check.mark.Reads as mark-reads
+use Rattle.subst.proofs.items.all_in.Reads as all-in-reads
+
+mark-requires : tie.Need-mark-requires
+mark-requires c κs = search needs
+
+enum-known-n : tie.Need-enum-known-n
+enum-known-n c = search needs
+
+enum-told : tie.Need-enum-told
+enum-told c = search needs
+
+same-length : tie.Need-same-length
+same-length c = search needs
+
+returns : tie.Need-returns
+returns c = above-missing _ _ (is-missing _ _ _ _ (c .before .before .before .before .before .before .before .before .pre .1 .short) (c .before .before .before .before .mark .ensures .0) (c .enum-told .given .1))
+
+add-all-in : tie.Need-add-all-in
+add-all-in c = omega arith
+
+all-in-requires : tie.Need-all-in-requires
+all-in-requires c κs = search needs
+
+same-length-2 : tie.Need-same-length-2
+same-length-2 c = search needs
+
+returns-2 : tie.Need-returns-2
+returns-2 c = c .all-in .ensures ∙ above-marked _ _ _ _ (c .before .before .before .before .before .before .before .before .before .before .before .pre .1 .enough) (checked _ _ _ _ _ (c .before .before .before .before .before .before .before .before .before .before .before .pre .1 .zeros) _ _ (c .before .before .before .before .before .before .before .before .before .before .before .pre .1 .short) (c .before .before .before .before .before .before .before .mark .ensures .0) (c .before .before .before .n .given .1) (c .before .before .before .before .before .before .before .mark .ensures .1))
+
+pub above-marked-spec : {M : Type 1} → statement M
+above-marked-spec =
+    tie.close
+    (tie.spec
+    mark-requires
+    enum-known-n
+    enum-told
+    same-length
+    returns
+    add-all-in
+    all-in-requires
+    same-length-2
+    returns-2)

@@ -1,0 +1,81 @@
+-- What the scan answers and writes, by what is read at its position.
+use mathlib.Core.Path.{_≡_}
+use mathlib.Core.Bool.{Bool}
+use mathlib.Core.Option.{Option, none as absent, some}
+use mathlib.Core.List.{List}
+use Prim.Native.Nat.{ℕ, _+_, _*_, _≤_}
+use lib.ListN.{length, drop, replicate}
+use Rattle.form.specs.Form.{Form, Forms, none, pick, count, encode, encodeAll}
+use Rattle.form.specs.Tag.{pred}
+use Rattle.form.specs.Decode.{got, Gots, gots, no-forms, decode, decodeAll}
+use Rattle.one_point.specs.Scan.{Scan, scanned, Scans, scans, present, scan, scanAll}
+use Rattle.one_point.specs.Internal.Writes.{Wrote, leftWords, isGone, Neat, Neats}
+use Rattle.one_point.specs.Replacement.{Taken, taken, nothing}
+use Rattle.one_point.specs.Internal.Parts.{TookIs}
+use Rattle.one_point.specs.declared.sides.Replacement.{Replacement}
+use Rattle.one_point.specs.declared.scan.Scanned.{Scanned}
+use Rattle.one_point.specs.declared.children.Stopped.{Stopped}
+
+abbrev pub NeatLeft : Option Form → Type 0
+NeatLeft (some f) = Neat f
+NeatLeft absent = Unit {0}
+
+-- what is left of a node, written at pos, and the equality taken
+unfoldable pub Left : List ℕ → ℕ → List ℕ → Scan → Scanned → List ℕ → Type 0
+Left row pos out (scanned x g) r out′ = TookIs row x (r .found) × (r .gone ≡ isGone g) × Wrote pos out (leftWords g) (r .end) out′ × NeatLeft g
+
+-- a form at `at` became what a scan leaves of it, written at pos
+pub record Became (row : List ℕ) (at : ℕ) (f : Form) (pos : ℕ) (out : List ℕ) (z : Scan) (r : Scanned) (out′ : List ℕ) : Type 0 where
+  pub next : r .next ≡ at + length (encode f)
+  pub left : Left row pos out z r out′
+  pub short : r .end ≤ pos + 2 * length (encode f)
+
+-- a predicate stands at `at`, and there is room for what the scan leaves of it
+pub record Room (row : List ℕ) (d at pos words : ℕ) : Type 0 where
+  pub form : Form
+  pub is : decode d pred (drop at row) ≡ got form (drop (at + length (encode form)) row)
+  pub room : pos + 2 * length (encode form) ≤ words
+  pub short : length row ≤ 8192
+  pub deep : d ≤ 64
+
+abbrev pub ScanTold : ℕ → Bool → List ℕ → ℕ → ℕ → ℕ → List ℕ → Scanned → List ℕ → Type 0
+ScanTold n b row d at pos out r out′ =
+    (f : Form) → decode d pred (drop at row) ≡ got f (drop (at + length (encode f)) row) → Became row at f pos out (scan n b f) r out′
+
+-- what follows a child: copied where the child took an equality, else scanned
+unfoldable pub nextScan : Taken → Scan → Form → Scan
+nextScan (taken i e) z f = scanned (taken i e) (some f)
+nextScan nothing z f = z
+
+-- the n predicates that stand at `at`
+abbrev pub formsOf : Gots → Forms
+formsOf (gots fs x) = fs
+formsOf no-forms = none
+
+unfoldable pub kidsAt : List ℕ → ℕ → ℕ → ℕ → Forms
+kidsAt row d at n = formsOf (decodeAll (λ s l. decode d s l) (replicate n pred) (drop at row))
+
+pub record Kids (row : List ℕ) (d at n w words : ℕ) : Type 0 where
+  pub forms : Forms
+  pub after : List ℕ
+  pub is : decodeAll (λ s l. decode d s l) (replicate n pred) (drop at row) ≡ gots forms after
+  pub room : w + 2 * length (encodeAll forms) ≤ words
+
+abbrev pub oneMore : ℕ → Bool → ℕ
+oneMore k gone = pick gone k (k + 1)
+
+-- what is left of children, written at w after k others; and children that are copied
+unfoldable pub KidsTold : List ℕ → Forms → ℕ → List ℕ → ℕ → Scans → Replacement → ℕ → ℕ → List ℕ → Type 0
+KidsTold row fs w out k (scans x gs) found e m out′ =
+    TookIs row x found × Wrote w out (encodeAll (present gs)) e out′ × (m ≡ k + count (present gs)) × Neats (present gs) × (e ≤ w + 2 * length (encodeAll fs))
+
+unfoldable pub KidsCopied : Forms → ℕ → List ℕ → ℕ → ℕ → ℕ → List ℕ → Type 0
+KidsCopied fs w out k e m out′ = Wrote w out (encodeAll fs) e out′ × (m ≡ k + count fs) × Neats fs
+
+-- what a search among children found and wrote, and where it stopped: with the rest copied, all is told
+pub record SearchedKids (row : List ℕ) (d n : ℕ) (b : Bool) (at c pos : ℕ) (out : List ℕ) (r : Stopped) (out′ : List ℕ) : Type 0 where
+  pub whole : (e m : ℕ) (o : List ℕ) → KidsCopied (kidsAt row d (r .next) (r .left)) (r .end) out′ (r .count) e m o
+      → KidsTold row (kidsAt row d at c) pos out 0 (scanAll n b b (kidsAt row d at c)) (r .found) e m o
+  pub rest : Kids row d (r .next) (r .left) (r .end) (length out′)
+  pub ends : r .next + length (encodeAll (kidsAt row d (r .next) (r .left))) ≡ at + length (encodeAll (kidsAt row d at c))
+  pub few : r .count + r .left ≤ c

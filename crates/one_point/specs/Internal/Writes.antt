@@ -1,0 +1,30 @@
+-- What the scan's parts write into the output row.
+use mathlib.Core.Path.{_≡_}
+use mathlib.Core.Bool.{Bool, true, false}
+use mathlib.Core.Option.{Option, none as absent, some}
+use mathlib.Core.List.{List, [], _++_}
+use Prim.Native.Nat.{ℕ, _+_}
+use lib.ListN.{length, take}
+use Rattle.form.specs.Form.{Form, node, Forms, none, more, encode}
+
+-- the words ws follow what stood before pos, and end at `end`; past the end the row may hold anything
+unfoldable pub Wrote : ℕ → List ℕ → List ℕ → ℕ → List ℕ → Type 0
+Wrote pos out ws end out′ = (end ≡ pos + length ws) × (take end out′ ≡ take pos out ++ ws)
+
+-- the words of what is left of a node
+abbrev pub leftWords : Option Form → List ℕ
+leftWords (some f) = encode f
+leftWords absent = []
+
+abbrev pub isGone : Option Form → Bool
+isGone (some f) = false
+isGone absent = true
+
+-- a form that is a not has one child and nothing else, and so has a not that is this child
+pub data Neat : Form → Type 0 where
+  neat-not : {f : Form} → Neat f → Neat (node 8 [] [] (more f none))
+  neat-other : {t : ℕ} {o ds : List ℕ} {ks : Forms} → (t ≡ 8 → ⊥) → Neat (node t o ds ks)
+
+pub data Neats : Forms → Type 0 where
+  no-more : Neats none
+  and-more : {f : Form} {fs : Forms} → Neat f → Neats fs → Neats (more f fs)

@@ -1,0 +1,296 @@
+// One point's scan of the body: the first equality that is taken, and what is left of the body.
+use crate::children::Stopped;
+use crate::children::one_more;
+use crate::children::skip_preds;
+use crate::parts::copy_parts;
+use crate::parts::expr_end;
+use crate::parts::is_taken;
+use crate::parts::search_parts;
+use crate::sides::Replacement;
+use crate::writes::copy_part;
+use crate::writes::finish_junction;
+use crate::writes::finish_not;
+use form::head::Step;
+use form::reader::mark_pred;
+use form::tag::Tag;
+ghost use mathlib.Core.Path.{_≡_};
+ghost use mathlib.Core.Bool.{true, false};
+ghost use mathlib.Core.Option.{some};
+ghost use Prim.Native.Nat.{_+_, _*_, _^_, _<_, _≤_};
+ghost use lib.ListN.{length, getD, drop};
+ghost use Rattle.form.specs.Form.{Form, pick, encode};
+ghost use Rattle.form.specs.Tag.{pred};
+ghost use Rattle.form.specs.Decode.{got, decode};
+ghost use Rattle.one_point.specs.Replacement.{Taken, nothing};
+ghost use Rattle.one_point.specs.Scan.{scanned, scan, roleOf, junction};
+ghost use Rattle.one_point.specs.Internal.Sides.{endAt};
+ghost use Rattle.one_point.specs.Internal.Parts.{TookIs};
+ghost use Rattle.one_point.specs.Internal.Scans.{Room, Became, ScanTold, nextScan, Kids, SearchedKids};
+
+// Where the node ends in the row, the equality taken, whether the node is gone, and where what is left of it ends in the output.
+pub struct Scanned {
+    pub next: usize,
+    pub found: Replacement,
+    pub gone: bool,
+    pub end: usize,
+}
+
+// Where the predicate at `at` ends.
+pub fn skip_pred(row: &[u32], at: usize, depth: u32) -> Step
+    requires { ⌜ 32 * depth < 2 ^ 32 ⌝ }
+    ensures { λ r. ⌜ r ≡ endAt at (decode depth pred (drop at (now (row .entry)))) ⌝ }
+{
+    let mut marks = [0u32; 1];
+    mark_pred(row, &mut marks, at, depth, 0)
+}
+
+// A predicate that the scan does not enter.
+fn copy_pred(row: &[u32], at: usize, depth: u32, out: &mut [u32], pos: usize) -> Scanned
+    requires { ⌜ Room (now row) depth at pos (length (now out)) ⌝ }
+    ensures { λ r. ⌜ ((f : Form) → decode depth pred (drop at (now (row .entry))) ≡ got f (drop (at + length (encode f)) (now (row .entry))) → Became (now (row .entry)) at f pos (now (out .entry)) (scanned nothing (some f)) r (now (out .exit))) ⌝ }
+{
+    let Step::End(next) = skip_pred(row, at, depth) else {
+        return Scanned {
+            next: at,
+            found: Replacement::Not,
+            gone: true,
+            end: pos,
+        };
+    };
+    let end = copy_part(row, at, next, out, pos);
+    Scanned {
+        next: next,
+        found: Replacement::Not,
+        gone: false,
+        end: end,
+    }
+}
+
+// An equality: its parts, offered in order.
+fn scan_equality(
+    row: &[u32],
+    at: usize,
+    depth: u32,
+    n: usize,
+    out: &mut [u32],
+    pos: usize,
+) -> Scanned
+    requires { ⌜ Room (now row) depth at pos (length (now out)) × (n ≤ 32) × (getD (now row) at 0 ≡ 101) ⌝ }
+    ensures { λ r. ⌜ ScanTold n true (now (row .entry)) depth at pos (now (out .entry)) r (now (out .exit)) ⌝ }
+{
+    let right = expr_end(row, at + 1);
+    let next = expr_end(row, right);
+    let s = search_parts(row, at + 1, right, n, out, pos + 2);
+    let c = copy_parts(row, s.left, s.right, s.todo, out, s.end, s.count);
+    let l = finish_junction(out, pos, c.end, Tag::AND, c.count);
+    let found = s.found;
+    Scanned {
+        next: next,
+        found: found,
+        gone: l.gone,
+        end: l.end,
+    }
+}
+
+fn start_of(gone: bool, pos: usize, end: usize) -> usize
+    ensures { λ r. ⌜ r ≡ pick gone pos end ⌝ }
+{
+    if gone {
+        return pos;
+    }
+    end
+}
+
+// The predicate at `at`, for n declarations and with a polarity; what is left of it is written at `pos`.
+pub fn scan_pred(
+    row: &[u32],
+    at: usize,
+    depth: u32,
+    n: usize,
+    positive: bool,
+    out: &mut [u32],
+    pos: usize,
+) -> Scanned
+    requires { ⌜ Room (now row) depth at pos (length (now out)) × (n ≤ 32) ⌝ }
+    ensures { λ r. ⌜ ScanTold n positive (now (row .entry)) depth at pos (now (out .entry)) r (now (out .exit)) ⌝ }
+{
+    let tag = row[at];
+    if tag == Tag::NOT {
+        return scan_not(row, at, depth, n, positive, out, pos);
+    }
+    if positive {
+        if tag == Tag::EQUAL {
+            return scan_equality(row, at, depth, n, out, pos);
+        }
+        if tag == Tag::AND {
+            return scan_junction(row, at, depth, n, positive, out, pos);
+        }
+        return copy_pred(row, at, depth, out, pos);
+    }
+    if tag == Tag::OR {
+        return scan_junction(row, at, depth, n, positive, out, pos);
+    }
+    if tag == Tag::IMPLIES {
+        return scan_implies(row, at, depth, n, out, pos);
+    }
+    copy_pred(row, at, depth, out, pos)
+}
+
+// A not: its child with the other polarity, and what is left of it negated.
+fn scan_not(
+    row: &[u32],
+    at: usize,
+    depth: u32,
+    n: usize,
+    positive: bool,
+    out: &mut [u32],
+    pos: usize,
+) -> Scanned
+    requires { ⌜ Room (now row) depth at pos (length (now out)) × (n ≤ 32) × (getD (now row) at 0 ≡ 8) ⌝ }
+    ensures { λ r. ⌜ ScanTold n positive (now (row .entry)) depth at pos (now (out .entry)) r (now (out .exit)) ⌝ }
+{
+    let s = scan_pred(row, at + 1, depth - 1, n, !positive, out, pos + 1);
+    let found = s.found;
+    if s.gone {
+        return Scanned {
+            next: s.next,
+            found: found,
+            gone: true,
+            end: pos,
+        };
+    }
+    let end = finish_not(out, pos, s.end);
+    Scanned {
+        next: s.next,
+        found: found,
+        gone: false,
+        end: end,
+    }
+}
+
+// What follows a child: copied where the child took an equality, else scanned.
+fn scan_next(
+    row: &[u32],
+    at: usize,
+    depth: u32,
+    n: usize,
+    found: Replacement,
+    out: &mut [u32],
+    pos: usize,
+) -> Scanned
+    requires { ⌜ Room (now row) depth at pos (length (now out)) × (n ≤ 32) ⌝ }
+    ensures { λ r. ⌜ ((x : Taken) → TookIs (now (row .entry)) x found → (f : Form) → decode depth pred (drop at (now (row .entry))) ≡ got f (drop (at + length (encode f)) (now (row .entry))) → Became (now (row .entry)) at f pos (now (out .entry)) (nextScan x (scan n false f) f) r (now (out .exit))) ⌝ }
+{
+    if is_taken(found) {
+        let c = copy_pred(row, at, depth, out, pos);
+        return Scanned {
+            next: c.next,
+            found: found,
+            gone: c.gone,
+            end: c.end,
+        };
+    }
+    scan_pred(row, at, depth, n, false, out, pos)
+}
+
+// An implication: without its left it is its right, without its right the negated left.
+fn scan_implies(
+    row: &[u32],
+    at: usize,
+    depth: u32,
+    n: usize,
+    out: &mut [u32],
+    pos: usize,
+) -> Scanned
+    requires { ⌜ Room (now row) depth at pos (length (now out)) × (n ≤ 32) × (getD (now row) at 0 ≡ 251) ⌝ }
+    ensures { λ r. ⌜ ScanTold n false (now (row .entry)) depth at pos (now (out .entry)) r (now (out .exit)) ⌝ }
+{
+    out[pos] = Tag::IMPLIES;
+    let l = scan_pred(row, at + 1, depth - 1, n, true, out, pos + 1);
+    let taken = l.found;
+    let start = start_of(l.gone, pos, l.end);
+    let r = scan_next(row, l.next, depth - 1, n, taken, out, start);
+    if l.gone {
+        return r;
+    }
+    if r.gone {
+        let found = r.found;
+        let end = finish_not(out, pos, l.end);
+        return Scanned {
+            next: r.next,
+            found: found,
+            gone: false,
+            end: end,
+        };
+    }
+    r
+}
+
+// Children in order; the search stops at the first equality taken.
+fn search_children(
+    row: &[u32],
+    at: usize,
+    depth: u32,
+    n: usize,
+    positive: bool,
+    count: u32,
+    out: &mut [u32],
+    pos: usize,
+) -> Stopped
+    requires { ⌜ Kids (now row) depth at count pos (length (now out)) × (length (now row) ≤ 8192) × (depth ≤ 64) × (n ≤ 32) ⌝ }
+    ensures { λ r. ⌜ SearchedKids (now (row .entry)) depth n positive at count pos (now (out .entry)) r (now (out .exit)) ⌝ }
+{
+    let mut found = Replacement::Not;
+    let mut q = at;
+    let mut left = count;
+    let mut w = pos;
+    let mut k: u32 = 0;
+    'search: while 0 < left {
+        let s = scan_pred(row, q, depth, n, positive, out, w);
+        let taken = s.found;
+        q = s.next;
+        w = s.end;
+        left -= 1;
+        k = one_more(k, s.gone);
+        if is_taken(taken) {
+            found = taken;
+            break 'search;
+        }
+    }
+    Stopped {
+        found: found,
+        next: q,
+        left: left,
+        end: w,
+        count: k,
+    }
+}
+
+// An associative node of what is left of its children.
+fn scan_junction(
+    row: &[u32],
+    at: usize,
+    depth: u32,
+    n: usize,
+    positive: bool,
+    out: &mut [u32],
+    pos: usize,
+) -> Scanned
+    requires { ⌜ Room (now row) depth at pos (length (now out)) × (n ≤ 32) × (roleOf (getD (now row) at 0) positive ≡ junction) ⌝ }
+    ensures { λ r. ⌜ ScanTold n positive (now (row .entry)) depth at pos (now (out .entry)) r (now (out .exit)) ⌝ }
+{
+    let tag = row[at];
+    let count = row[at + 1];
+    let s = search_children(row, at + 2, depth - 1, n, positive, count, out, pos + 2);
+    let from = s.next;
+    let next = skip_preds(row, from, s.left, depth - 1);
+    let end = copy_part(row, from, next, out, s.end);
+    let l = finish_junction(out, pos, end, tag, s.count + s.left);
+    let found = s.found;
+    Scanned {
+        next: next,
+        found: found,
+        gone: l.gone,
+        end: l.end,
+    }
+}
