@@ -14,35 +14,13 @@ use Rattle.form.proofs.HeadLaws.{few-names}
 use Rattle.subst.specs.Walk.{Binding, inside, outside, binding, Outer, named, dangling, walk, up, collectIndex, collect, each, eachAll}
 use Rattle.subst.specs.Internal.Items.{items, rewritten, movedWords, moveWord}
 use Rattle.subst.proofs.WalkLaws.{binding-back, and-left, and-right, walk-agree}
-use Rattle.subst.proofs.LimitLaws.{small}
+use Rattle.subst.proofs.LimitLaws.{small, tight}
 use Rattle.subst.proofs.ShiftLaws.{moved, moved-leaf, moved-word, between-high}
 use Rattle.subst.proofs.RowLaws.{itemsOf, walk-items}
 
--- small numbers, under at most n declarations
-abbrev pub tight : ℕ → ℕ → Outer → Bool
-tight n k x = small k x && leb k n
-
+-- under at most n declarations
 pub tight-depth : (n k : ℕ) (x : Outer) → tight n k x ≡ true → k ≤ n
 tight-depth n k x h = leb-true k n (and-right (small k x) (leb k n) h)
-
-tight-index : (n k i : ℕ) (z : Binding) → binding k i ≡ z → between 0 65535 i ≡ true → k ≤ n → collectIndex true (tight n) k z ≡ true
-tight-index n k i inside q e h = refl
-tight-index n k i (outside j) q e h = rw (binding-back k i j q, e, le-leb k n h)
-
--- at most 32 declarations are opened at each level
-mutual
-  unfolding collect
-
-  pub ok-tight : {d : ℕ} {s : Sort} {f : Form} → Ok d s f → (n k : ℕ) → k + 32 * d ≤ n → each (tight n) k f ≡ true
-  ok-tight (ok-free e) n k h = rw (e, le-leb k n (omega arith))
-  ok-tight (ok-bound {n = i} e) n k h = tight-index n k i (binding k i) refl e (omega arith)
-  ok-tight (ok-node {d = d} {s = s} {t = t} {o = o} {ds = ds} {p = p} {e = e} l r w) n k h =
-      let few = few-names s t (o ++ (ds ++ [])) o ds p e [] (r []) in
-      ok-tightAll w n (length ds + k) (omega arith)
-
-  ok-tightAll : {d : ℕ} {ss : List Sort} {fs : Forms} → OkAll d ss fs → (n k : ℕ) → k + 32 * d ≤ n → eachAll (tight n) k fs ≡ true
-  ok-tightAll ok-none n k h = refl
-  ok-tightAll (ok-more g w) n k h = rw (ok-tight g n k h, ok-tightAll w n k h)
 
 -- the words of a part are the moved form's
 pub moved-words : (u d : ℕ) (x : Form) → rewritten (movedWords u d) (itemsOf 0 x) ≡ encode (walk (moved u d) 0 x)

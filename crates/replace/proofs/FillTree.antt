@@ -20,14 +20,14 @@ use Rattle.subst.specs.Internal.Items.{wordsOf, rewritten}
 use Rattle.subst.specs.declared.items.Item.{Item}
 use Rattle.subst.specs.declared.items.Item.the-variants.{Plain, Ident}
 use Rattle.subst.proofs.WalkLaws.{binding-inside, binding-back, shift-shift, walk-agree}
-use Rattle.subst.proofs.LimitLaws.{small}
+use Rattle.subst.proofs.LimitLaws.{small, tight, ok-tight}
 use Rattle.subst.proofs.ShiftLaws.{moved}
 use Rattle.subst.proofs.RowLaws.{identOf, itemsOf, walk-items-in}
 use Rattle.replace.specs.Fill.{keptCount, fillIndex, fillFor}
 use Rattle.replace.specs.Internal.Pieces.{part, pieceWords, filledWords, placePiece, fillPiece, pieceOf, planned, fillPlan}
 use Rattle.replace.specs.declared.pieces.Piece.the-variants.{Same, Index, Part}
 use Rattle.replace.proofs.EntryLaws.{PlaceAt}
-use Rattle.replace.proofs.ActionLaws.{tight, tight-depth, ok-tight, moved-words, moved-lift}
+use Rattle.replace.proofs.ActionLaws.{tight-depth, moved-words, moved-lift}
 
 -- the word of a place, and how many places are kept and filled
 abbrev pub wordFor : Place → ℕ

@@ -29,7 +29,7 @@ use Rattle.subst.specs.Walk.{Binding, inside, outside, binding, Outer, named, d
 use Rattle.subst.specs.Internal.Items.{items, wordsOf, rewritten}
 use Rattle.subst.specs.declared.items.Item.the-variants.{Plain, Ident}
 use Rattle.subst.proofs.WalkLaws.{binding-back, and-left, walk-agree}
-use Rattle.subst.proofs.LimitLaws.{small}
+use Rattle.subst.proofs.LimitLaws.{small, tight, ok-tight}
 use Rattle.subst.proofs.ShiftLaws.{moved}
 use Rattle.subst.proofs.RowLaws.{identOf, itemsOf, marked-items, walk-items}
 use Rattle.subst.proofs.CheckedLaws.{Checked}
@@ -39,7 +39,7 @@ use Rattle.replace.specs.declared.pieces.Piece.the-variants.{Same, Index
 use Rattle.replace.specs.declared.pieces.Plan.{Plan}
 use Rattle.replace.proofs.EntryLaws.{PlaceAt, listed-places, listed-in-row}
 use Rattle.replace.proofs.MarkLaws.{items-take}
-use Rattle.replace.proofs.ActionLaws.{tight, tight-depth, ok-tight, moved-words, moved-lift}
+use Rattle.replace.proofs.ActionLaws.{tight-depth, moved-words, moved-lift}
 use Rattle.replace.proofs.BuildLaws.{kindOf, emit-form}
 use Rattle.replace.proofs.CallLaws.{call-small, call-long, call-missing, call-list-long, call-no-list, call-read, front-same}
 

@@ -19,7 +19,7 @@ ghost use Rattle.replace.specs.Fill.{fillOutcome};
 ghost use Rattle.replace.specs.Internal.Pieces.{Ready, fillPlan, keptWords, headWords, declaredIn, filledRow};
 
 // The number of declarations of a row that is a quantified predicate; 0 for any other.
-pub fn declared(row: &[u32]) -> u32
+pub(crate) fn declared(row: &[u32]) -> u32
     ensures { λ r. ⌜ r ≡ declaredIn (now (row .entry)) ⌝ }
 {
     if row.len() < 2 {
@@ -81,7 +81,7 @@ fn write_head(words: &[u32], row: &[u32], head: &mut [u32]) -> usize
 }
 
 // The quantified predicate with its declarations filled by the places of the table.
-pub fn fill_with(
+pub(crate) fn fill_with(
     list: &[u32],
     list_marks: &[u32],
     row: &[u32],

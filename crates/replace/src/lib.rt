@@ -3,5 +3,5 @@ mod build;
 pub mod fill;
 pub mod free;
 mod marks;
-pub mod pieces;
+mod pieces;
 pub mod prune;
