@@ -5,11 +5,13 @@ use mathlib.Core.List.{List, [], _∷_, _++_}
 use Prim.Native.Nat.{ℕ, zero, suc, _+_, _-_, _≤_, _<_}
 use native.Mathlib.Numerals.{sub-one}
 use native.Mathlib.Omega.{arith}
+use borrow.Author.Tests.{le-leb, lt-leb}
+use lib.Dec.{leb}
 use lib.ListN.{length, getD, drop, set, replicate, length-append}
 use Rattle.form.specs.Form.{Leaf, Form, leaf, node, Forms, none, more, pick, encode, encodeAll}
 use Rattle.form.specs.Tag.{Sort, own, ownOf, shapeOf, sorts}
 use Rattle.form.specs.Decode.{Head, head, bad, read, Got, got, no-form, Gots, gots, no-forms, first, leafAt, isLeaf, make, addForm, close, chain, decodeAll, branch, decode}
-use Rattle.form.specs.Internal.Reads.{headAt, mark, markAll, markTag, Told, ToldAll}
+use Rattle.form.specs.Internal.Reads.{headAt, mark, markAll, markTag, Told, ToldAll, decodeIn}
 use Rattle.form.specs.declared.tag.Shape.{Shape}
 use Rattle.form.specs.declared.head.Step.{Step}
 use Rattle.form.specs.declared.head.Step.the-variants.{End, Bad}
@@ -222,3 +224,20 @@ module _ (s : Sort) (row : List ℕ) (at u : ℕ) where
       where
         go : (z : Head) → headAt (at + 1) z ≡ Kids p x y w → at < p
         go z e = let q = head-rises (at + 1) p x y w z e in omega arith
+
+-- within the limits of depth and open declarations the guarded reading is the reading, outside them nothing is read
+module _ (s : Sort) (ws : List ℕ) where
+  pub in-decode : (d u : ℕ) → d ≤ 64 → u ≤ 65535 → decodeIn d u s ws ≡ decode d s ws
+  unfolding decodeIn
+  in-decode d u deep few = rw (le-leb d 64 deep, le-leb u 65535 few)
+
+  pub told-deep : (at d u : ℕ) (a b : List ℕ) → 64 < d → Told at u (decodeIn d u s ws) a b Bad
+  unfolding decodeIn Told
+  told-deep at d u a b h = rw (lt-leb d 64 h) refl
+
+  pub told-under : (at d u : ℕ) (a b : List ℕ) → d ≤ 64 → 65535 < u → Told at u (decodeIn d u s ws) a b Bad
+  unfolding decodeIn Told
+  told-under at d u a b deep h = rw (le-leb d 64 deep, lt-leb u 65535 h) refl
+
+  pub told-in : (at d u : ℕ) (a b : List ℕ) (r : Step) → d ≤ 64 → u ≤ 65535 → Told at u (decode d s ws) a b r → Told at u (decodeIn d u s ws) a b r
+  told-in at d u a b r deep few t = rw (in-decode d u deep few) t

@@ -5,7 +5,7 @@ use crate::head::Step;
 use crate::reader::mark_expr;
 ghost use mathlib.Core.Path.{_≡_};
 ghost use Prim.Native.Nat.{_+_, _<_};
-ghost use lib.ListN.{length, drop};
+ghost use lib.ListN.{length, take, drop};
 ghost use Rattle.form.specs.Lists.{placeEntry, entryOf, listOf, distinct, goodNames};
 ghost use Rattle.form.specs.Answer.{told, namesOutcome, pairsOutcome, placesOutcome};
 ghost use Rattle.form.specs.Internal.Reads.{ToldEntry, Listing, emptyTable, addRow, memberOf, goodTable};
@@ -166,9 +166,18 @@ pub fn check_names(row: &[u32]) -> Answer
     Answer::Done(0)
 }
 
+// Whether the first n words, or all if they are fewer, can be names of one list.
+fn are_first_distinct(words: &[u32], n: usize) -> bool
+    ensures { λ r. ⌜ r ≡ distinct (take n (now (words .entry))) ⌝ }
+{
+    if words.len() < n {
+        return are_distinct(words);
+    }
+    are_distinct(&words[..n])
+}
+
 // Whether the words of the table's entries are good names.
 pub fn good_table(table: Table) -> bool
-    requires { ⌜ length (table .words) ≡ 32 ⌝ }
     ensures { λ r. ⌜ r ≡ goodTable table ⌝ }
 {
     let n = table.n;
@@ -176,7 +185,7 @@ pub fn good_table(table: Table) -> bool
         return false;
     }
     let words = table.words;
-    are_distinct(&words[..n])
+    are_first_distinct(&words, n)
 }
 
 // The check of a substitution list.

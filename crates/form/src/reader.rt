@@ -11,7 +11,7 @@ ghost use Prim.Native.Nat.{_+_, _*_, _^_, _<_};
 ghost use lib.ListN.{drop, replicate};
 ghost use Rattle.form.specs.Tag.{expr, pred, sorts};
 ghost use Rattle.form.specs.Decode.{decode, decodeAll};
-ghost use Rattle.form.specs.Internal.Reads.{markTag, Told, ToldAll};
+ghost use Rattle.form.specs.Internal.Reads.{markTag, Told, ToldAll, decodeIn};
 
 // Marks the tag at `at`, if it is that of a name or an index.
 fn mark_tag(marks: &mut [u32], at: usize, tag: u32, under: u32)
@@ -30,7 +30,7 @@ fn mark_tag(marks: &mut [u32], at: usize, tag: u32, under: u32)
 }
 
 // An expression at `at`, under so many open declarations.
-pub fn mark_expr(row: &[u32], marks: &mut [u32], at: usize, depth: u32, under: u32) -> Step
+pub(crate) fn mark_expr(row: &[u32], marks: &mut [u32], at: usize, depth: u32, under: u32) -> Step
     requires { ⌜ under + 32 * depth < 2 ^ 32 ⌝ }
     ensures { λ r. ⌜ Told at under (decode depth expr (drop at (now (row .entry)))) (now (marks .entry)) (now (marks .exit)) r ⌝ }
 {
@@ -49,7 +49,7 @@ pub fn mark_expr(row: &[u32], marks: &mut [u32], at: usize, depth: u32, under: u
 }
 
 // A predicate at `at`, under so many open declarations.
-pub fn mark_pred(row: &[u32], marks: &mut [u32], at: usize, depth: u32, under: u32) -> Step
+pub(crate) fn mark_pred(row: &[u32], marks: &mut [u32], at: usize, depth: u32, under: u32) -> Step
     requires { ⌜ under + 32 * depth < 2 ^ 32 ⌝ }
     ensures { λ r. ⌜ Told at under (decode depth pred (drop at (now (row .entry)))) (now (marks .entry)) (now (marks .exit)) r ⌝ }
 {
@@ -118,4 +118,30 @@ fn mark_preds(row: &[u32], marks: &mut [u32], at: usize, n: u32, depth: u32, und
         left -= 1;
     }
     Step::End(p)
+}
+
+// An expression at `at`, under so many open declarations; deeper than 64, or under over 65,535 declarations, none is read.
+pub fn expr_at(row: &[u32], marks: &mut [u32], at: usize, depth: u32, under: u32) -> Step
+    ensures { λ r. ⌜ Told at under (decodeIn depth under expr (drop at (now (row .entry)))) (now (marks .entry)) (now (marks .exit)) r ⌝ }
+{
+    if Limit::DEPTH < depth {
+        return Step::Bad;
+    }
+    if Limit::NAME < under {
+        return Step::Bad;
+    }
+    mark_expr(row, marks, at, depth, under)
+}
+
+// A predicate at `at`, likewise.
+pub fn pred_at(row: &[u32], marks: &mut [u32], at: usize, depth: u32, under: u32) -> Step
+    ensures { λ r. ⌜ Told at under (decodeIn depth under pred (drop at (now (row .entry)))) (now (marks .entry)) (now (marks .exit)) r ⌝ }
+{
+    if Limit::DEPTH < depth {
+        return Step::Bad;
+    }
+    if Limit::NAME < under {
+        return Step::Bad;
+    }
+    mark_pred(row, marks, at, depth, under)
 }

@@ -6,7 +6,7 @@ ghost use Rattle.line.specs.Spell.{digits, decimal, spaced};
 ghost use Rattle.line.specs.Internal.Writes.{Wrote};
 
 // One byte at `o`.
-pub fn put_byte(out: &mut [u8], o: usize, byte: u8) -> usize
+pub(crate) fn put_byte(out: &mut [u8], o: usize, byte: u8) -> usize
     requires { ⌜ o + 1 < 2 ^ 64 ⌝ }
     ensures { λ r. ⌜ Wrote o (byte ∷ []) (now (out .entry)) (now (out .exit)) r ⌝ }
 {
@@ -32,7 +32,7 @@ fn put_digits(out: &mut [u8], o: usize, n: u32, places: u32) -> usize
     put_byte(out, p, 48 + ((n % 10) as u8))
 }
 
-pub fn put_decimal(out: &mut [u8], o: usize, n: u32) -> usize
+pub(crate) fn put_decimal(out: &mut [u8], o: usize, n: u32) -> usize
     requires { ⌜ o + 10 < 2 ^ 64 ⌝ }
     ensures { λ r. ⌜ Wrote o (decimal n) (now (out .entry)) (now (out .exit)) r ⌝ }
 {
@@ -40,7 +40,7 @@ pub fn put_decimal(out: &mut [u8], o: usize, n: u32) -> usize
 }
 
 // The words of the row from `at` to `end`, each after a space.
-pub fn put_spaced(row: &[u32], out: &mut [u8], at: usize, end: usize, o: usize) -> usize
+pub(crate) fn put_spaced(row: &[u32], out: &mut [u8], at: usize, end: usize, o: usize) -> usize
     requires { ⌜ (at ≤ end) × (end ≤ length (now row)) × (o + 11 * (end - at) < 2 ^ 64) ⌝ }
     ensures { λ r. ⌜ Wrote o (spaced (take (end - at) (drop at (now (row .entry))))) (now (out .entry)) (now (out .exit)) r ⌝ }
 {

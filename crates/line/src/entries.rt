@@ -87,7 +87,7 @@ fn print_entries(row: &[u32], out: &mut [u8], kind: ListKind) -> Spelled
 }
 
 // The whole list.
-pub fn print_list(row: &[u32], out: &mut [u8], kind: ListKind) -> Spelled
+pub(crate) fn print_list(row: &[u32], out: &mut [u8], kind: ListKind) -> Spelled
     requires { ⌜ length (now row) ≤ 8192 ⌝ }
     ensures { λ r. ⌜ PrintedList kind (listOf kind (now (row .entry))) (now (out .entry)) (now (out .exit)) r ⌝ }
 {
@@ -102,7 +102,7 @@ pub fn print_list(row: &[u32], out: &mut [u8], kind: ListKind) -> Spelled
 }
 
 // The whole list of names.
-pub fn print_names(row: &[u32], out: &mut [u8]) -> usize
+pub(crate) fn print_names(row: &[u32], out: &mut [u8]) -> usize
     requires { ⌜ length (now row) ≤ 8192 ⌝ }
     ensures { λ r. ⌜ Wrote 0 (spellNames (now (row .entry))) (now (out .entry)) (now (out .exit)) r ⌝ }
 {

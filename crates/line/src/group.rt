@@ -16,7 +16,7 @@ pub enum Group {
 }
 
 // The group at `at`, its words into the row. Words past the end of the row are counted, not stored.
-pub fn read_group(line: &[u8], row: &mut [u32], at: usize, places: bool) -> Group
+pub(crate) fn read_group(line: &[u8], row: &mut [u32], at: usize, places: bool) -> Group
     ensures { λ r. ⌜ Grouped at 0 (group places (drop at (now (line .entry)))) (now (row .entry)) (now (row .exit)) r ⌝ }
 {
     if line.len() <= at {

@@ -29,7 +29,7 @@ fn ended(state: State, at: usize) -> Number
     }
 }
 
-pub fn read_number(line: &[u8], at: usize) -> Number
+pub(crate) fn read_number(line: &[u8], at: usize) -> Number
     ensures { λ r. ⌜ r ≡ numberAt at (number State.Spaced (drop at (now (line .entry)))) ⌝ }
 {
     let mut p = at;
@@ -74,7 +74,7 @@ fn from_zero(v: u32, at: usize) -> Offset
     Offset::Is(v as i32, at)
 }
 
-pub fn read_offset(line: &[u8], at: usize) -> Offset
+pub(crate) fn read_offset(line: &[u8], at: usize) -> Offset
     ensures { λ r. ⌜ r ≡ offsetAt at (offset (drop at (now (line .entry)))) ⌝ }
 {
     if line.len() <= at {

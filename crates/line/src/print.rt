@@ -32,7 +32,7 @@ fn put_head(row: &[u32], out: &mut [u8], at: usize, end: usize, o: usize) -> usi
 }
 
 // An expression at `at`, written at `o`.
-pub fn print_expr(row: &[u32], out: &mut [u8], at: usize, depth: u32, o: usize) -> Ends
+pub(crate) fn print_expr(row: &[u32], out: &mut [u8], at: usize, depth: u32, o: usize) -> Ends
     requires { ⌜ o + 13 * (length (now row) - at) < 2 ^ 64 ⌝ }
     ensures { λ r. ⌜ Printed at o (decode depth expr (drop at (now (row .entry)))) (now (out .entry)) (now (out .exit)) r ⌝ }
 {
@@ -54,7 +54,7 @@ pub fn print_expr(row: &[u32], out: &mut [u8], at: usize, depth: u32, o: usize) 
 }
 
 // A predicate at `at`, written at `o`.
-pub fn print_pred(row: &[u32], out: &mut [u8], at: usize, depth: u32, o: usize) -> Ends
+pub(crate) fn print_pred(row: &[u32], out: &mut [u8], at: usize, depth: u32, o: usize) -> Ends
     requires { ⌜ o + 13 * (length (now row) - at) < 2 ^ 64 ⌝ }
     ensures { λ r. ⌜ Printed at o (decode depth pred (drop at (now (row .entry)))) (now (out .entry)) (now (out .exit)) r ⌝ }
 {

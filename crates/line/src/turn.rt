@@ -71,7 +71,7 @@ fn longer(v: u32, digit: u32) -> Turn
     Turn::To(State::Digits(w as u32))
 }
 
-pub fn after_digit(state: State, digit: u32) -> Turn
+pub(crate) fn after_digit(state: State, digit: u32) -> Turn
     requires { ⌜ digit < 10 ⌝ }
     ensures { λ r. ⌜ r ≡ onDigit state digit ⌝ }
 {
@@ -83,7 +83,7 @@ pub fn after_digit(state: State, digit: u32) -> Turn
     }
 }
 
-pub fn next(state: State, byte: u8) -> Turn
+pub(crate) fn next(state: State, byte: u8) -> Turn
     ensures { λ r. ⌜ r ≡ turn state byte ⌝ }
 {
     if byte == b'[' {
@@ -133,7 +133,7 @@ fn word_mark(v: u32, byte: u8) -> Mark
     Mark::Nothing
 }
 
-pub fn noted(places: bool, depth: usize, state: State, byte: u8) -> Mark
+pub(crate) fn noted(places: bool, depth: usize, state: State, byte: u8) -> Mark
     ensures { λ r. ⌜ r ≡ note places depth state byte ⌝ }
 {
     match state {
@@ -144,7 +144,7 @@ pub fn noted(places: bool, depth: usize, state: State, byte: u8) -> Mark
     }
 }
 
-pub fn depth_after(depth: usize, byte: u8) -> usize
+pub(crate) fn depth_after(depth: usize, byte: u8) -> usize
     requires { ⌜ (0 < depth) × (depth + 1 < 2 ^ 64) ⌝ }
     ensures { λ r. ⌜ r ≡ depthAfter depth byte ⌝ }
 {
@@ -158,7 +158,7 @@ pub fn depth_after(depth: usize, byte: u8) -> usize
 }
 
 // The word of a mark, at n of the row. Nothing is written past its end.
-pub fn put_mark(row: &mut [u32], n: usize, mark: Mark) -> usize
+pub(crate) fn put_mark(row: &mut [u32], n: usize, mark: Mark) -> usize
     requires { ⌜ n + 1 < 2 ^ 64 ⌝ }
     ensures { λ r. ⌜ Wrote n (markWords mark) (now (row .entry)) (now (row .exit)) r ⌝ }
 {

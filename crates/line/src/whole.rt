@@ -33,7 +33,7 @@ fn print_first(row: &[u32], out: &mut [u8], expression: bool) -> Ends
     print_pred(row, out, 0, 64, 0)
 }
 
-pub fn print_sort(row: &[u32], out: &mut [u8], expression: bool) -> Spelled
+pub(crate) fn print_sort(row: &[u32], out: &mut [u8], expression: bool) -> Spelled
     requires { ⌜ length (now row) ≤ 8192 ⌝ }
     ensures { λ r. ⌜ PrintedRow (rowForm (pick expression expr pred) (now (row .entry))) (now (out .entry)) (now (out .exit)) r ⌝ }
 {
@@ -47,7 +47,7 @@ pub fn print_sort(row: &[u32], out: &mut [u8], expression: bool) -> Spelled
 }
 
 // The sort of a row and the length of its spelling, printed to nowhere.
-pub fn measured(row: &[u32]) -> Sized
+pub(crate) fn measured(row: &[u32]) -> Sized
     requires { ⌜ length (now row) ≤ 8192 ⌝ }
     ensures { λ r. ⌜ r ≡ sizedOf (formOf Either (now (row .entry))) ⌝ }
 {

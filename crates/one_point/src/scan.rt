@@ -11,7 +11,7 @@ use crate::writes::copy_part;
 use crate::writes::finish_junction;
 use crate::writes::finish_not;
 use form::head::Step;
-use form::reader::mark_pred;
+use form::reader::pred_at;
 use form::tag::Tag;
 ghost use mathlib.Core.Path.{_≡_};
 ghost use mathlib.Core.Bool.{true, false};
@@ -37,11 +37,11 @@ pub struct Scanned {
 
 // Where the predicate at `at` ends.
 pub fn skip_pred(row: &[u32], at: usize, depth: u32) -> Step
-    requires { ⌜ 32 * depth < 2 ^ 32 ⌝ }
+    requires { ⌜ depth ≤ 64 ⌝ }
     ensures { λ r. ⌜ r ≡ endAt at (decode depth pred (drop at (now (row .entry)))) ⌝ }
 {
     let mut marks = [0u32; 1];
-    mark_pred(row, &mut marks, at, depth, 0)
+    pred_at(row, &mut marks, at, depth, 0)
 }
 
 // A predicate that the scan does not enter.

@@ -3,7 +3,7 @@ use crate::replacements::Replacements;
 use form::answer::Answer;
 use form::answer::Kind;
 use form::head::Step;
-use form::reader::mark_expr;
+use form::reader::expr_at;
 use subst::items::all_in;
 ghost use mathlib.Core.Path.{_≡_};
 ghost use Prim.Native.Nat.{_*_, _^_, _<_, _≤_};
@@ -40,11 +40,11 @@ pub enum Replacement {
 
 // Where the expression at `at` ends.
 pub fn skip_expr(row: &[u32], at: usize, depth: u32) -> Step
-    requires { ⌜ 32 * depth < 2 ^ 32 ⌝ }
+    requires { ⌜ depth ≤ 64 ⌝ }
     ensures { λ r. ⌜ r ≡ endAt at (decode depth expr (drop at (now (row .entry)))) ⌝ }
 {
     let mut marks = [0u32; 1];
-    mark_expr(row, &mut marks, at, depth, 0)
+    expr_at(row, &mut marks, at, depth, 0)
 }
 
 // The sides of the equality that is the whole row.

@@ -8,7 +8,7 @@ use mathlib.Core.Option.{Option, none as absent, some}
 use lib.Dec.{leb}
 use lib.ListN.{length, set, take, replicate}
 use Rattle.form.specs.Form.{Leaf, Form, leaf, node, Forms, none, more, pick, between, encode, encodeAll}
-use Rattle.form.specs.Decode.{Head, head, bad, Got, got, no-form, Gots, gots, no-forms, isLeaf, Found, found, missing}
+use Rattle.form.specs.Decode.{Head, head, bad, Got, got, no-form, Gots, gots, no-forms, isLeaf, decode, Found, found, missing}
 use Rattle.form.specs.Tag.{Sort, expr, shapeOf}
 use Rattle.form.specs.Lists.{Place, kept, filled, Entry, entry, wordOf, entryWords, member, distinct}
 use Rattle.form.specs.declared.answer.Kind.{Kind}
@@ -57,6 +57,10 @@ Told at u no-form a b r = r ≡ Bad
 unfoldable pub ToldAll : ℕ → ℕ → Gots → List ℕ → List ℕ → Step → Type 0
 ToldAll at u (gots fs x) a b r = (r ≡ End (at + length (encodeAll fs))) × (b ≡ markAll fs at u a)
 ToldAll at u no-forms a b r = r ≡ Bad
+
+-- no form is read deeper than 64, or under over 65,535 declarations
+unfoldable pub decodeIn : ℕ → ℕ → Sort → List ℕ → Got
+decodeIn d u s ws = pick (leb d 64 && leb u 65535) (decode d s ws) no-form
 
 unfoldable pub Marked : Found → List ℕ → List ℕ → Type 0
 Marked (found s f) a b = b ≡ mark f 0 0 a

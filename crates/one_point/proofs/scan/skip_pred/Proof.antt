@@ -1,20 +1,23 @@
 -- `one_point::scan::skip_pred` meets its contract. Assumes nothing.
+use native.Mathlib.Omega.{arith}
+use Rattle.form.specs.Tag.{pred}
+use Rattle.form.proofs.ReaderLaws.{in-decode}
 use Rattle.one_point.proofs.SidesLaws.{told-ends}
 use borrow.Author.Needs.{needs}
 use Rattle.one_point.proofs.scan.skip_pred.Statement.{statement}
 use Rattle.one_point.proofs.scan.skip_pred.Tie as tie
 use Rattle.one_point.proofs.scan.skip_pred.Reads as reads
 use Rattle.one_point.proofs.scan.skip_pred.Lts as lts
-use Rattle.form.proofs.reader.mark_pred.Reads as mark-pred-reads
+use Rattle.form.proofs.reader.pred_at.Reads as pred-at-reads
 
-slice-aggregate-mark-pred : tie.Need-slice-aggregate-mark-pred
-slice-aggregate-mark-pred c = search needs
+slice-aggregate-pred-at : tie.Need-slice-aggregate-pred-at
+slice-aggregate-pred-at c = search needs
 
-mark-pred-requires : tie.Need-mark-pred-requires
-mark-pred-requires c κs = search needs
+pred-at-requires : tie.Need-pred-at-requires
+pred-at-requires c κs = search needs
 
 returns : tie.Need-returns
-returns c = told-ends _ _ _ _ _ _ (c .before .mark-pred .ensures)
+returns c = told-ends _ _ _ _ _ _ (rw (in-decode pred _ _ _ (c .before .before .before .pre) (omega arith)) at (c .before .pred-at .ensures))
 
 pub skip-pred-spec : {M : Type 1} → statement M
-skip-pred-spec = tie.close (tie.spec slice-aggregate-mark-pred mark-pred-requires returns)
+skip-pred-spec = tie.close (tie.spec slice-aggregate-pred-at pred-at-requires returns)

@@ -1,20 +1,23 @@
 -- `one_point::sides::skip_expr` meets its contract. Assumes nothing.
+use native.Mathlib.Omega.{arith}
+use Rattle.form.specs.Tag.{expr}
+use Rattle.form.proofs.ReaderLaws.{in-decode}
 use Rattle.one_point.proofs.SidesLaws.{told-ends}
 use borrow.Author.Needs.{needs}
 use Rattle.one_point.proofs.sides.skip_expr.Statement.{statement}
 use Rattle.one_point.proofs.sides.skip_expr.Tie as tie
 use Rattle.one_point.proofs.sides.skip_expr.Reads as reads
 use Rattle.one_point.proofs.sides.skip_expr.Lts as lts
-use Rattle.form.proofs.reader.mark_expr.Reads as mark-expr-reads
+use Rattle.form.proofs.reader.expr_at.Reads as expr-at-reads
 
-slice-aggregate-mark-expr : tie.Need-slice-aggregate-mark-expr
-slice-aggregate-mark-expr c = search needs
+slice-aggregate-expr-at : tie.Need-slice-aggregate-expr-at
+slice-aggregate-expr-at c = search needs
 
-mark-expr-requires : tie.Need-mark-expr-requires
-mark-expr-requires c κs = search needs
+expr-at-requires : tie.Need-expr-at-requires
+expr-at-requires c κs = search needs
 
 returns : tie.Need-returns
-returns c = told-ends _ _ _ _ _ _ (c .before .mark-expr .ensures)
+returns c = told-ends _ _ _ _ _ _ (rw (in-decode expr _ _ _ (c .before .before .before .pre) (omega arith)) at (c .before .expr-at .ensures))
 
 pub skip-expr-spec : {M : Type 1} → statement M
-skip-expr-spec = tie.close (tie.spec slice-aggregate-mark-expr mark-expr-requires returns)
+skip-expr-spec = tie.close (tie.spec slice-aggregate-expr-at expr-at-requires returns)
