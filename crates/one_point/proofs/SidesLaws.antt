@@ -13,11 +13,12 @@ use lib.Seq.{take-append-seam}
 use Rattle.form.specs.Form.{Form, pick, encode, encodeAll}
 use Rattle.form.specs.Tag.{Sort, expr}
 use Rattle.form.specs.Decode.{Got, got, no-form, isLeaf, decode, Whole, one, not-one, rowForm, found, missing, asSort, formOf}
-use Rattle.form.specs.Internal.Reads.{mark, Told}
+use Rattle.form.specs.Internal.Reads.{mark, Told, decodeIn}
 use Rattle.form.specs.declared.head.Step.{Step}
 use Rattle.form.specs.declared.answer.Kind.the-variants.{Expression}
 use Rattle.form.proofs.DecodeLaws.{clash, Ok, ok-free, ok-bound, ok-node}
 use Rattle.form.proofs.RowLaws.{row-encode}
+use Rattle.form.proofs.ReaderLaws.{in-decode}
 use Rattle.subst.specs.Shift.{reaches}
 use Rattle.subst.specs.Internal.Items.{items, allItems, itemIn}
 use Rattle.subst.proofs.RowLaws.{marked-items, each-items}
@@ -38,6 +39,9 @@ pub told-ends : (at u : ℕ) (g : Got) (a b : List ℕ) (r : Step) → Told at u
 unfolding Told endAt
 told-ends at u (got f x) a b r t = t .0
 told-ends at u no-form a b r t = t
+
+pub told-plain : (at d u : ℕ) (s : Sort) (ws a b : List ℕ) (r : Step) → d ≤ 64 → u ≤ 65535 → Told at u (decodeIn d u s ws) a b r → Told at u (decode d s ws) a b r
+told-plain at d u s ws a b r deep few t = rw (in-decode s ws d u deep few) at t
 
 -- the equality that is the whole row
 pub equality-empty : (row : List ℕ) → length row ≡ 0 → None ≡ equalityWords row

@@ -1,8 +1,6 @@
 -- `one_point::scan::skip_pred` meets its contract. Assumes nothing.
 use native.Mathlib.Omega.{arith}
-use Rattle.form.specs.Tag.{pred}
-use Rattle.form.proofs.ReaderLaws.{in-decode}
-use Rattle.one_point.proofs.SidesLaws.{told-ends}
+use Rattle.one_point.proofs.SidesLaws.{told-ends, told-plain}
 use borrow.Author.Needs.{needs}
 use Rattle.one_point.proofs.scan.skip_pred.Statement.{statement}
 use Rattle.one_point.proofs.scan.skip_pred.Tie as tie
@@ -17,7 +15,7 @@ pred-at-requires : tie.Need-pred-at-requires
 pred-at-requires c κs = search needs
 
 returns : tie.Need-returns
-returns c = told-ends _ _ _ _ _ _ (rw (in-decode pred _ _ _ (c .before .before .before .pre) (omega arith)) at (c .before .pred-at .ensures))
+returns c = told-ends _ _ _ _ _ _ (told-plain _ _ _ _ _ _ _ _ (c .before .before .before .before .pre) (omega arith) (c .before .pred-at .ensures))
 
 pub skip-pred-spec : {M : Type 1} → statement M
 skip-pred-spec = tie.close (tie.spec slice-aggregate-pred-at pred-at-requires returns)
