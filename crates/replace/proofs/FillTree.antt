@@ -52,7 +52,7 @@ kept-cons : (p : Place) (ps : List Place) → keptCount (p ∷ ps) ≡ keptCount
 kept-cons kept ps = omega arith
 kept-cons (filled x) ps = omega arith
 
-kept-reverse : (ps : List Place) → keptCount (reverse ps) ≡ keptCount ps
+pub kept-reverse : (ps : List Place) → keptCount (reverse ps) ≡ keptCount ps
 kept-reverse [] = refl
 kept-reverse (p ∷ ps) = rw (reverse-cons p ps, kept-append (reverse ps) (p ∷ []), kept-reverse ps) (kept-one p (keptCount ps) ∙ sym (kept-cons p ps))
 

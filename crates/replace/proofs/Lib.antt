@@ -11,3 +11,5 @@ pub mod QuantLaws
 pub mod FillLaws
 pub mod PruneLaws
 pub mod TreeLaws
+pub mod OkLaws
+pub mod PruneTree

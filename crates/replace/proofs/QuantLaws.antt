@@ -11,7 +11,7 @@ use lib.ListN.{length, getD, take, drop, replicate, length-append, take-append-d
 use lib.Seq.{drop-at}
 use Rattle.form.specs.Form.{Form, leaf, node, Forms, none, more, pick, between, encode, encodeAll}
 use Rattle.form.specs.Tag.{Sort, expr, pred, Own, ask, kids, own, ownOf, shapeOf, predTags, sorts}
-use Rattle.form.specs.Decode.{Head, head, bad, addWord, addName, only, names, read}
+use Rattle.form.specs.Decode.{Head, head, bad, addWord, addName, only, names, read, isLeaf}
 use Rattle.form.specs.Internal.Reads.{mark}
 use Rattle.form.proofs.DecodeLaws.{clash, Ok, ok-node, OkAll, ok-none, ok-more}
 use Rattle.subst.specs.Internal.Items.{items}
@@ -79,13 +79,24 @@ tag-852 : own pred 852 ≡ ask 1 32 (λ n. kids n 1 0)
 unfolding own ownOf shapeOf predTags
 tag-852 = refl
 
-tag-heading : (t : ℕ) (ws o ds : List ℕ) (p e : ℕ) (r : List ℕ) → (eqb t 851 || eqb t 852) ≡ true → read (own pred t) ws ≡ head o ds p e r → Heading o ds p e
-tag-heading t ws o ds p e r h q = go (eqb t 851) (eqb t 852) refl refl h
+pub tag-own : (t : ℕ) → (eqb t 851 || eqb t 852) ≡ true → own pred t ≡ ask 1 32 (λ n. kids n 1 0)
+tag-own t h = go (eqb t 851) (eqb t 852) refl refl h
   where
-    go : (a b : Bool) → eqb t 851 ≡ a → eqb t 852 ≡ b → (a || b) ≡ true → Heading o ds p e
-    go true b x y z = read-heading ws o ds p e r (rw (eqb-true t 851 x, tag-851) at q)
-    go false true x y z = read-heading ws o ds p e r (rw (eqb-true t 852 y, tag-852) at q)
+    go : (a b : Bool) → eqb t 851 ≡ a → eqb t 852 ≡ b → (a || b) ≡ true → own pred t ≡ ask 1 32 (λ n. kids n 1 0)
+    go true b x y z = rw (eqb-true t 851 x) tag-851
+    go false true x y z = rw (eqb-true t 852 y) tag-852
     go false false x y z = absurd (clash cc)
+
+pub tag-node : (t : ℕ) → (eqb t 851 || eqb t 852) ≡ true → isLeaf t ≡ false
+tag-node t h = go (eqb t 851) (eqb t 852) refl refl h
+  where
+    go : (a b : Bool) → eqb t 851 ≡ a → eqb t 852 ≡ b → (a || b) ≡ true → isLeaf t ≡ false
+    go true b x y z = rw (eqb-true t 851 x)
+    go false true x y z = rw (eqb-true t 852 y)
+    go false false x y z = absurd (clash cc)
+
+tag-heading : (t : ℕ) (ws o ds : List ℕ) (p e : ℕ) (r : List ℕ) → (eqb t 851 || eqb t 852) ≡ true → read (own pred t) ws ≡ head o ds p e r → Heading o ds p e
+tag-heading t ws o ds p e r h q = read-heading ws o ds p e r (rw (tag-own t h) at q)
 
 one-kid : {d : ℕ} {ks : Forms} → OkAll d (pred ∷ []) ks → (b : Form) × (ks ≡ more b none) × Ok d pred b
 one-kid (ok-more {f = f} h ok-none) = (f, refl, h)

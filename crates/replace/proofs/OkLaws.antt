@@ -1,0 +1,75 @@
+-- Well-formed trees: at a greater depth, after a walk that puts small numbers, and with some names of a quantifier left out. Assumes nothing.
+use mathlib.Core.Path.{_≡_, refl, ap, sym, _∙_}
+use mathlib.Core.Bool.{Bool, true, false, _&&_, _||_}
+use mathlib.Core.List.{List, [], _∷_, _++_}
+use Prim.Native.Nat.{ℕ, zero, suc, _+_, _≤_}
+use native.Mathlib.Omega.{arith}
+use borrow.Author.Tests.{le-leb}
+use lib.Dec.{leb, eqb}
+use lib.ListN.{length}
+use Rattle.form.specs.Form.{Leaf, free, bound, Form, leaf, node, Forms, none, more, between}
+use Rattle.form.specs.Tag.{Sort, expr, pred, own, sorts}
+use Rattle.form.specs.Decode.{Head, head, bad, addName, only, names, read, isLeaf}
+use Rattle.form.proofs.DecodeLaws.{clash, Ok, ok-free, ok-bound, ok-node, OkAll, ok-none, ok-more}
+use Rattle.subst.specs.Walk.{Binding, inside, outside, binding, Outer, named, dangling, walkIndex, walk, walkAll, collectIndex, collect, each, eachAll}
+use Rattle.subst.proofs.WalkLaws.{and-left, and-right}
+use Rattle.subst.proofs.LimitLaws.{fineLeaf}
+
+-- a form within one depth is within a greater one
+mutual
+  pub ok-deep : {d : ℕ} {s : Sort} {f : Form} → Ok d s f → (e : ℕ) → d ≤ e → Ok e s f
+  ok-deep (ok-free h) zero l = absurd (omega arith)
+  ok-deep (ok-free h) (suc e) l = ok-free h
+  ok-deep (ok-bound h) zero l = absurd (omega arith)
+  ok-deep (ok-bound h) (suc e) l = ok-bound h
+  ok-deep (ok-node t h k) zero l = absurd (omega arith)
+  ok-deep (ok-node t h k) (suc e) l = ok-node t h (ok-deepAll k e (omega arith))
+
+  ok-deepAll : {d : ℕ} {ss : List Sort} {fs : Forms} → OkAll d ss fs → (e : ℕ) → d ≤ e → OkAll e ss fs
+  ok-deepAll ok-none e l = ok-none
+  ok-deepAll (ok-more h k) e l = ok-more (ok-deep h e l) (ok-deepAll k e l)
+
+ok-leaf : (d : ℕ) (y : Leaf) → fineLeaf y ≡ true → Ok (suc d) expr (leaf y)
+ok-leaf d (free n) h = ok-free h
+ok-leaf d (bound n) h = ok-bound h
+
+-- a walk that puts a name or an index for each keeps a tree well-formed if the numbers are small
+module _ (act : ℕ → Outer → Form) (a : ℕ → Outer → Leaf) (e : (k : ℕ) (x : Outer) → act k x ≡ leaf (a k x)) where
+  abbrev fine : ℕ → Outer → Bool
+  fine k x = fineLeaf (a k x)
+
+  ok-index : (d k i : ℕ) (z : Binding) → between 0 65535 i ≡ true → collectIndex true fine k z ≡ true → Ok (suc d) expr (walkIndex act k i z)
+  ok-index d k i inside h g = ok-bound h
+  ok-index d k i (outside j) h g = rw (e k (dangling j)) (ok-leaf d (a k (dangling j)) g)
+
+  mutual
+    unfolding walk collect
+
+    pub ok-walk : {d : ℕ} {s : Sort} {f : Form} → Ok d s f → (k : ℕ) → each fine k f ≡ true → Ok d s (walk act k f)
+    ok-walk (ok-free {d = d} {n = n} h) k g = rw (e k (named n)) (ok-leaf d (a k (named n)) g)
+    ok-walk (ok-bound {d = d} {n = n} h) k g = ok-index d k n (binding k n) h g
+    ok-walk (ok-node {ds = ds} l h w) k g = ok-node l h (ok-walkAll w (length ds + k) g)
+
+    ok-walkAll : {d : ℕ} {ss : List Sort} {fs : Forms} → OkAll d ss fs → (k : ℕ) → eachAll fine k fs ≡ true → OkAll d ss (walkAll act k fs)
+    ok-walkAll ok-none k g = ok-none
+    ok-walkAll (ok-more {f = f} {fs = fs} h w) k g = ok-more (ok-walk h k (and-left (each fine k f) (eachAll fine k fs) g)) (ok-walkAll w k (and-right (each fine k f) (eachAll fine k fs) g))
+
+-- names of declarations
+abbrev pub areNames : List ℕ → Bool
+areNames [] = true
+areNames (n ∷ ns) = between 0 65535 n && areNames ns
+
+name-good : (b c : Bool) (w : ℕ) (h : Head) (o ds : List ℕ) (p e : ℕ) (r : List ℕ) → only b (addName w h) ≡ head o ds p e r
+    → ((o′ ds′ : List ℕ) (p′ e′ : ℕ) (r′ : List ℕ) → h ≡ head o′ ds′ p′ e′ r′ → c ≡ true) → (b && c) ≡ true
+name-good true c w (head o′ ds′ p′ e′ r′) o ds p e r q k = k o′ ds′ p′ e′ r′ refl
+name-good true c w bad o ds p e r q k = absurd (clash cc)
+name-good false c w h o ds p e r q k = absurd (clash cc)
+
+pub names-good : (ns ws o ds : List ℕ) (p′ e′ p e : ℕ) (r : List ℕ) → names (length ns) p′ e′ (ns ++ ws) ≡ head o ds p e r → areNames ns ≡ true
+names-good [] ws o ds p′ e′ p e r q = refl
+names-good (n ∷ ns) ws o ds p′ e′ p e r q =
+    name-good (between 0 65535 n) (areNames ns) n (names (length ns) p′ e′ (ns ++ ws)) o ds p e r q (λ o″ ds″ p″ e″ r″ h. names-good ns ws o″ ds″ p′ e′ p″ e″ r″ h)
+
+pub names-made : (ns ws : List ℕ) (p e : ℕ) → areNames ns ≡ true → names (length ns) p e (ns ++ ws) ≡ head [] ns p e ws
+names-made [] ws p e h = refl
+names-made (n ∷ ns) ws p e h = rw (and-left (between 0 65535 n) (areNames ns) h, names-made ns ws p e (and-right (between 0 65535 n) (areNames ns) h))
