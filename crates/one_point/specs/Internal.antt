@@ -3,3 +3,4 @@ pub mod Sides
 pub mod Writes
 pub mod Parts
 pub mod Scans
+pub mod Rest
