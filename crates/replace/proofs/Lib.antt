@@ -10,4 +10,5 @@ pub mod NameLaws
 pub mod QuantLaws
 pub mod FillLaws
 pub mod PruneLaws
+pub mod ReadyLaws
 pub mod TreeLaws
