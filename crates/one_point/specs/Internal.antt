@@ -4,3 +4,4 @@ pub mod Writes
 pub mod Parts
 pub mod Scans
 pub mod Rest
+pub mod Reduce
