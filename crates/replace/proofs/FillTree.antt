@@ -88,7 +88,7 @@ abbrev pub lowPlace : (Form → Form) → Place → Place
 lowPlace low kept = kept
 lowPlace low (filled x) = filled (low x)
 
-low-words : (low : Form → Form) (ps : List Place) → map wordFor (map (lowPlace low) ps) ≡ map wordFor ps
+pub low-words : (low : Form → Form) (ps : List Place) → map wordFor (map (lowPlace low) ps) ≡ map wordFor ps
 low-words low [] = refl
 low-words low (kept ∷ ps) = ap (λ z. 0 ∷ z) (low-words low ps)
 low-words low (filled x ∷ ps) = ap (λ z. 1 ∷ z) (low-words low ps)
@@ -230,10 +230,12 @@ module _ (dn : ℕ) (low : Form → Form) (t : Table) (list lm : List ℕ) (ps :
       go true q = far k j (leb-true (t .n) j q)
       go false q = near k j (tight-depth 2048 k (dangling j) h) few (leb-false (t .n) j q)
 
-  pub fill-tree-down : t .n ≤ 32 → {d : ℕ} {s : Sort} {f : Form} → d ≤ 64 → Ok d s f → rewritten (planned (downPlan dn t) list lm) (itemsOf (t .n) f) ≡ encode (subst (fillFor (map (lowPlace low) ps)) f)
-  fill-tree-down few {d} {s} {f} deep ok =
-      (rw zero-add at (walk-items-in (t .n) (planned (downPlan dn t) list lm) fillMoved fill-plain fill-leaf 0 f))
-      ∙ ap encode (walk-agree (tight 2048) fillMoved (put (fillFor qs)) (fill-agree few) 0 f (ok-tight ok 2048 0 (omega arith)))
+  -- k more declarations are open inside
+  pub fill-tree-down : t .n ≤ 32 → (k : ℕ) {d : ℕ} {s : Sort} {f : Form} → k + 32 * d ≤ 2048 → Ok d s f
+      → rewritten (planned (downPlan dn t) list lm) (itemsOf (k + t .n) f) ≡ encode (walk (put (fillFor (map (lowPlace low) ps))) k f)
+  fill-tree-down few k {d} {s} {f} deep ok =
+      walk-items-in (t .n) (planned (downPlan dn t) list lm) fillMoved fill-plain fill-leaf k f
+      ∙ ap encode (walk-agree (tight 2048) fillMoved (put (fillFor qs)) (fill-agree few) k f (ok-tight ok 2048 k deep))
 
 -- every index that dangles in a place's expression is at least dn
 abbrev pub Above : ℕ → Place → Type 0
@@ -245,14 +247,14 @@ module _ (t : Table) (list lm : List ℕ) (ps : List Place) (words : take (t .n)
     (placed : (i : ℕ) → i < length ps → PlaceAt (Unit {0}) list lm (getD (t .starts) i 0) (getD (t .ends) i 0) (getD ps i kept)) where
   pub fill-tree : t .n ≤ 32 → {d : ℕ} {s : Sort} {f : Form} → d ≤ 64 → Ok d s f → rewritten (planned (fillPlan t) list lm) (itemsOf (t .n) f) ≡ encode (subst (fillFor ps) f)
   fill-tree few deep ok =
-      rw (low-same ps) at
-      (fill-tree-down 0 (λ x. x) t list lm ps words count placed (λ i h. small-moves list lm (getD (t .starts) i 0) (getD (t .ends) i 0) (getD ps i kept) (placed i h)) few deep ok)
+      rw (zero-add, low-same ps) at
+      (fill-tree-down 0 (λ x. x) t list lm ps words count placed (λ i h. small-moves list lm (getD (t .starts) i 0) (getD (t .ends) i 0) (getD ps i kept) (placed i h)) few 0 (omega arith) ok)
 
   above-moves : (dn s e : ℕ) (p : Place) → PlaceAt (Unit {0}) list lm s e p → Above dn p → Moves dn (lower dn) p
   above-moves dn s e kept h a = tt
   above-moves dn s e (filled x) h a = λ u l. moved-lower u dn x l (h .1) a
 
-  pub fill-tree-lower : (dn : ℕ) → ((i : ℕ) → i < length ps → Above dn (getD ps i kept)) → t .n ≤ 32 → {d : ℕ} {s : Sort} {f : Form} → d ≤ 64 → Ok d s f
-      → rewritten (planned (downPlan dn t) list lm) (itemsOf (t .n) f) ≡ encode (subst (fillFor (map (lowPlace (lower dn)) ps)) f)
-  fill-tree-lower dn above few deep ok =
-      fill-tree-down dn (lower dn) t list lm ps words count placed (λ i h. above-moves dn (getD (t .starts) i 0) (getD (t .ends) i 0) (getD ps i kept) (placed i h) (above i h)) few deep ok
+  pub fill-tree-lower : (dn : ℕ) → ((i : ℕ) → i < length ps → Above dn (getD ps i kept)) → t .n ≤ 32 → (k : ℕ) {d : ℕ} {s : Sort} {f : Form} → k + 32 * d ≤ 2048 → Ok d s f
+      → rewritten (planned (downPlan dn t) list lm) (itemsOf (k + t .n) f) ≡ encode (walk (put (fillFor (map (lowPlace (lower dn)) ps))) k f)
+  fill-tree-lower dn above few k deep ok =
+      fill-tree-down dn (lower dn) t list lm ps words count placed (λ i h. above-moves dn (getD (t .starts) i 0) (getD (t .ends) i 0) (getD ps i kept) (placed i h) (above i h)) few k deep ok
