@@ -1,20 +1,15 @@
 -- What a part of the list row becomes where it comes to stand: the words saturate, and within the limits they never do. Assumes nothing.
 use mathlib.Core.Path.{_≡_, refl, ap, sym, _∙_}
-use mathlib.Core.Bool.{Bool, true, false, _&&_}
-use mathlib.Core.List.{List, [], _∷_, _++_}
-use Prim.Native.Nat.{ℕ, zero, suc, _+_, _-_, _*_, _≤_, _<_}
+use mathlib.Core.Bool.{true}
+use Prim.Native.Nat.{ℕ, _+_, _-_, _≤_, _<_}
 use native.Mathlib.Omega.{arith}
-use borrow.Author.Tests.{le-leb, leb-true, ltb-true}
+use borrow.Author.Tests.{leb-true, ltb-true}
 use lib.Dec.{leb, ltb}
-use lib.ListN.{length, take}
-use Rattle.form.specs.Form.{Leaf, free, bound, Form, leaf, Forms, between, encode}
-use Rattle.form.specs.Tag.{Sort}
-use Rattle.form.proofs.DecodeLaws.{Ok, ok-free, ok-bound, ok-node, OkAll, ok-none, ok-more}
-use Rattle.form.proofs.HeadLaws.{few-names}
-use Rattle.subst.specs.Walk.{Binding, inside, outside, binding, Outer, named, dangling, walk, up, lift, put, collectIndex, collect, each, eachAll}
+use Rattle.form.specs.Form.{bound, Form, leaf, encode}
+use Rattle.subst.specs.Walk.{Outer, named, dangling, walk, up, lift, put, each}
 use Rattle.subst.specs.Shift.{reaches, fall, lower}
-use Rattle.subst.specs.Internal.Items.{items, rewritten, movedWords, moveWord}
-use Rattle.subst.proofs.WalkLaws.{binding-back, binding-add, and-left, and-right, fuse-level, each-agree, walk-agree}
+use Rattle.subst.specs.Internal.Items.{rewritten, movedWords, moveWord}
+use Rattle.subst.proofs.WalkLaws.{binding-add, and-left, and-right, fuse-level, each-agree, walk-agree}
 use Rattle.subst.proofs.LimitLaws.{small, tight}
 use Rattle.subst.proofs.ShiftLaws.{inRange, down-range, moved, moved-leaf, moved-word, between-high}
 use Rattle.subst.proofs.RowLaws.{itemsOf, walk-items}

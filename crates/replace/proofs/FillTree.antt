@@ -6,9 +6,9 @@ use Prim.Native.Nat.{ℕ, zero, suc, _+_, _-_, _*_, _≤_, _<_}
 use native.Mathlib.Nat.{zero-add, add-zero}
 use native.Mathlib.Numerals.{add-one}
 use native.Mathlib.Omega.{arith}
-use borrow.Author.Tests.{le-leb, lt-leb, leb-true, leb-false, lt-ltb, le-ltb}
+use borrow.Author.Tests.{leb-true, leb-false, lt-ltb, le-ltb}
 use lib.Dec.{leb, eqb}
-use lib.ListN.{length, getD, take, drop, length-map, length-drop, length-append, length-reverse, List·getD-map}
+use lib.ListN.{length, getD, take, drop, length-map, length-drop, length-reverse, List·getD-map}
 use lib.Seq.{getD-take, split-at}
 use Rattle.form.specs.Form.{Leaf, free, bound, Form, leaf, pick, encode}
 use Rattle.form.specs.Tag.{Sort}
@@ -21,12 +21,12 @@ use Rattle.subst.specs.Internal.Items.{wordsOf, rewritten}
 use Rattle.subst.specs.declared.items.Item.{Item}
 use Rattle.subst.specs.declared.items.Item.the-variants.{Plain, Ident}
 use Rattle.subst.proofs.WalkLaws.{binding-inside, binding-back, shift-shift, walk-agree}
-use Rattle.subst.proofs.LimitLaws.{small, tight, ok-tight}
+use Rattle.subst.proofs.LimitLaws.{tight, ok-tight}
 use Rattle.subst.proofs.ShiftLaws.{moved}
 use Rattle.subst.proofs.RowLaws.{identOf, itemsOf, walk-items-in}
 use Rattle.replace.specs.Fill.{keptCount, fillIndex, fillFor}
-use Rattle.replace.specs.Internal.Pieces.{part, pieceWords, filledWords, placePiece, fillPiece, pieceOf, planned, fillPlan}
-use Rattle.replace.specs.declared.pieces.Piece.the-variants.{Same, Index, Part}
+use Rattle.replace.specs.Internal.Pieces.{pieceWords, filledWords, placePiece, fillPiece, pieceOf, planned, fillPlan}
+use Rattle.replace.specs.declared.pieces.Piece.the-variants.{Index, Part}
 use Rattle.replace.specs.declared.pieces.Plan.{Plan}
 use Rattle.replace.proofs.EntryLaws.{PlaceAt}
 use Rattle.replace.proofs.ActionLaws.{tight-depth, moved-words, moved-lift, moved-lower}
