@@ -14,3 +14,4 @@ pub mod ImpliesLaws
 pub mod ChildrenLaws
 pub mod JunctionLaws
 pub mod NodeLaws
+pub mod PartialLaws
