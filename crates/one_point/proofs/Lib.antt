@@ -15,3 +15,5 @@ pub mod ChildrenLaws
 pub mod JunctionLaws
 pub mod NodeLaws
 pub mod PartialLaws
+pub mod RestLaws
+pub mod ReduceLaws

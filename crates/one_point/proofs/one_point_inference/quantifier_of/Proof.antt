@@ -1,3 +1,14 @@
+-- `one_point::one_point_inference::quantifier_of` meets its contract. Assumes nothing.
+use mathlib.Core.Path.{_≡_, refl, sym, ap, _∙_}
+use mathlib.Core.List.{List, _++_}
+use Prim.Native.Nat.{ℕ, _+_, _-_, _≤_}
+use native.Mathlib.Omega.{arith}
+use borrow.Author.Needs.{needs}
+use borrow.Author.Tests.{eq-eqb, ne-eqb}
+use lib.ListN.{length, getD, take, drop, set, length-set, length-take, length-drop}
+use lib.Seq.{length-take-le}
+use Rattle.subst.proofs.CheckedLaws.{refused, passed}
+use Rattle.one_point.proofs.ReduceLaws.{head-none, head-of, head-word}
 use borrow.Author.Needs.{needs}
 use Rattle.one_point.proofs.one_point_inference.quantifier_of.Statement.{statement}
 use Rattle.one_point.proofs.one_point_inference.quantifier_of.Tie as tie
@@ -5,21 +16,17 @@ use Rattle.one_point.proofs.one_point_inference.quantifier_of.Reads as 
 use Rattle.one_point.proofs.one_point_inference.quantifier_of.Lts as lts
 use Rattle.replace.proofs.fill.declared.Reads as declared-reads
 
--- src/one_point_inference.rt:22:9
 declared-requires : tie.Need-declared-requires
 declared-requires c κs = search needs
 
--- src/one_point_inference.rt:24:9
 returns : tie.Need-returns
-returns c = ?
+returns c = head-none _ _ (c .before .declared .ensures) (c .if1 .taken)
 
--- src/one_point_inference.rt:26:20
 shared-slice-read-t5 : tie.Need-shared-slice-read-t5
-shared-slice-read-t5 c = ?
+shared-slice-read-t5 c = let h = head-word (c .before .before .before .before .args .row .now) _ (c .before .before .declared .ensures) (c .before .if1 .left) in omega arith
 
--- src/one_point_inference.rt:19:1
 returns-2 : tie.Need-returns-2
-returns-2 c = ?
+returns-2 c = head-of _ _ (c .before .before .declared .ensures) (c .before .if1 .left)
 
 pub quantifier-of-spec : {M : Type 1} → statement M
 quantifier-of-spec = tie.close (tie.spec declared-requires returns shared-slice-read-t5 returns-2)

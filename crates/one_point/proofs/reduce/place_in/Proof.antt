@@ -1,3 +1,14 @@
+-- `one_point::reduce::place_in` meets its contract. Assumes nothing.
+use mathlib.Core.Path.{_≡_, refl, sym, ap, _∙_}
+use mathlib.Core.List.{List, [], _++_}
+use Prim.Native.Nat.{ℕ, _+_, _-_, _≤_}
+use native.Mathlib.Omega.{arith}
+use borrow.Author.Needs.{needs}
+use borrow.Author.Tests.{eq-eqb, ne-eqb}
+use lib.ListN.{length, getD, take, drop, set, length-set, length-take, length-drop}
+use lib.Seq.{length-take-le}
+use Rattle.subst.proofs.CheckedLaws.{refused, passed}
+use Rattle.one_point.proofs.ReduceLaws.{told-marks, told-not-bad, resting, placed-row}
 use borrow.Author.Needs.{needs}
 use Rattle.one_point.proofs.reduce.place_in.Statement.{statement}
 use Rattle.one_point.proofs.reduce.place_in.Tie as tie
@@ -6,53 +17,41 @@ use Rattle.one_point.proofs.reduce.place_in.Lts as lts
 use Rattle.form.proofs.reader.mark_pred.Reads as mark-pred-reads
 use Rattle.one_point.proofs.rest.put_rest.Reads as put-rest-reads
 
--- src/reduce.rt:33:56
 add-mark-pred : tie.Need-add-mark-pred
 add-mark-pred c = search needs
 
--- src/reduce.rt:33:26
 mark-pred-requires : tie.Need-mark-pred-requires
 mark-pred-requires c κs = search needs
 
--- src/reduce.rt:33:19
 enum-known-end : tie.Need-enum-known-end
 enum-known-end c = search needs
 
--- src/reduce.rt:34:9
 enum-told : tie.Need-enum-told
 enum-told c = search needs
 
--- src/reduce.rt:34:9
 same-length : tie.Need-same-length
 same-length c = search needs
 
--- src/reduce.rt:34:9
 returns : tie.Need-returns
-returns c = ?
+returns c = absurd (told-not-bad _ (c .before .before .before .before .before .before .before .before .before .before .before .before .pre .0 .form) _ [] _ _ _ (c .before .before .before .before .before .before .before .before .before .before .before .before .pre .0 .is-rest) (c .before .before .before .before .mark-pred .ensures) (c .enum-told .given .1))
 
--- src/reduce.rt:36:13
 sub-p : tie.Need-sub-p
 sub-p c = search needs
 
--- src/reduce.rt:36:13
 sub-p-2 : tie.Need-sub-p-2
 sub-p-2 c = search needs
 
--- src/reduce.rt:37:5
 put-rest-requires : tie.Need-put-rest-requires
-put-rest-requires c κs = ?
+put-rest-requires c κs = resting (c .before .before .before .before .before .before .before .before .before .before .before .before .before .before .before .args .tag) (c .before .before .before .before .before .before .before .before .before .before .before .before .before .before .before .args .names .now) (c .before .before .before .before .before .before .before .before .before .before .before .before .before .before .before .args .target) (c .before .before .before .before .before .before .before .before .before .before .before .before .before .before .before .args .part .now) (c .before .before .before .before .before .before .before .before .before .before .before .before .before .before .before .args .rest .now) (c .before .before .before .before .before .before .before .before .before .before .before .before .before .before .before .pre .0) _ _ refl (c .before .before .before .before .before .before .before .before .before .before .before .before .before .before .before .pre .1 .enough)
 
--- src/reduce.rt:19:1
 same-length-2 : tie.Need-same-length-2
 same-length-2 c = search needs
 
--- src/reduce.rt:19:1
 same-length-3 : tie.Need-same-length-3
 same-length-3 c = search needs
 
--- src/reduce.rt:19:1
 returns-2 : tie.Need-returns-2
-returns-2 c = ?
+returns-2 c = passed _ _ _ _ _ (placed-row (c .before .before .before .before .before .before .before .before .before .before .before .before .before .before .before .before .before .before .args .tag) (c .before .before .before .before .before .before .before .before .before .before .before .before .before .before .before .before .before .before .args .names .now) (c .before .before .before .before .before .before .before .before .before .before .before .before .before .before .before .before .before .before .args .target) (c .before .before .before .before .before .before .before .before .before .before .before .before .before .before .before .before .before .before .args .part .now) (c .before .before .before .before .before .before .before .before .before .before .before .before .before .before .before .before .before .before .args .rest .now) (c .before .before .before .before .before .before .before .before .before .before .before .before .before .before .before .before .before .before .pre .0) (c .before .before .before .before .before .before .before .before .before .before .before .before .before .before .before .before .before .before .args .part-marks .now) (c .before .before .before .before .before .before .before .before .before .before .before .before .before .before .before .before .before .before .pre .1) (c .before .before .before .before .before .before .before .before .before .before .before .before .before .before .before .before .before .before .args .marks .now) _ (c .before .before .before .before .before .before .before .before .before .before .before .before .before .before .before .before .before .before .pre .2) (told-marks _ (c .before .before .before .before .before .before .before .before .before .before .before .before .before .before .before .before .before .before .pre .0 .form) _ [] _ _ _ (c .before .before .before .before .before .before .before .before .before .before .before .before .before .before .before .before .before .before .pre .0 .is-rest) (c .before .before .before .before .before .before .before .before .before .before .mark-pred .ensures)) _ refl _) (c .before .before .put-rest .ensures)
 
 pub place-in-spec : {M : Type 1} → statement M
 place-in-spec =

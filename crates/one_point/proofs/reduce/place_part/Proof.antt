@@ -1,3 +1,14 @@
+-- `one_point::reduce::place_part` meets its contract. Assumes nothing.
+use mathlib.Core.Path.{_≡_, refl, sym, ap, _∙_}
+use mathlib.Core.List.{List, [], _++_}
+use Prim.Native.Nat.{ℕ, _+_, _-_, _≤_}
+use native.Mathlib.Omega.{arith}
+use borrow.Author.Needs.{needs}
+use borrow.Author.Tests.{eq-eqb, ne-eqb}
+use lib.ListN.{length, getD, take, drop, set, length-set, length-take, length-drop}
+use lib.Seq.{length-take-le}
+use Rattle.subst.proofs.CheckedLaws.{refused, passed}
+use Rattle.one_point.proofs.ReduceLaws.{told-marks, told-not-bad, marking-of}
 use borrow.Author.Needs.{needs}
 use Rattle.one_point.proofs.reduce.place_part.Statement.{statement}
 use Rattle.one_point.proofs.reduce.place_part.Tie as tie
@@ -6,39 +17,30 @@ use Rattle.one_point.proofs.reduce.place_part.Lts as lts
 use Rattle.form.proofs.reader.mark_expr.Reads as mark-expr-reads
 use Rattle.one_point.proofs.reduce.place_rest.Reads as place-rest-reads
 
--- src/reduce.rt:80:26
 mark-expr-requires : tie.Need-mark-expr-requires
 mark-expr-requires c κs = search needs
 
--- src/reduce.rt:80:19
 enum-known-end : tie.Need-enum-known-end
 enum-known-end c = search needs
 
--- src/reduce.rt:81:9
 enum-told : tie.Need-enum-told
 enum-told c = search needs
 
--- src/reduce.rt:81:9
 same-length : tie.Need-same-length
 same-length c = search needs
 
--- src/reduce.rt:81:9
 returns : tie.Need-returns
-returns c = ?
+returns c = absurd (told-not-bad 0 (c .before .before .before .before .before .before .before .before .before .before .before .pre .0 .by) _ [] _ _ _ (c .before .before .before .before .before .before .before .before .before .before .before .pre .0 .is-part) (c .before .before .before .before .mark-expr .ensures) (c .enum-told .given .1))
 
--- src/reduce.rt:83:5
 place-rest-requires : tie.Need-place-rest-requires
-place-rest-requires c κs = ?
+place-rest-requires c κs = (c .before .before .before .before .before .before .before .before .before .before .before .before .before .before .pre .0, marking-of (c .before .before .before .before .before .before .before .before .before .before .before .before .before .before .args .part .now) (c .before .before .before .before .before .before .before .before .before .before .before .before .before .before .args .part-marks .now) _ (c .before .before .before .before .before .before .before .before .before .before .before .before .before .before .pre .0 .by) (c .before .before .before .before .before .before .before .before .before .before .before .before .before .before .pre .1) (c .before .before .before .before .before .before .before .before .before .before .before .before .before .before .pre .0 .is-part) (told-marks 0 (c .before .before .before .before .before .before .before .before .before .before .before .before .before .before .pre .0 .by) _ [] _ _ _ (c .before .before .before .before .before .before .before .before .before .before .before .before .before .before .pre .0 .is-part) (c .before .before .before .before .before .before .before .mark-expr .ensures)) (c .before .before .before .before .before .before .before .mark-expr .kept .1 .0))
 
--- src/reduce.rt:67:1
 same-length-2 : tie.Need-same-length-2
 same-length-2 c = search needs
 
--- src/reduce.rt:67:1
 same-length-3 : tie.Need-same-length-3
 same-length-3 c = search needs
 
--- src/reduce.rt:67:1
 returns-2 : tie.Need-returns-2
 returns-2 c = search needs
 

@@ -1,36 +1,41 @@
+-- `one_point::reduce::rest_end` meets its contract. Assumes nothing.
+use mathlib.Core.Path.{_≡_, refl, sym, ap, _∙_}
+use mathlib.Core.List.{List, _++_}
+use Prim.Native.Nat.{ℕ, _+_, _-_, _≤_}
+use native.Mathlib.Omega.{arith}
+use borrow.Author.Needs.{needs}
+use borrow.Author.Tests.{eq-eqb, ne-eqb}
+use lib.ListN.{length, getD, take, drop, set, length-set, length-take, length-drop}
+use lib.Seq.{length-take-le}
+use Rattle.subst.proofs.CheckedLaws.{refused, passed}
+use Rattle.subst.proofs.ItemLaws.{not-yes, not-no}
+use Rattle.one_point.proofs.ReduceLaws.{first-word}
 use borrow.Author.Needs.{needs}
 use Rattle.one_point.proofs.reduce.rest_end.Statement.{statement}
 use Rattle.one_point.proofs.reduce.rest_end.Tie as tie
 use Rattle.one_point.proofs.reduce.rest_end.Reads as reads
 use Rattle.one_point.proofs.reduce.rest_end.Lts as lts
 
--- src/reduce.rt:118:9
 returns : tie.Need-returns
-returns c = ?
+returns c = (rw (not-yes (c .before .args .gone) (c .if1 .taken)), rw (not-yes (c .before .args .gone) (c .if1 .taken)))
 
--- src/reduce.rt:121:9
 slice-write-work : tie.Need-slice-write-work
 slice-write-work c = search needs
 
--- src/reduce.rt:122:9
 same-length : tie.Need-same-length
 same-length c = search needs
 
--- src/reduce.rt:122:9
 returns-2 : tie.Need-returns-2
-returns-2 c = ?
+returns-2 c = (rw (not-no (c .before .before .args .gone) (c .before .if1 .left)), rw (not-no (c .before .before .args .gone) (c .before .if1 .left), eq-eqb (c .before .before .args .tag) 852 (c .if2 .taken)) (first-word (c .before .before .args .work .now) _ (c .before .before .pre)))
 
--- src/reduce.rt:124:5
 slice-write-work-2 : tie.Need-slice-write-work-2
 slice-write-work-2 c = search needs
 
--- src/reduce.rt:112:1
 same-length-2 : tie.Need-same-length-2
 same-length-2 c = search needs
 
--- src/reduce.rt:112:1
 returns-3 : tie.Need-returns-3
-returns-3 c = ?
+returns-3 c = (rw (not-no (c .before .before .args .gone) (c .before .if1 .left)), rw (not-no (c .before .before .args .gone) (c .before .if1 .left), ne-eqb (c .before .before .args .tag) 852 (c .if2 .left)) (first-word (c .before .before .args .work .now) _ (c .before .before .pre)))
 
 pub rest-end-spec : {M : Type 1} → statement M
 rest-end-spec =

@@ -1,40 +1,43 @@
+-- `one_point::rest::inner_end` meets its contract. Assumes nothing.
+use mathlib.Core.Path.{_≡_, refl, sym, ap, _∙_}
+use mathlib.Core.List.{List, _++_}
+use Prim.Native.Nat.{ℕ, _+_, _-_, _≤_}
+use native.Mathlib.Omega.{arith}
+use borrow.Author.Needs.{needs}
+use borrow.Author.Tests.{eq-eqb, ne-eqb}
+use lib.ListN.{length, getD, take, drop, set, length-set, length-take, length-drop}
+use lib.Seq.{length-take-le}
+use Rattle.subst.proofs.CheckedLaws.{refused, passed}
+use Rattle.one_point.proofs.RestLaws.{inner-stay, inner-alone, inner-other, inner-joins}
 use borrow.Author.Needs.{needs}
 use Rattle.one_point.proofs.rest.inner_end.Statement.{statement}
 use Rattle.one_point.proofs.rest.inner_end.Tie as tie
 use Rattle.one_point.proofs.rest.inner_end.Reads as reads
 use Rattle.one_point.proofs.rest.inner_end.Lts as lts
 
--- src/rest.rt:21:9
 returns : tie.Need-returns
-returns c = ?
+returns c = inner-stay _ _ _ _ (c .if1 .taken)
 
--- src/rest.rt:24:9
 returns-2 : tie.Need-returns-2
-returns-2 c = ?
+returns-2 c = inner-alone _ _ _ _ (c .if2 .taken)
 
--- src/rest.rt:26:8
 shared-slice-read-if3 : tie.Need-shared-slice-read-if3
-shared-slice-read-if3 c = search needs
+shared-slice-read-if3 c = let s = c .before .before .before .pre .some in omega arith
 
--- src/rest.rt:27:9
 returns-3 : tie.Need-returns-3
-returns-3 c = ?
+returns-3 c = inner-other _ _ _ _ (c .if3 .taken)
 
--- src/rest.rt:29:10
 shared-slice-read-result : tie.Need-shared-slice-read-result
-shared-slice-read-result c = ?
+shared-slice-read-result c = let l = c .before .before .before .before .before .pre .long (c .before .if3 .left) in let f = c .before .before .before .before .before .pre .few (c .before .if3 .left) in omega arith
 
--- src/rest.rt:29:10
 cast-result : tie.Need-cast-result
-cast-result c = ?
+cast-result c = let l = c .before .before .before .before .before .pre .long (c .before .if3 .left) in let f = c .before .before .before .before .before .pre .few (c .before .if3 .left) in omega arith
 
--- src/rest.rt:29:5
 add-result : tie.Need-add-result
-add-result c = ?
+add-result c = let l = c .before .before .before .before .before .pre .long (c .before .if3 .left) in let f = c .before .before .before .before .before .pre .few (c .before .if3 .left) in omega arith
 
--- src/rest.rt:16:1
 returns-4 : tie.Need-returns-4
-returns-4 c = ?
+returns-4 c = inner-joins _ _ _ _ (c .before .before .before .before .if1 .left) (c .before .before .before .if2 .left) (c .before .if3 .left)
 
 pub inner-end-spec : {M : Type 1} → statement M
 inner-end-spec =

@@ -1,3 +1,15 @@
+-- `one_point::rest::put_rest` meets its contract. Assumes nothing.
+use mathlib.Core.Path.{_≡_, refl, sym, ap, _∙_}
+use mathlib.Core.List.{List, _++_}
+use Prim.Native.Nat.{ℕ, _+_, _-_, _≤_}
+use native.Mathlib.Omega.{arith}
+use borrow.Author.Needs.{needs}
+use borrow.Author.Tests.{eq-eqb, ne-eqb}
+use lib.ListN.{length, getD, take, drop, set, length-set, length-take, length-drop}
+use lib.Seq.{length-take-le}
+use Rattle.subst.proofs.CheckedLaws.{refused, passed}
+use Rattle.replace.proofs.BuildLaws.{built-fits}
+use Rattle.one_point.proofs.RestLaws.{inner-fits, start-low, head-room, rest-put}
 use borrow.Author.Needs.{needs}
 use Rattle.one_point.proofs.rest.put_rest.Statement.{statement}
 use Rattle.one_point.proofs.rest.put_rest.Tie as tie
@@ -9,117 +21,89 @@ use Rattle.one_point.proofs.rest.one_table.Reads as one-table-reads
 use Rattle.one_point.proofs.rest.write_head.Reads as write-head-reads
 use Rattle.replace.proofs.places.fill_places.Reads as fill-places-reads
 
--- src/rest.rt:89:13
 sub-n : tie.Need-sub-n
 sub-n c = search needs
 
--- src/rest.rt:90:31
 slice-aggregate-inner-end : tie.Need-slice-aggregate-inner-end
-slice-aggregate-inner-end c = ?
+slice-aggregate-inner-end c = sym (length-take-le _ _ (let w = c .before .before .before .before .before .before .before .pre .within in let h : c .before .before .before .before .before .before .before .args .p ≤ length (c .before .before .before .before .before .before .before .args .names .now) = omega arith in h))
 
--- src/rest.rt:90:51
 add-inner-end : tie.Need-add-inner-end
 add-inner-end c = search needs
 
--- src/rest.rt:90:44
 mul-inner-end : tie.Need-mul-inner-end
 mul-inner-end c = search needs
 
--- src/rest.rt:90:44
 sub-inner-end : tie.Need-sub-inner-end
 sub-inner-end c = search needs
 
--- src/rest.rt:90:44
 part-inner-end-start : tie.Need-part-inner-end-start
 part-inner-end-start c = search needs
 
--- src/rest.rt:90:44
 part-inner-end-end : tie.Need-part-inner-end-end
 part-inner-end-end c = search needs
 
--- src/rest.rt:90:9
 inner-end-requires : tie.Need-inner-end-requires
 inner-end-requires c κs = search needs
 
--- src/rest.rt:94:9
 slice-aggregate-write-head : tie.Need-slice-aggregate-write-head
-slice-aggregate-write-head c = ?
+slice-aggregate-write-head c = sym (length-take-le _ _ (let w = c .before .before .before .before .before .before .before .before .before .before .pre .within in let h : c .before .before .before .before .before .before .before .before .before .before .args .p ≤ length (c .before .before .before .before .before .before .before .before .before .before .args .names .now) = omega arith in h))
 
--- src/rest.rt:95:16
 add-write-head : tie.Need-add-write-head
 add-write-head c = search needs
 
--- src/rest.rt:95:9
 mul-write-head : tie.Need-mul-write-head
 mul-write-head c = search needs
 
--- src/rest.rt:95:9
 sub-write-head : tie.Need-sub-write-head
 sub-write-head c = search needs
 
--- src/rest.rt:95:9
 part-write-head-start : tie.Need-part-write-head-start
 part-write-head-start c = search needs
 
--- src/rest.rt:95:9
 part-write-head-end : tie.Need-part-write-head-end
 part-write-head-end c = search needs
 
--- src/rest.rt:96:15
 inner-start-requires : tie.Need-inner-start-requires
 inner-start-requires c κs = search needs
 
--- src/rest.rt:96:9
 mul-write-head-2 : tie.Need-mul-write-head-2
-mul-write-head-2 c = ?
+mul-write-head-2 c = let f = (inner-fits (c .before .before .before .before .before .before .before .before .before .before .before .before .args .tag) (c .before .before .before .before .before .before .before .before .before .before .before .before .args .body .now) _ _ (c .before .before .before .inner-end .result) (c .before .before .before .inner-end .ensures) (c .before .before .before .before .before .before .before .before .before .before .before .before .pre .inner)) in let a = f .0 in let b = f .1 in let d = f .2 in let s = c .inner-start .ensures in let l = start-low (c .before .before .before .inner-end .result) in omega arith
 
--- src/rest.rt:96:9
 sub-write-head-2 : tie.Need-sub-write-head-2
-sub-write-head-2 c = ?
+sub-write-head-2 c = let f = (inner-fits (c .before .before .before .before .before .before .before .before .before .before .before .before .args .tag) (c .before .before .before .before .before .before .before .before .before .before .before .before .args .body .now) _ _ (c .before .before .before .inner-end .result) (c .before .before .before .inner-end .ensures) (c .before .before .before .before .before .before .before .before .before .before .before .before .pre .inner)) in let a = f .0 in let b = f .1 in let d = f .2 in let s = c .inner-start .ensures in let l = start-low (c .before .before .before .inner-end .result) in omega arith
 
--- src/rest.rt:96:9
 part-write-head-start-2 : tie.Need-part-write-head-start-2
-part-write-head-start-2 c = ?
+part-write-head-start-2 c = let f = (inner-fits (c .before .before .before .before .before .before .before .before .before .before .before .before .args .tag) (c .before .before .before .before .before .before .before .before .before .before .before .before .args .body .now) _ _ (c .before .before .before .inner-end .result) (c .before .before .before .inner-end .ensures) (c .before .before .before .before .before .before .before .before .before .before .before .before .pre .inner)) in let a = f .0 in let b = f .1 in let d = f .2 in let s = c .inner-start .ensures in let l = start-low (c .before .before .before .inner-end .result) in omega arith
 
--- src/rest.rt:96:9
 part-write-head-end-2 : tie.Need-part-write-head-end-2
-part-write-head-end-2 c = ?
+part-write-head-end-2 c = let f = (inner-fits (c .before .before .before .before .before .before .before .before .before .before .before .before .args .tag) (c .before .before .before .before .before .before .before .before .before .before .before .before .args .body .now) _ _ (c .before .before .before .inner-end .result) (c .before .before .before .inner-end .ensures) (c .before .before .before .before .before .before .before .before .before .before .before .before .pre .inner)) in let a = f .0 in let b = f .1 in let d = f .2 in let s = c .inner-start .ensures in let l = start-low (c .before .before .before .inner-end .result) in omega arith
 
--- src/rest.rt:97:9
 slice-aggregate-write-head-2 : tie.Need-slice-aggregate-write-head-2
 slice-aggregate-write-head-2 c = search needs
 
--- src/rest.rt:92:9
 write-head-requires : tie.Need-write-head-requires
-write-head-requires c κs = ?
+write-head-requires c κs = (head-room (c .before .before .before .before .before .before .before .before .before .before .before .before .before .before .args .tag) (c .before .before .before .before .before .before .before .before .before .before .before .before .before .before .args .names .now) (c .before .before .before .before .before .before .before .before .before .before .before .before .before .before .args .p) (c .before .before .before .before .before .before .before .before .before .before .before .before .before .before .pre .within) (c .before .before .before .before .before .before .before .before .before .before .before .before .before .before .pre .few) (c .before .before .before .before .before .before .before .before .before .before .before .before .before .before .args .body .now) (c .before .before .before .before .before .before .before .before .before .before .before .before .before .before .pre .inner) (c .before .before .before .before .before .inner-end .result) (c .before .before .inner-start .result) (c .before .before .before .before .before .inner-end .ensures) (c .before .before .inner-start .ensures), omega arith)
 
--- src/rest.rt:100:9
 array-share-prefix-head : tie.Need-array-share-prefix-head
 array-share-prefix-head c = search needs
 
--- src/rest.rt:100:9
 slice-aggregate-fill-places : tie.Need-slice-aggregate-fill-places
-slice-aggregate-fill-places c = ?
+slice-aggregate-fill-places c = sym (length-take-le _ _ (built-fits (c .before .before .write-head .kept .1 .1 .1 .1 .0) refl (c .before .before .write-head .ensures .0)))
 
--- src/rest.rt:101:9
 one-table-requires : tie.Need-one-table-requires
 one-table-requires c κs = search needs
 
--- src/rest.rt:102:9
 cast-fill-places : tie.Need-cast-fill-places
 cast-fill-places c = search needs
 
--- src/rest.rt:99:5
 fill-places-requires : tie.Need-fill-places-requires
 fill-places-requires c κs = search needs
 
--- src/rest.rt:75:1
 same-length : tie.Need-same-length
 same-length c = search needs
 
--- src/rest.rt:75:1
 returns : tie.Need-returns
-returns c = ?
+returns c = passed _ _ _ _ _ (rest-put (c .before .before .before .before .before .before .before .before .before .before .before .before .before .before .before .before .before .before .before .before .before .before .args .names .now) (c .before .before .before .before .before .before .before .before .before .before .before .before .before .before .before .before .before .before .before .before .before .before .args .p) (c .before .before .before .before .before .before .before .before .before .before .before .before .before .before .before .before .before .before .before .before .before .before .pre .within) (c .before .before .before .before .before .before .before .before .before .before .before .before .before .before .before .before .before .before .before .before .before .before .pre .few) (c .before .before .before .before .before .before .before .before .before .before .before .before .before .before .before .before .before .before .before .before .before .before .args .part .now) (c .before .before .before .before .before .before .before .before .before .before .before .before .before .before .before .before .before .before .before .before .before .before .args .part-marks .now) (c .before .before .before .before .before .before .before .before .before .before .before .before .before .before .before .before .before .before .before .before .before .before .pre .marked) (c .before .before .before .before .before .before .before .before .before .before .before .before .before .before .before .before .before .before .before .before .before .before .args .tag) _ (c .before .before .before .before .one-table .result) (c .before .before .before .before .one-table .ensures) (c .before .before .before .before .before .before .before .before .before .before .before .before .before .inner-end .result) (c .before .before .before .before .before .before .before .before .before .before .inner-start .result) (c .before .before .before .before .before .before .before .before .before .before .inner-start .ensures) (c .before .before .before .before .before .before .before .before .before .before .before .before .before .before .before .before .before .before .before .before .before .before .args .body .now) _ _ (c .before .before .before .before .before .before .before .before .before .before .before .before .before .inner-end .ensures) (c .before .before .before .before .before .before .before .write-head .ensures .1)) (c .before .before .fill-places .ensures)
 
 pub put-rest-spec : {M : Type 1} → statement M
 put-rest-spec =

@@ -1,3 +1,14 @@
+-- `one_point::rest::write_head` meets its contract. Assumes nothing.
+use mathlib.Core.Path.{_≡_, refl, sym, ap, _∙_}
+use mathlib.Core.List.{List, _++_}
+use Prim.Native.Nat.{ℕ, _+_, _-_, _≤_}
+use native.Mathlib.Omega.{arith}
+use borrow.Author.Needs.{needs}
+use borrow.Author.Tests.{eq-eqb, ne-eqb}
+use lib.ListN.{length, getD, take, drop, set, length-set, length-take, length-drop}
+use lib.Seq.{length-take-le}
+use Rattle.subst.proofs.CheckedLaws.{refused, passed}
+use Rattle.one_point.proofs.RestLaws.{all-part, no-head, a-head}
 use borrow.Author.Needs.{needs}
 use Rattle.one_point.proofs.rest.write_head.Statement.{statement}
 use Rattle.one_point.proofs.rest.write_head.Tie as tie
@@ -5,49 +16,38 @@ use Rattle.one_point.proofs.rest.write_head.Reads as reads
 use Rattle.one_point.proofs.rest.write_head.Lts as lts
 use Rattle.one_point.proofs.writes.copy_part.Reads as copy-part-reads
 
--- src/rest.rt:47:9
 copy-part-requires : tie.Need-copy-part-requires
 copy-part-requires c κs = search needs
 
--- src/rest.rt:48:9
 copy-part-requires-2 : tie.Need-copy-part-requires-2
 copy-part-requires-2 c κs = search needs
 
--- src/rest.rt:49:9
 copy-part-requires-3 : tie.Need-copy-part-requires-3
 copy-part-requires-3 c κs = search needs
 
--- src/rest.rt:51:9
 same-length : tie.Need-same-length
 same-length c = search needs
 
--- src/rest.rt:51:9
 returns : tie.Need-returns
-returns c = ?
+returns c = (omega arith, no-head (c .before .before .before .before .before .before .before .before .before .before .before .before .before .before .before .before .before .args .tag) _ _ _ (c .before .before .before .before .before .before .before .before .before .before .before .before .before .before .before .before .before .args .head .now) _ _ _ _ _ _ (let r = c .before .before .before .before .before .before .before .before .before .before .before .before .before .before .before .before .before .pre .0 in omega arith) (rw (all-part (c .before .before .before .before .before .before .before .before .before .before .before .before .before .before .before .before .before .args .front .now)) at (c .before .before .before .before .before .before .before .before .before .before .before .copy-part .ensures .0)) (rw (all-part (c .before .before .before .before .before .before .before .before .before .before .before .before .before .before .before .before .before .args .stay .now)) at (c .before .before .before .before .before .before .before .copy-part2 .ensures .0)) (rw (all-part (c .before .before .before .before .before .before .before .before .before .before .before .before .before .before .before .before .before .args .inner .now)) at (c .before .before .before .copy-part3 .ensures .0)) (c .if1 .taken))
 
--- src/rest.rt:53:5
 slice-write-head : tie.Need-slice-write-head
 slice-write-head c = search needs
 
--- src/rest.rt:54:16
 sub-head : tie.Need-sub-head
 sub-head c = search needs
 
--- src/rest.rt:54:15
 cast-head : tie.Need-cast-head
 cast-head c = search needs
 
--- src/rest.rt:54:5
 slice-write-head-2 : tie.Need-slice-write-head-2
-slice-write-head-2 c = ?
+slice-write-head-2 c = let l = length-set (c .before .before .before .copy-part3 .last .1 .1 .1 .0) 0 (c .before .before .before .before .before .before .before .before .before .before .before .before .before .before .before .before .before .args .tag) in let k3 = c .before .before .before .copy-part3 .kept .1 .1 .1 .0 in let k2 = c .before .before .before .before .before .before .before .copy-part2 .kept .1 .1 .1 .0 in let k1 = c .before .before .before .before .before .before .before .before .before .before .before .copy-part .kept .1 .1 .1 .0 in let r = c .before .before .before .before .before .before .before .before .before .before .before .before .before .before .before .before .before .pre .0 in omega arith
 
--- src/rest.rt:42:1
 same-length-2 : tie.Need-same-length-2
-same-length-2 c = ?
+same-length-2 c = simp length-set (c .before .before .before .copy-part3 .kept .1 .1 .1 .0 ∙ (c .before .before .before .before .before .before .before .copy-part2 .kept .1 .1 .1 .0 ∙ c .before .before .before .before .before .before .before .before .before .before .before .copy-part .kept .1 .1 .1 .0))
 
--- src/rest.rt:42:1
 returns-2 : tie.Need-returns-2
-returns-2 c = ?
+returns-2 c = (let a = c .before .before .before .before .before .before .before .before .before .before .before .copy-part .ensures .1 in let b = c .before .before .before .before .before .before .before .copy-part2 .ensures .1 in let d = c .before .before .before .copy-part3 .ensures .1 in let r = c .before .before .before .before .before .before .before .before .before .before .before .before .before .before .before .before .before .pre .0 in let m = c .before .before .before .before .before .before .before .before .before .before .before .before .before .before .before .before .before .pre .1 in omega arith, a-head (c .before .before .before .before .before .before .before .before .before .before .before .before .before .before .before .before .before .args .tag) _ _ _ (c .before .before .before .before .before .before .before .before .before .before .before .before .before .before .before .before .before .args .head .now) _ _ _ _ _ _ (let r = c .before .before .before .before .before .before .before .before .before .before .before .before .before .before .before .before .before .pre .0 in omega arith) (rw (all-part (c .before .before .before .before .before .before .before .before .before .before .before .before .before .before .before .before .before .args .front .now)) at (c .before .before .before .before .before .before .before .before .before .before .before .copy-part .ensures .0)) (rw (all-part (c .before .before .before .before .before .before .before .before .before .before .before .before .before .before .before .before .before .args .stay .now)) at (c .before .before .before .before .before .before .before .copy-part2 .ensures .0)) (rw (all-part (c .before .before .before .before .before .before .before .before .before .before .before .before .before .before .before .before .before .args .inner .now)) at (c .before .before .before .copy-part3 .ensures .0)) (c .before .before .before .copy-part3 .kept .1 .1 .1 .0 ∙ (c .before .before .before .before .before .before .before .copy-part2 .kept .1 .1 .1 .0 ∙ c .before .before .before .before .before .before .before .before .before .before .before .copy-part .kept .1 .1 .1 .0)) (c .if1 .left))
 
 pub write-head-spec : {M : Type 1} → statement M
 write-head-spec =
