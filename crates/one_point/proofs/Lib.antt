@@ -15,3 +15,4 @@ pub mod ChildrenLaws
 pub mod JunctionLaws
 pub mod NodeLaws
 pub mod PartialLaws
+pub mod ScanLimits
