@@ -16,3 +16,4 @@ pub mod JunctionLaws
 pub mod NodeLaws
 pub mod PartialLaws
 pub mod ScanLimits
+pub mod ReduceLaws
