@@ -15,5 +15,7 @@ pub mod ChildrenLaws
 pub mod JunctionLaws
 pub mod NodeLaws
 pub mod PartialLaws
-pub mod RestLaws
+pub mod ScanLimits
 pub mod ReduceLaws
+pub mod RestLaws
+pub mod PlaceLaws

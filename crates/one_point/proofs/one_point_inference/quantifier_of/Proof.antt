@@ -8,7 +8,7 @@ use borrow.Author.Tests.{eq-eqb, ne-eqb}
 use lib.ListN.{length, getD, take, drop, set, length-set, length-take, length-drop}
 use lib.Seq.{length-take-le}
 use Rattle.subst.proofs.CheckedLaws.{refused, passed}
-use Rattle.one_point.proofs.ReduceLaws.{head-none, head-of, head-word}
+use Rattle.one_point.proofs.PlaceLaws.{head-none, head-of, head-word}
 use borrow.Author.Needs.{needs}
 use Rattle.one_point.proofs.one_point_inference.quantifier_of.Statement.{statement}
 use Rattle.one_point.proofs.one_point_inference.quantifier_of.Tie as tie

@@ -8,7 +8,7 @@ use borrow.Author.Tests.{eq-eqb, ne-eqb}
 use lib.ListN.{length, getD, take, drop, set, length-set, length-take, length-drop}
 use lib.Seq.{length-take-le}
 use Rattle.subst.proofs.CheckedLaws.{refused, passed}
-use Rattle.one_point.proofs.ReduceLaws.{told-marks, told-not-bad, marking-of}
+use Rattle.one_point.proofs.PlaceLaws.{told-marks, told-not-bad, marking-of}
 use borrow.Author.Needs.{needs}
 use Rattle.one_point.proofs.reduce.place_part.Statement.{statement}
 use Rattle.one_point.proofs.reduce.place_part.Tie as tie

@@ -9,7 +9,7 @@ use lib.ListN.{length, getD, take, drop, set, length-set, length-take, length-dr
 use lib.Seq.{length-take-le}
 use Rattle.subst.proofs.CheckedLaws.{refused, passed}
 use Rattle.subst.proofs.ItemLaws.{not-yes, not-no}
-use Rattle.one_point.proofs.ReduceLaws.{first-word}
+use Rattle.one_point.proofs.PlaceLaws.{first-word}
 use borrow.Author.Needs.{needs}
 use Rattle.one_point.proofs.reduce.rest_end.Statement.{statement}
 use Rattle.one_point.proofs.reduce.rest_end.Tie as tie
