@@ -19,3 +19,4 @@ pub mod ScanLimits
 pub mod ReduceLaws
 pub mod RestLaws
 pub mod PlaceLaws
+pub mod PointLaws

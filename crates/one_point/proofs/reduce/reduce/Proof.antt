@@ -1,3 +1,14 @@
+-- `one_point::reduce::reduce` meets its contract. Assumes nothing.
+use mathlib.Core.Path.{_≡_, refl, sym, ap, _∙_}
+use mathlib.Core.List.{List, [], _++_}
+use Prim.Native.Nat.{ℕ, _+_, _-_, _≤_}
+use native.Mathlib.Omega.{arith}
+use borrow.Author.Needs.{needs}
+use borrow.Author.Tests.{eq-eqb, ne-eqb}
+use lib.ListN.{length, getD, take, drop, set, length-set, length-take, length-drop}
+use lib.Seq.{length-take-le}
+use Rattle.subst.proofs.CheckedLaws.{refused, passed}
+use Rattle.one_point.proofs.PointLaws.{scan-room, none-taken, took, part-in, stop-low, placing, placed-is}
 use borrow.Author.Needs.{needs}
 use Rattle.one_point.proofs.reduce.reduce.Statement.{statement}
 use Rattle.one_point.proofs.reduce.reduce.Tie as tie
@@ -7,69 +18,53 @@ use Rattle.one_point.proofs.reduce.place.Reads as place-reads
 use Rattle.one_point.proofs.reduce.rest_end.Reads as rest-end-reads
 use Rattle.one_point.proofs.scan.scan_pred.Reads as scan-pred-reads
 
--- src/reduce.rt:140:9
 scan-pred-requires : tie.Need-scan-pred-requires
-scan-pred-requires c κs = ?
+scan-pred-requires c κs = (scan-room (c .before .before .before .before .before .args .tag) (c .before .before .before .before .before .args .names .now) (c .before .before .before .before .before .args .body .now) _ (c .before .before .before .before .before .pre), c .before .before .before .before .before .pre .few)
 
--- src/reduce.rt:142:25
 enum-known-found : tie.Need-enum-known-found
 enum-known-found c = search needs
 
--- src/reduce.rt:143:9
 enum-told : tie.Need-enum-told
 enum-told c = search needs
 
--- src/reduce.rt:143:9
 same-length : tie.Need-same-length
 same-length c = search needs
 
--- src/reduce.rt:143:9
 returns : tie.Need-returns
-returns c = ?
+returns c = refused _ _ _ _ (none-taken (c .before .before .before .before .before .before .before .before .before .before .args .tag) (c .before .before .before .before .before .before .before .before .before .before .args .names .now) (c .before .before .before .before .before .before .before .before .before .before .args .body .now) _ (c .before .before .before .before .before .before .before .before .before .before .pre) (c .before .before .before .before .before .before .before .before .before .before .args .work .now) _ _ (c .before .before .before .before .scan-pred .ensures) (c .enum-told .given .1) _) refl
 
--- src/reduce.rt:145:9
 rest-end-requires : tie.Need-rest-end-requires
-rest-end-requires c κs = search needs
+rest-end-requires c κs = let k1 = c .before .before .before .before .before .before .scan-pred .kept .1 .1 .1 .1 .1 .0 in let e = c .before .before .before .before .before .before .before .before .before .before .before .before .pre .enough in omega arith
 
--- src/reduce.rt:146:31
 mul-place : tie.Need-mul-place
-mul-place c = ?
+mul-place c = let x = part-in (c .before .before .before .before .before .before .before .before .before .before .before .before .before .before .before .args .tag) (c .before .before .before .before .before .before .before .before .before .before .before .before .before .before .before .args .names .now) (c .before .before .before .before .before .before .before .before .before .before .before .before .before .before .before .args .body .now) _ (c .before .before .before .before .before .before .before .before .before .before .before .before .before .before .before .pre) (c .before .before .before .before .before .before .before .before .before .before .before .before .before .before .before .args .work .now) _ _ (c .before .before .before .before .before .before .before .before .before .scan-pred .ensures) _ _ _ (took (c .before .before .before .before .before .before .before .before .before .before .before .before .before .before .before .args .tag) (c .before .before .before .before .before .before .before .before .before .before .before .before .before .before .before .args .names .now) (c .before .before .before .before .before .before .before .before .before .before .before .before .before .before .before .args .body .now) _ (c .before .before .before .before .before .before .before .before .before .before .before .before .before .before .before .pre) (c .before .before .before .before .before .before .before .before .before .before .before .before .before .before .before .args .work .now) _ _ (c .before .before .before .before .before .before .before .before .before .scan-pred .ensures) _ _ _ (c .before .before .before .before .before .found .given .1)) in let y = x .0 in let z = x .1 in let d = c .before .before .before .before .before .before .before .before .before .before .before .before .before .before .before .pre .short in omega arith
 
--- src/reduce.rt:146:31
 sub-place : tie.Need-sub-place
-sub-place c = ?
+sub-place c = let x = part-in (c .before .before .before .before .before .before .before .before .before .before .before .before .before .before .before .args .tag) (c .before .before .before .before .before .before .before .before .before .before .before .before .before .before .before .args .names .now) (c .before .before .before .before .before .before .before .before .before .before .before .before .before .before .before .args .body .now) _ (c .before .before .before .before .before .before .before .before .before .before .before .before .before .before .before .pre) (c .before .before .before .before .before .before .before .before .before .before .before .before .before .before .before .args .work .now) _ _ (c .before .before .before .before .before .before .before .before .before .scan-pred .ensures) _ _ _ (took (c .before .before .before .before .before .before .before .before .before .before .before .before .before .before .before .args .tag) (c .before .before .before .before .before .before .before .before .before .before .before .before .before .before .before .args .names .now) (c .before .before .before .before .before .before .before .before .before .before .before .before .before .before .before .args .body .now) _ (c .before .before .before .before .before .before .before .before .before .before .before .before .before .before .before .pre) (c .before .before .before .before .before .before .before .before .before .before .before .before .before .before .before .args .work .now) _ _ (c .before .before .before .before .before .before .before .before .before .scan-pred .ensures) _ _ _ (c .before .before .before .before .before .found .given .1)) in let y = x .0 in let z = x .1 in let d = c .before .before .before .before .before .before .before .before .before .before .before .before .before .before .before .pre .short in omega arith
 
--- src/reduce.rt:146:31
 part-place-start : tie.Need-part-place-start
-part-place-start c = ?
+part-place-start c = let x = part-in (c .before .before .before .before .before .before .before .before .before .before .before .before .before .before .before .args .tag) (c .before .before .before .before .before .before .before .before .before .before .before .before .before .before .before .args .names .now) (c .before .before .before .before .before .before .before .before .before .before .before .before .before .before .before .args .body .now) _ (c .before .before .before .before .before .before .before .before .before .before .before .before .before .before .before .pre) (c .before .before .before .before .before .before .before .before .before .before .before .before .before .before .before .args .work .now) _ _ (c .before .before .before .before .before .before .before .before .before .scan-pred .ensures) _ _ _ (took (c .before .before .before .before .before .before .before .before .before .before .before .before .before .before .before .args .tag) (c .before .before .before .before .before .before .before .before .before .before .before .before .before .before .before .args .names .now) (c .before .before .before .before .before .before .before .before .before .before .before .before .before .before .before .args .body .now) _ (c .before .before .before .before .before .before .before .before .before .before .before .before .before .before .before .pre) (c .before .before .before .before .before .before .before .before .before .before .before .before .before .before .before .args .work .now) _ _ (c .before .before .before .before .before .before .before .before .before .scan-pred .ensures) _ _ _ (c .before .before .before .before .before .found .given .1)) in let y = x .0 in let z = x .1 in let d = c .before .before .before .before .before .before .before .before .before .before .before .before .before .before .before .pre .short in omega arith
 
--- src/reduce.rt:146:31
 part-place-end : tie.Need-part-place-end
-part-place-end c = ?
+part-place-end c = let x = part-in (c .before .before .before .before .before .before .before .before .before .before .before .before .before .before .before .args .tag) (c .before .before .before .before .before .before .before .before .before .before .before .before .before .before .before .args .names .now) (c .before .before .before .before .before .before .before .before .before .before .before .before .before .before .before .args .body .now) _ (c .before .before .before .before .before .before .before .before .before .before .before .before .before .before .before .pre) (c .before .before .before .before .before .before .before .before .before .before .before .before .before .before .before .args .work .now) _ _ (c .before .before .before .before .before .before .before .before .before .scan-pred .ensures) _ _ _ (took (c .before .before .before .before .before .before .before .before .before .before .before .before .before .before .before .args .tag) (c .before .before .before .before .before .before .before .before .before .before .before .before .before .before .before .args .names .now) (c .before .before .before .before .before .before .before .before .before .before .before .before .before .before .before .args .body .now) _ (c .before .before .before .before .before .before .before .before .before .before .before .before .before .before .before .pre) (c .before .before .before .before .before .before .before .before .before .before .before .before .before .before .before .args .work .now) _ _ (c .before .before .before .before .before .before .before .before .before .scan-pred .ensures) _ _ _ (c .before .before .before .before .before .found .given .1)) in let y = x .0 in let z = x .1 in let d = c .before .before .before .before .before .before .before .before .before .before .before .before .before .before .before .pre .short in omega arith
 
--- src/reduce.rt:146:50
 slice-reshare-prefix-place : tie.Need-slice-reshare-prefix-place
-slice-reshare-prefix-place c = ?
+slice-reshare-prefix-place c = let k1 = c .before .before .before .before .before .before .before .before .before .before .scan-pred .kept .1 .1 .1 .1 .1 .0 in let k2 = c .before .before .before .rest-end .kept .1 .1 .1 .0 in let e = c .before .before .before .before .before .before .before .before .before .before .before .before .before .before .before .before .pre .enough in let s = stop-low (c .before .before .before .before .before .before .before .before .before .before .before .before .before .before .before .before .args .tag) (c .before .before .before .before .before .before .before .before .before .before .before .before .before .before .before .before .args .names .now) (c .before .before .before .before .before .before .before .before .before .before .before .before .before .before .before .before .args .body .now) _ (c .before .before .before .before .before .before .before .before .before .before .before .before .before .before .before .before .pre) (c .before .before .before .before .before .before .before .before .before .before .before .before .before .before .before .before .args .work .now) _ _ (c .before .before .before .before .before .before .before .before .before .before .scan-pred .ensures) _ _ _ (took (c .before .before .before .before .before .before .before .before .before .before .before .before .before .before .before .before .args .tag) (c .before .before .before .before .before .before .before .before .before .before .before .before .before .before .before .before .args .names .now) (c .before .before .before .before .before .before .before .before .before .before .before .before .before .before .before .before .args .body .now) _ (c .before .before .before .before .before .before .before .before .before .before .before .before .before .before .before .before .pre) (c .before .before .before .before .before .before .before .before .before .before .before .before .before .before .before .before .args .work .now) _ _ (c .before .before .before .before .before .before .before .before .before .before .scan-pred .ensures) _ _ _ (c .before .before .before .before .before .before .found .given .1)) _ _ (c .before .before .before .rest-end .ensures .0) (c .before .before .before .rest-end .ensures .1) in omega arith
 
--- src/reduce.rt:146:50
 slice-aggregate-place : tie.Need-slice-aggregate-place
-slice-aggregate-place c = ?
+slice-aggregate-place c = sym (length-take-le _ _ (let k1 = c .before .before .before .before .before .before .before .before .before .before .before .scan-pred .kept .1 .1 .1 .1 .1 .0 in let k2 = c .before .before .before .before .rest-end .kept .1 .1 .1 .0 in let e = c .before .before .before .before .before .before .before .before .before .before .before .before .before .before .before .before .before .pre .enough in let s = stop-low (c .before .before .before .before .before .before .before .before .before .before .before .before .before .before .before .before .before .args .tag) (c .before .before .before .before .before .before .before .before .before .before .before .before .before .before .before .before .before .args .names .now) (c .before .before .before .before .before .before .before .before .before .before .before .before .before .before .before .before .before .args .body .now) _ (c .before .before .before .before .before .before .before .before .before .before .before .before .before .before .before .before .before .pre) (c .before .before .before .before .before .before .before .before .before .before .before .before .before .before .before .before .before .args .work .now) _ _ (c .before .before .before .before .before .before .before .before .before .before .before .scan-pred .ensures) _ _ _ (took (c .before .before .before .before .before .before .before .before .before .before .before .before .before .before .before .before .before .args .tag) (c .before .before .before .before .before .before .before .before .before .before .before .before .before .before .before .before .before .args .names .now) (c .before .before .before .before .before .before .before .before .before .before .before .before .before .before .before .before .before .args .body .now) _ (c .before .before .before .before .before .before .before .before .before .before .before .before .before .before .before .before .before .pre) (c .before .before .before .before .before .before .before .before .before .before .before .before .before .before .before .before .before .args .work .now) _ _ (c .before .before .before .before .before .before .before .before .before .before .before .scan-pred .ensures) _ _ _ (c .before .before .before .before .before .before .before .found .given .1)) _ _ (c .before .before .before .before .rest-end .ensures .0) (c .before .before .before .before .rest-end .ensures .1) in let h : c .before .before .before .before .rest-end .result ≤ length (c .before .before .before .before .rest-end .last .1 .1 .1 .0) = omega arith in h))
 
--- src/reduce.rt:146:5
 place-requires : tie.Need-place-requires
-place-requires c κs = ?
+place-requires c κs = placing (c .before .before .before .before .before .before .before .before .before .before .before .before .before .before .before .before .before .before .args .tag) (c .before .before .before .before .before .before .before .before .before .before .before .before .before .before .before .before .before .before .args .names .now) (c .before .before .before .before .before .before .before .before .before .before .before .before .before .before .before .before .before .before .args .body .now) _ (c .before .before .before .before .before .before .before .before .before .before .before .before .before .before .before .before .before .before .pre) (c .before .before .before .before .before .before .before .before .before .before .before .before .before .before .before .before .before .before .args .work .now) _ _ (c .before .before .before .before .before .before .before .before .before .before .before .before .scan-pred .ensures) _ _ _ (took (c .before .before .before .before .before .before .before .before .before .before .before .before .before .before .before .before .before .before .args .tag) (c .before .before .before .before .before .before .before .before .before .before .before .before .before .before .before .before .before .before .args .names .now) (c .before .before .before .before .before .before .before .before .before .before .before .before .before .before .before .before .before .before .args .body .now) _ (c .before .before .before .before .before .before .before .before .before .before .before .before .before .before .before .before .before .before .pre) (c .before .before .before .before .before .before .before .before .before .before .before .before .before .before .before .before .before .before .args .work .now) _ _ (c .before .before .before .before .before .before .before .before .before .before .before .before .scan-pred .ensures) _ _ _ (c .before .before .before .before .before .before .before .before .found .given .1)) _ _ (c .before .before .before .before .before .rest-end .ensures .0) (c .before .before .before .before .before .rest-end .ensures .1)
 
--- src/reduce.rt:129:1
 same-length-2 : tie.Need-same-length-2
 same-length-2 c = search needs
 
--- src/reduce.rt:129:1
 same-length-3 : tie.Need-same-length-3
 same-length-3 c = search needs
 
--- src/reduce.rt:129:1
 returns-2 : tie.Need-returns-2
-returns-2 c = ?
+returns-2 c = passed _ _ _ _ _ (placed-is (c .before .before .before .before .before .before .before .before .before .before .before .before .before .before .before .before .before .before .before .before .before .args .tag) (c .before .before .before .before .before .before .before .before .before .before .before .before .before .before .before .before .before .before .before .before .before .args .names .now) (c .before .before .before .before .before .before .before .before .before .before .before .before .before .before .before .before .before .before .before .before .before .args .body .now) _ (c .before .before .before .before .before .before .before .before .before .before .before .before .before .before .before .before .before .before .before .before .before .pre) (c .before .before .before .before .before .before .before .before .before .before .before .before .before .before .before .before .before .before .before .before .before .args .work .now) _ _ (c .before .before .before .before .before .before .before .before .before .before .before .before .before .before .before .scan-pred .ensures) _ _ _ (took (c .before .before .before .before .before .before .before .before .before .before .before .before .before .before .before .before .before .before .before .before .before .args .tag) (c .before .before .before .before .before .before .before .before .before .before .before .before .before .before .before .before .before .before .before .before .before .args .names .now) (c .before .before .before .before .before .before .before .before .before .before .before .before .before .before .before .before .before .before .before .before .before .args .body .now) _ (c .before .before .before .before .before .before .before .before .before .before .before .before .before .before .before .before .before .before .before .before .before .pre) (c .before .before .before .before .before .before .before .before .before .before .before .before .before .before .before .before .before .before .before .before .before .args .work .now) _ _ (c .before .before .before .before .before .before .before .before .before .before .before .before .before .before .before .scan-pred .ensures) _ _ _ (c .before .before .before .before .before .before .before .before .before .before .before .found .given .1)) _ _ (c .before .before .before .before .before .before .before .before .rest-end .ensures .0) (c .before .before .before .before .before .before .before .before .rest-end .ensures .1) _) (c .before .before .place .ensures)
 
 pub reduce-spec : {M : Type 1} → statement M
 reduce-spec =
