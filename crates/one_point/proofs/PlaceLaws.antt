@@ -1,29 +1,27 @@
 -- One point after the scan: the place that is filled, the rest of the body, and the whole call. Assumes nothing.
 use mathlib.Core.Path.{_≡_, refl, ap, sym, _∙_}
-use mathlib.Core.Bool.{Bool, true, false, _||_}
+use mathlib.Core.Bool.{true}
 use mathlib.Core.List.{List, [], _∷_, _++_, append-nil}
-use Prim.Native.Nat.{ℕ, zero, suc, _+_, _-_, _*_, _≤_, _<_}
+use Prim.Native.Nat.{ℕ, zero, suc, _+_, _-_, _≤_, _<_}
 use native.Mathlib.Nat.{zero-add}
 use native.Mathlib.Omega.{arith}
-use borrow.Author.Tests.{eq-eqb, ne-eqb, eqb-true, le-ltb, lt-ltb}
-use lib.Dec.{eqb, ltb}
-use lib.ListN.{length, getD, take, drop, set, replicate, length-append}
+use borrow.Author.Tests.{eq-eqb, ne-eqb, lt-ltb}
+use lib.ListN.{length, getD, take, drop, set, replicate}
 use lib.Seq.{drop-length}
-use Rattle.form.specs.Form.{Form, node, none, more, pick, encode}
+use Rattle.form.specs.Form.{Form, encode}
 use Rattle.form.specs.Tag.{expr, pred}
-use Rattle.form.specs.Decode.{Got, got, no-form, decode}
-use Rattle.form.specs.Answer.{Outcome, refusal, told, written, finish}
+use Rattle.form.specs.Decode.{Got, got, decode}
+use Rattle.form.specs.Answer.{finish}
 use Rattle.form.specs.Internal.Reads.{mark, Told}
 use Rattle.form.specs.declared.head.Step.{Step}
-use Rattle.form.specs.declared.head.Step.the-variants.{End, Bad}
-use Rattle.form.proofs.DecodeLaws.{clash, Ok, decode-encode, decode-sound}
+use Rattle.form.specs.declared.head.Step.the-variants.{Bad}
+use Rattle.form.proofs.DecodeLaws.{clash, Ok, decode-sound}
 use Rattle.subst.specs.Internal.Items.{items}
 use Rattle.subst.proofs.RowLaws.{itemsOf, marksOf}
 use Rattle.replace.specs.Internal.Pieces.{part as part-of, declaredIn}
 use Rattle.replace.proofs.QuantLaws.{Quant, quant-by-tag, quant-long}
 use Rattle.one_point.specs.Internal.Rest.{partialRow}
 use Rattle.one_point.specs.Internal.Reduce.{isQuantifier, quantifierIn, Inner, oneTable, Resting, placedForm, placedOutcome, Placing, Cleared, Marking}
-use Rattle.one_point.specs.declared.one_point_inference.Quantifier.{Quantifier}
 use Rattle.one_point.specs.declared.one_point_inference.Quantifier.the-variants.{Of, None}
 use Rattle.one_point.proofs.ViewLaws.{ok-deep}
 use Rattle.one_point.proofs.PartsLaws.{some-words}

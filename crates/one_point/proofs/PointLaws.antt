@@ -1,35 +1,34 @@
 -- One point: the scan of the body, the place it fills, and the whole call. Assumes nothing.
 use mathlib.Core.Path.{_≡_, refl, ap, sym, _∙_}
-use mathlib.Core.Bool.{Bool, true, false, _||_}
+use mathlib.Core.Bool.{Bool, true, false}
 use mathlib.Core.Option.{Option, none as absent, some}
 use mathlib.Core.List.{List, [], _∷_, _++_, append-nil}
-use Prim.Native.Nat.{ℕ, zero, suc, _+_, _-_, _*_, _≤_, _<_}
-use native.Mathlib.Nat.{zero-add}
+use Prim.Native.Nat.{ℕ, _+_, _-_, _≤_, _<_}
 use native.Mathlib.Omega.{arith}
-use borrow.Author.Tests.{le-leb, lt-leb}
+use borrow.Author.Tests.{le-leb, lt-leb, eqb-true, eqb-false}
 use lib.Dec.{eqb}
-use lib.ListN.{length, getD, take, drop, length-take, length-append}
+use lib.ListN.{length, getD, take, drop, length-take}
 use lib.Seq.{take-at, drop-at, drop-drop}
-use Rattle.form.specs.Form.{Form, node, none, pick, encode}
+use Rattle.form.specs.Form.{Form, pick, encode}
 use Rattle.form.specs.Tag.{Sort, expr, pred}
-use Rattle.form.specs.Decode.{Got, got, decode, missing, formOf}
-use Rattle.form.specs.Answer.{Outcome, refusal, told, checkOutcome, withForm, finish}
+use Rattle.form.specs.Decode.{got, decode}
+use Rattle.form.specs.Answer.{Outcome, refusal, told, checkOutcome}
 use Rattle.form.specs.declared.answer.Kind.the-variants.{Predicate}
 use Rattle.form.specs.declared.answer.Answer.{Answer}
-use Rattle.form.specs.declared.answer.Answer.the-variants.{Done, No}
+use Rattle.form.specs.declared.answer.Answer.the-variants.{No}
 use Rattle.form.proofs.DecodeLaws.{clash, Ok, decode-encode, decode-at}
 use Rattle.subst.proofs.CheckedLaws.{is-missing, too-long, no-form-there, form-there}
-use Rattle.replace.specs.Fill.{quantified, quantifier, other}
+use Rattle.replace.specs.Fill.{quantified, quantifier}
 use Rattle.replace.specs.Internal.Pieces.{declaredIn}
 use Rattle.replace.proofs.BuildLaws.{rest-part}
 use Rattle.replace.proofs.QuantLaws.{Quant, is-quant, not-quant, quant-count, quant-tag, quant-names, quant-long}
-use Rattle.one_point.specs.Replacement.{Taken, taken, nothing, above}
+use Rattle.one_point.specs.Replacement.{Taken, taken, nothing}
 use Rattle.one_point.specs.Scan.{Scan, scanned, scan}
 use Rattle.one_point.specs.Point.{polarity, restOf, reduce, reduceQuantified, onePoint, ofResult, pointOutcome}
 use Rattle.one_point.specs.Internal.Writes.{Wrote, leftWords, isGone}
 use Rattle.one_point.specs.Internal.Parts.{TookIs}
 use Rattle.one_point.specs.Internal.Scans.{Left, Became, Room, ScanTold}
-use Rattle.one_point.specs.Internal.Reduce.{isQuantifier, quantifierIn, placedForm, placedOutcome, Placing, emptyWord, bodyOutcome, Reducing}
+use Rattle.one_point.specs.Internal.Reduce.{quantifierIn, placedOutcome, Placing, emptyWord, bodyOutcome, Reducing}
 use Rattle.one_point.specs.declared.sides.Replacement.{Replacement}
 use Rattle.one_point.specs.declared.sides.Replacement.the-variants.{Is, Not}
 use Rattle.one_point.specs.declared.scan.Scanned.{Scanned}
@@ -198,3 +197,117 @@ module _ (t : ℕ) (ns body : List ℕ) (wl : ℕ) (h : Reducing t ns body wl) w
         pub placed-is : (room : ℕ) → placedOutcome t ns i (take (b - a) (drop a body)) (take stop work″) room ≡ bodyOutcome t ns body room
         unfolding placedOutcome
         placed-is room = rw (part-is, rest-is) (sym (outcome-is room (scanned (taken i (k .by)) (k .left)) (k .is)))
+
+-- the head of a row, taken apart
+module _ (row : List ℕ) where
+  no-head : quantifierIn row ≡ None → declaredIn row ≡ 0
+  unfolding quantifierIn
+  no-head e = go (eqb (declaredIn row) 0) refl e
+    where
+      go : (b : Bool) → eqb (declaredIn row) 0 ≡ b → pick b None (Of (getD row 0 0) (declaredIn row)) ≡ None → declaredIn row ≡ 0
+      go true q k = eqb-true (declaredIn row) 0 q
+      go false q k = absurd (clash cc)
+
+  a-head : (t n : ℕ) → quantifierIn row ≡ Of t n → (t ≡ getD row 0 0) × (n ≡ declaredIn row) × (0 < declaredIn row)
+  unfolding quantifierIn
+  a-head t n e = go (eqb (declaredIn row) 0) refl e
+    where
+      go : (b : Bool) → eqb (declaredIn row) 0 ≡ b → pick b None (Of (getD row 0 0) (declaredIn row)) ≡ Of t n → (t ≡ getD row 0 0) × (n ≡ declaredIn row) × (0 < declaredIn row)
+      go true q k = absurd (clash cc)
+      go false q k =
+          let x : t ≡ getD row 0 0 = cc in
+          let y : n ≡ declaredIn row = cc in
+          let z = eqb-false (declaredIn row) 0 q in
+          (x, y, omega (arith, z))
+
+-- the whole call
+abbrev pointGo : ℕ → Sort → Form → Outcome
+pointGo room s f = ofResult room (onePoint f)
+
+body-outcome : (t : ℕ) (ns body : List ℕ) (f : Form) (room : ℕ) → decode 63 pred body ≡ got f [] → bodyOutcome t ns body room ≡ ofResult room (reduceQuantified (quantifier t ns f))
+unfolding bodyOutcome
+body-outcome t ns body f room e = rw e
+
+quant-point : (g : Form) (t : ℕ) (ns : List ℕ) (f : Form) (room : ℕ) → quantified g ≡ quantifier t ns f → ofResult room (onePoint g) ≡ ofResult room (reduceQuantified (quantifier t ns f))
+unfolding onePoint
+quant-point g t ns f room e = rw e
+
+module _ (row : List ℕ) (wl room : ℕ) where
+  pub point-small : wl < 16384 → pointOutcome row wl room ≡ refusal 15
+  unfolding pointOutcome
+  point-small h = rw (lt-leb 16384 wl h)
+
+  module _ (enough : 16384 ≤ wl) where
+    pub point-long : 8192 < length row → pointOutcome row wl room ≡ refusal 1
+    unfolding pointOutcome
+    point-long h = rw (le-leb 16384 wl enough) (too-long Predicate row (pointGo room) h)
+
+    module _ (short : length row ≤ 8192) where
+      pub point-missing : (a : Answer) (k : ℕ) → a ≡ told (checkOutcome Predicate row) → a ≡ No k → pointOutcome row wl room ≡ refusal 2
+      unfolding pointOutcome
+      point-missing a k e n = rw (le-leb 16384 wl enough) (no-form-there Predicate row (pointGo room) short (is-missing Predicate row a k short e n))
+
+      module _ (x : PredRow row) where
+        point-read : pointOutcome row wl room ≡ ofResult room (onePoint (x .form))
+        unfolding pointOutcome
+        point-read = rw (le-leb 16384 wl enough) (form-there Predicate row (pointGo room) pred (x .form) short (x .is-found))
+
+        pub point-other : (q : Quantifier) → q ≡ quantifierIn row → q ≡ None → pointOutcome row wl room ≡ refusal 9
+        unfolding onePoint
+        point-other q e n = point-read ∙ rw (not-quant (x .ok) (ap declaredIn (sym (x .words)) ∙ no-head row (sym e ∙ n)))
+
+        module _ (q : Quantifier) (e : q ≡ quantifierIn row) (t n : ℕ) (is : q ≡ Of t n) where
+          headed : (t ≡ getD row 0 0) × (n ≡ declaredIn row) × (0 < declaredIn row)
+          headed = a-head row t n (sym e ∙ is)
+
+          quant : Quant (x .form)
+          quant = is-quant (x .ok) (rw (← x .words) (headed .2))
+
+          tag-is : t ≡ quant .tag
+          tag-is = headed .0 ∙ (ap (λ (l : List ℕ). getD l 0 0) (x .words) ∙ quant-tag (x .form) quant)
+
+          count-is : n ≡ length (quant .decls)
+          count-is = headed .1 ∙ (ap declaredIn (x .words) ∙ quant-count (x .form) quant)
+
+          pub point-fits : 2 + n ≤ length row
+          point-fits =
+              let c = count-is in
+              let l = quant-long (x .form) quant in
+              let w = ap length (x .words) in
+              omega arith
+
+          after-head : drop 2 row ≡ quant .decls ++ encode (quant .body)
+          after-head = ap (drop 2) (x .words) ∙ quant-names (x .form) quant
+
+          names-are : take (2 + n - 2) (drop 2 row) ≡ quant .decls
+          names-are = let m : 2 + n - 2 ≡ length (quant .decls) = let c = count-is in omega arith in rw (m, after-head) (take-at (quant .decls) (encode (quant .body)) (length (quant .decls)) refl)
+
+          body-is-row : take (length row - (2 + n)) (drop (2 + n) row) ≡ encode (quant .body)
+          body-is-row =
+              let d : drop (2 + n) row ≡ drop n (drop 2 row) = sym (drop-drop n 2 row) in
+              rest-part row (2 + n) ∙ (d ∙ rw after-head (drop-at (quant .decls) (encode (quant .body)) n (sym count-is)))
+
+          pub reducing : Reducing t (take (2 + n - 2) (drop 2 row)) (take (length row - (2 + n)) (drop (2 + n) row)) wl
+          reducing =
+              let m = quant .most in
+              let l = length-take (length row - (2 + n)) (drop (2 + n) row) in
+              record {
+                which = rw tag-is (quant .which);
+                few = rw names-are m;
+                form = quant .body;
+                is = whole (take (length row - (2 + n)) (drop (2 + n) row)) (quant .body) body-is-row (quant .ok);
+                short = omega arith;
+                enough = enough;
+              }
+
+          pub point-body : bodyOutcome t (take (2 + n - 2) (drop 2 row)) (take (length row - (2 + n)) (drop (2 + n) row)) room ≡ pointOutcome row wl room
+          point-body =
+              let body = take (length row - (2 + n)) (drop (2 + n) row) in
+              ap (λ (u : ℕ). bodyOutcome u (take (2 + n - 2) (drop 2 row)) body room) tag-is
+              ∙ (
+              ap (λ (ds : List ℕ). bodyOutcome (quant .tag) ds body room) names-are
+              ∙ (
+              body-outcome (quant .tag) (quant .decls) body (quant .body) room (whole body (quant .body) body-is-row (quant .ok))
+              ∙ sym (point-read ∙ quant-point (x .form) (quant .tag) (quant .decls) (quant .body) room (quant .is))
+              )
+              )

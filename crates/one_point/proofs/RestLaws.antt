@@ -1,10 +1,8 @@
 -- The head and the rest that one point writes are those of the definition on words. Assumes nothing.
-use mathlib.Core.Path.{_≡_, refl, ap, sym, _∙_}
+use mathlib.Core.Path.{_≡_, refl, ap, _∙_}
 use mathlib.Core.Bool.{Bool, true, false, not, _&&_}
-use mathlib.Core.List.{List, [], _∷_, _++_, append-assoc}
+use mathlib.Core.List.{List, [], _∷_, _++_}
 use Prim.Native.Nat.{ℕ, zero, suc, _+_, _-_, _≤_, _<_}
-use native.Mathlib.Nat.{add-zero, zero-add}
-use native.Mathlib.Numerals.{add-one}
 use native.Mathlib.Omega.{arith}
 use borrow.Author.Tests.{eq-eqb, ne-eqb, eqb-true}
 use lib.Dec.{eqb}
@@ -13,14 +11,14 @@ use lib.Seq.{length-take-le}
 use Rattle.form.specs.Form.{pick}
 use Rattle.form.specs.declared.lists.Table.{Table}
 use Rattle.form.proofs.HeadLaws.{here}
-use Rattle.subst.proofs.WalkLaws.{and-left, and-right}
-use Rattle.replace.specs.Internal.Pieces.{keptWords, headWords, InRow, Ready, emitted, replaced, downPlan, placedRow}
+use Rattle.subst.proofs.WalkLaws.{and-right}
+use Rattle.replace.specs.Internal.Pieces.{keptWords, headWords, InRow, Ready, replaced, downPlan, placedRow}
 use Rattle.replace.proofs.BuildLaws.{rest-part}
 use Rattle.replace.proofs.NameLaws.{head-none}
 use Rattle.replace.proofs.ReadyLaws.{ready-is}
 use Rattle.one_point.specs.Internal.Writes.{Wrote}
 use Rattle.one_point.specs.Internal.Rest.{restKept, isEmpty, joins, innerEnd, innerNames, partialWords, partialRow}
-use Rattle.one_point.specs.Internal.Reduce.{Inner, innerStart, oneTable, Resting}
+use Rattle.one_point.specs.Internal.Reduce.{Inner, innerStart, oneTable}
 use Rattle.one_point.proofs.WriteLaws.{headed, wrote-end, wrote-on}
 use Rattle.one_point.proofs.EqualityLaws.{wrote-self}
 use Rattle.one_point.proofs.PartialLaws.{first-filled}

@@ -10,7 +10,7 @@ use form::tag::Tag;
 ghost use mathlib.Core.Path.{_≡_};
 ghost use mathlib.Core.List.{[], _∷_};
 ghost use Prim.Native.Nat.{_≤_};
-ghost use lib.ListN.{length, take, replicate};
+ghost use lib.ListN.{length, take};
 ghost use Rattle.form.specs.Form.{pick};
 ghost use Rattle.form.specs.Answer.{told, written};
 ghost use Rattle.one_point.specs.Internal.Reduce.{Placing, Marking, Cleared, placedOutcome, emptyWord, Reducing, bodyOutcome};

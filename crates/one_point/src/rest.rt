@@ -5,7 +5,7 @@ use form::lists::Table;
 use replace::places::fill_places;
 ghost use mathlib.Core.Path.{_≡_};
 ghost use mathlib.Core.List.{_++_};
-ghost use Prim.Native.Nat.{_+_, _-_, _<_, _≤_};
+ghost use Prim.Native.Nat.{_+_, _-_, _≤_};
 ghost use lib.ListN.{length, take, drop};
 ghost use Rattle.form.specs.Answer.{told, written};
 ghost use Rattle.replace.specs.Internal.Pieces.{headWords};

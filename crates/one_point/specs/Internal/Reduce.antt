@@ -1,11 +1,11 @@
 -- What the parts of one point answer after the scan: the head of the reduced form, its one filled place, and the reduced body.
 use mathlib.Core.Path.{_≡_}
-use mathlib.Core.Bool.{Bool, true, false, _||_}
-use mathlib.Core.List.{List, [], _∷_}
-use Prim.Native.Nat.{ℕ, suc, _+_, _-_, _≤_, _<_}
+use mathlib.Core.Bool.{Bool, true, _||_}
+use mathlib.Core.List.{List, []}
+use Prim.Native.Nat.{ℕ, _+_, _≤_, _<_}
 use lib.Dec.{eqb}
 use lib.ListN.{length, getD, set, replicate}
-use Rattle.form.specs.Form.{Form, pick, encode}
+use Rattle.form.specs.Form.{Form, pick}
 use Rattle.form.specs.Tag.{expr, pred}
 use Rattle.form.specs.Decode.{Got, got, no-form, decode}
 use Rattle.form.specs.Answer.{Outcome, refusal, finish}

@@ -1,4 +1,11 @@
+-- `one_point::one_point_inference::one_point_inference` meets its contract. Assumes nothing.
+use mathlib.Core.Path.{refl}
+use native.Mathlib.Omega.{arith}
 use borrow.Author.Needs.{needs}
+use lib.ListN.{length}
+use Rattle.subst.proofs.CheckedLaws.{refused, passed}
+use Rattle.one_point.proofs.PlacesLaws.{pred-row}
+use Rattle.one_point.proofs.PointLaws.{point-small, point-long, point-missing, point-other, point-fits, reducing, point-body}
 use Rattle.one_point.proofs.one_point_inference.one_point_inference.Statement.{statement}
 use Rattle.one_point.proofs.one_point_inference.one_point_inference.Tie as tie
 use Rattle.one_point.proofs.one_point_inference.one_point_inference.Reads as reads
@@ -7,97 +14,74 @@ use Rattle.form.proofs.check.check.Reads as check-reads
 use Rattle.one_point.proofs.one_point_inference.quantifier_of.Reads as quantifier-of-reads
 use Rattle.one_point.proofs.reduce.reduce.Reads as reduce-reads
 
--- src/one_point_inference.rt:35:9
 returns : tie.Need-returns
-returns c = ?
+returns c = refused _ _ _ _ (point-small (c .before .before .before .before .args .row .now) (length (c .before .before .before .before .args .work .now)) (length (c .before .before .before .before .args .out .now)) (c .if1 .taken)) refl
 
--- src/one_point_inference.rt:38:9
 returns-2 : tie.Need-returns-2
-returns-2 c = ?
+returns-2 c = refused _ _ _ _ (point-long (c .before .before .before .before .before .args .row .now) (length (c .before .before .before .before .before .args .work .now)) (length (c .before .before .before .before .before .args .out .now)) (c .before .if1 .left) (c .if2 .taken)) refl
 
--- src/one_point_inference.rt:40:27
 check-requires : tie.Need-check-requires
 check-requires c κs = search needs
 
--- src/one_point_inference.rt:40:22
 enum-known-k : tie.Need-enum-known-k
 enum-known-k c = search needs
 
--- src/one_point_inference.rt:41:9
 enum-told : tie.Need-enum-told
 enum-told c = search needs
 
--- src/one_point_inference.rt:41:9
 returns-3 : tie.Need-returns-3
-returns-3 c = ?
+returns-3 c = refused _ _ _ _ (point-missing (c .before .before .before .before .before .before .before .before .args .row .now) (length (c .before .before .before .before .before .before .before .before .args .work .now)) (length (c .before .before .before .before .before .before .before .before .args .out .now)) (c .before .before .before .before .if1 .left) (c .before .before .before .if2 .left) _ _ (c .before .before .check .ensures) (c .enum-told .given .1)) refl
 
--- src/one_point_inference.rt:43:34
 quantifier-of-requires : tie.Need-quantifier-of-requires
 quantifier-of-requires c κs = search needs
 
--- src/one_point_inference.rt:43:24
 enum-known-tag : tie.Need-enum-known-tag
 enum-known-tag c = search needs
 
--- src/one_point_inference.rt:44:9
 enum-told-2 : tie.Need-enum-told-2
 enum-told-2 c = search needs
 
--- src/one_point_inference.rt:44:9
 returns-4 : tie.Need-returns-4
-returns-4 c = ?
+returns-4 c = refused _ _ _ _ (point-other (c .before .before .before .before .before .before .before .before .before .before .before .before .args .row .now) (length (c .before .before .before .before .before .before .before .before .before .before .before .before .args .work .now)) (length (c .before .before .before .before .before .before .before .before .before .before .before .before .args .out .now)) (c .before .before .before .before .before .before .before .before .if1 .left) (c .before .before .before .before .before .before .before .if2 .left) (pred-row (c .before .before .before .before .before .before .before .before .before .before .before .before .args .row .now) _ _ (c .before .before .before .before .before .before .before .if2 .left) (c .before .before .before .before .before .before .check .ensures) (c .before .before .before .before .k .given .1)) _ (c .before .before .quantifier-of .ensures) (c .enum-told2 .given .1)) refl
 
--- src/one_point_inference.rt:46:22
 cast-start : tie.Need-cast-start
 cast-start c = search needs
 
--- src/one_point_inference.rt:46:17
 add-start : tie.Need-add-start
 add-start c = search needs
 
--- src/one_point_inference.rt:47:17
 sub-reduce : tie.Need-sub-reduce
 sub-reduce c = search needs
 
--- src/one_point_inference.rt:47:17
 part-reduce-start : tie.Need-part-reduce-start
 part-reduce-start c = search needs
 
--- src/one_point_inference.rt:47:17
 part-reduce-end : tie.Need-part-reduce-end
-part-reduce-end c = ?
+part-reduce-end c = let f = point-fits (c .before .before .before .before .before .before .before .before .before .before .before .before .before .args .row .now) (length (c .before .before .before .before .before .before .before .before .before .before .before .before .before .args .work .now)) (length (c .before .before .before .before .before .before .before .before .before .before .before .before .before .args .out .now)) (c .before .before .before .before .before .before .before .before .before .if1 .left) (c .before .before .before .before .before .before .before .before .if2 .left) (pred-row (c .before .before .before .before .before .before .before .before .before .before .before .before .before .args .row .now) _ _ (c .before .before .before .before .before .before .before .before .if2 .left) (c .before .before .before .before .before .before .before .check .ensures) (c .before .before .before .before .before .k .given .1)) _ (c .before .before .before .quantifier-of .ensures) _ _ (c .before .tag .given .1) in omega arith
 
--- src/one_point_inference.rt:47:33
 mul-reduce : tie.Need-mul-reduce
 mul-reduce c = search needs
 
--- src/one_point_inference.rt:47:33
 sub-reduce-2 : tie.Need-sub-reduce-2
-sub-reduce-2 c = ?
+sub-reduce-2 c = let f = point-fits (c .before .before .before .before .before .before .before .before .before .before .before .before .before .before .args .row .now) (length (c .before .before .before .before .before .before .before .before .before .before .before .before .before .before .args .work .now)) (length (c .before .before .before .before .before .before .before .before .before .before .before .before .before .before .args .out .now)) (c .before .before .before .before .before .before .before .before .before .before .if1 .left) (c .before .before .before .before .before .before .before .before .before .if2 .left) (pred-row (c .before .before .before .before .before .before .before .before .before .before .before .before .before .before .args .row .now) _ _ (c .before .before .before .before .before .before .before .before .before .if2 .left) (c .before .before .before .before .before .before .before .before .check .ensures) (c .before .before .before .before .before .before .k .given .1)) _ (c .before .before .before .before .quantifier-of .ensures) _ _ (c .before .before .tag .given .1) in omega arith
 
--- src/one_point_inference.rt:47:33
 part-reduce-start-2 : tie.Need-part-reduce-start-2
-part-reduce-start-2 c = ?
+part-reduce-start-2 c = let f = point-fits (c .before .before .before .before .before .before .before .before .before .before .before .before .before .before .args .row .now) (length (c .before .before .before .before .before .before .before .before .before .before .before .before .before .before .args .work .now)) (length (c .before .before .before .before .before .before .before .before .before .before .before .before .before .before .args .out .now)) (c .before .before .before .before .before .before .before .before .before .before .if1 .left) (c .before .before .before .before .before .before .before .before .before .if2 .left) (pred-row (c .before .before .before .before .before .before .before .before .before .before .before .before .before .before .args .row .now) _ _ (c .before .before .before .before .before .before .before .before .before .if2 .left) (c .before .before .before .before .before .before .before .before .check .ensures) (c .before .before .before .before .before .before .k .given .1)) _ (c .before .before .before .before .quantifier-of .ensures) _ _ (c .before .before .tag .given .1) in omega arith
 
--- src/one_point_inference.rt:47:33
 part-reduce-end-2 : tie.Need-part-reduce-end-2
 part-reduce-end-2 c = search needs
 
--- src/one_point_inference.rt:47:5
 reduce-requires : tie.Need-reduce-requires
-reduce-requires c κs = ?
+reduce-requires c κs = reducing (c .before .before .before .before .before .before .before .before .before .before .before .before .before .before .before .before .before .args .row .now) (length (c .before .before .before .before .before .before .before .before .before .before .before .before .before .before .before .before .before .args .work .now)) (length (c .before .before .before .before .before .before .before .before .before .before .before .before .before .before .before .before .before .args .out .now)) (c .before .before .before .before .before .before .before .before .before .before .before .before .before .if1 .left) (c .before .before .before .before .before .before .before .before .before .before .before .before .if2 .left) (pred-row (c .before .before .before .before .before .before .before .before .before .before .before .before .before .before .before .before .before .args .row .now) _ _ (c .before .before .before .before .before .before .before .before .before .before .before .before .if2 .left) (c .before .before .before .before .before .before .before .before .before .before .before .check .ensures) (c .before .before .before .before .before .before .before .before .before .k .given .1)) _ (c .before .before .before .before .before .before .before .quantifier-of .ensures) _ _ (c .before .before .before .before .before .tag .given .1)
 
--- src/one_point_inference.rt:30:1
 same-length : tie.Need-same-length
 same-length c = search needs
 
--- src/one_point_inference.rt:30:1
 same-length-2 : tie.Need-same-length-2
 same-length-2 c = search needs
 
--- src/one_point_inference.rt:30:1
 returns-5 : tie.Need-returns-5
-returns-5 c = ?
+returns-5 c = passed _ _ _ _ _ (point-body (c .before .before .before .before .before .before .before .before .before .before .before .before .before .before .before .before .before .before .before .before .before .before .args .row .now) (length (c .before .before .before .before .before .before .before .before .before .before .before .before .before .before .before .before .before .before .before .before .before .before .args .work .now)) (length (c .before .before .before .before .before .before .before .before .before .before .before .before .before .before .before .before .before .before .before .before .before .before .args .out .now)) (c .before .before .before .before .before .before .before .before .before .before .before .before .before .before .before .before .before .before .if1 .left) (c .before .before .before .before .before .before .before .before .before .before .before .before .before .before .before .before .before .if2 .left) (pred-row (c .before .before .before .before .before .before .before .before .before .before .before .before .before .before .before .before .before .before .before .before .before .before .args .row .now) _ _ (c .before .before .before .before .before .before .before .before .before .before .before .before .before .before .before .before .before .if2 .left) (c .before .before .before .before .before .before .before .before .before .before .before .before .before .before .before .before .check .ensures) (c .before .before .before .before .before .before .before .before .before .before .before .before .before .before .k .given .1)) _ (c .before .before .before .before .before .before .before .before .before .before .before .before .quantifier-of .ensures) _ _ (c .before .before .before .before .before .before .before .before .before .before .tag .given .1)) (c .before .before .before .before .reduce .ensures)
 
 pub one-point-inference-spec : {M : Type 1} → statement M
 one-point-inference-spec =

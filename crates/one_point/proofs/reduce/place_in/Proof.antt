@@ -1,15 +1,9 @@
 -- `one_point::reduce::place_in` meets its contract. Assumes nothing.
-use mathlib.Core.Path.{_≡_, refl, sym, ap, _∙_}
-use mathlib.Core.List.{List, [], _++_}
-use Prim.Native.Nat.{ℕ, _+_, _-_, _≤_}
-use native.Mathlib.Omega.{arith}
+use mathlib.Core.Path.{refl}
+use mathlib.Core.List.{[]}
 use borrow.Author.Needs.{needs}
-use borrow.Author.Tests.{eq-eqb, ne-eqb}
-use lib.ListN.{length, getD, take, drop, set, length-set, length-take, length-drop}
-use lib.Seq.{length-take-le}
-use Rattle.subst.proofs.CheckedLaws.{refused, passed}
+use Rattle.subst.proofs.CheckedLaws.{passed}
 use Rattle.one_point.proofs.PlaceLaws.{told-marks, told-not-bad, resting, placed-row}
-use borrow.Author.Needs.{needs}
 use Rattle.one_point.proofs.reduce.place_in.Statement.{statement}
 use Rattle.one_point.proofs.reduce.place_in.Tie as tie
 use Rattle.one_point.proofs.reduce.place_in.Reads as reads

@@ -1,15 +1,12 @@
 -- `one_point::reduce::reduce` meets its contract. Assumes nothing.
-use mathlib.Core.Path.{_≡_, refl, sym, ap, _∙_}
-use mathlib.Core.List.{List, [], _++_}
-use Prim.Native.Nat.{ℕ, _+_, _-_, _≤_}
+use mathlib.Core.Path.{refl, sym}
+use Prim.Native.Nat.{_≤_}
 use native.Mathlib.Omega.{arith}
 use borrow.Author.Needs.{needs}
-use borrow.Author.Tests.{eq-eqb, ne-eqb}
-use lib.ListN.{length, getD, take, drop, set, length-set, length-take, length-drop}
+use lib.ListN.{length}
 use lib.Seq.{length-take-le}
 use Rattle.subst.proofs.CheckedLaws.{refused, passed}
 use Rattle.one_point.proofs.PointLaws.{scan-room, none-taken, took, part-in, stop-low, placing, placed-is}
-use borrow.Author.Needs.{needs}
 use Rattle.one_point.proofs.reduce.reduce.Statement.{statement}
 use Rattle.one_point.proofs.reduce.reduce.Tie as tie
 use Rattle.one_point.proofs.reduce.reduce.Reads as reads

@@ -1,16 +1,8 @@
 -- `one_point::reduce::rest_end` meets its contract. Assumes nothing.
-use mathlib.Core.Path.{_≡_, refl, sym, ap, _∙_}
-use mathlib.Core.List.{List, _++_}
-use Prim.Native.Nat.{ℕ, _+_, _-_, _≤_}
-use native.Mathlib.Omega.{arith}
 use borrow.Author.Needs.{needs}
 use borrow.Author.Tests.{eq-eqb, ne-eqb}
-use lib.ListN.{length, getD, take, drop, set, length-set, length-take, length-drop}
-use lib.Seq.{length-take-le}
-use Rattle.subst.proofs.CheckedLaws.{refused, passed}
 use Rattle.subst.proofs.ItemLaws.{not-yes, not-no}
 use Rattle.one_point.proofs.PlaceLaws.{first-word}
-use borrow.Author.Needs.{needs}
 use Rattle.one_point.proofs.reduce.rest_end.Statement.{statement}
 use Rattle.one_point.proofs.reduce.rest_end.Tie as tie
 use Rattle.one_point.proofs.reduce.rest_end.Reads as reads

@@ -1,16 +1,13 @@
 -- `one_point::rest::put_rest` meets its contract. Assumes nothing.
-use mathlib.Core.Path.{_≡_, refl, sym, ap, _∙_}
-use mathlib.Core.List.{List, _++_}
-use Prim.Native.Nat.{ℕ, _+_, _-_, _≤_}
+use mathlib.Core.Path.{refl, sym}
+use Prim.Native.Nat.{_≤_}
 use native.Mathlib.Omega.{arith}
 use borrow.Author.Needs.{needs}
-use borrow.Author.Tests.{eq-eqb, ne-eqb}
-use lib.ListN.{length, getD, take, drop, set, length-set, length-take, length-drop}
+use lib.ListN.{length}
 use lib.Seq.{length-take-le}
-use Rattle.subst.proofs.CheckedLaws.{refused, passed}
+use Rattle.subst.proofs.CheckedLaws.{passed}
 use Rattle.replace.proofs.BuildLaws.{built-fits}
 use Rattle.one_point.proofs.RestLaws.{inner-fits, start-low, head-room, rest-put}
-use borrow.Author.Needs.{needs}
 use Rattle.one_point.proofs.rest.put_rest.Statement.{statement}
 use Rattle.one_point.proofs.rest.put_rest.Tie as tie
 use Rattle.one_point.proofs.rest.put_rest.Reads as reads

@@ -1,15 +1,9 @@
 -- `one_point::rest::write_head` meets its contract. Assumes nothing.
-use mathlib.Core.Path.{_≡_, refl, sym, ap, _∙_}
-use mathlib.Core.List.{List, _++_}
-use Prim.Native.Nat.{ℕ, _+_, _-_, _≤_}
+use mathlib.Core.Path.{_∙_}
 use native.Mathlib.Omega.{arith}
 use borrow.Author.Needs.{needs}
-use borrow.Author.Tests.{eq-eqb, ne-eqb}
-use lib.ListN.{length, getD, take, drop, set, length-set, length-take, length-drop}
-use lib.Seq.{length-take-le}
-use Rattle.subst.proofs.CheckedLaws.{refused, passed}
+use lib.ListN.{length-set}
 use Rattle.one_point.proofs.RestLaws.{all-part, no-head, a-head}
-use borrow.Author.Needs.{needs}
 use Rattle.one_point.proofs.rest.write_head.Statement.{statement}
 use Rattle.one_point.proofs.rest.write_head.Tie as tie
 use Rattle.one_point.proofs.rest.write_head.Reads as reads

@@ -1,13 +1,7 @@
 -- `replace::places::are_inside` meets its contract. Assumes nothing.
-use mathlib.Core.Path.{_≡_, refl, sym, ap, _∙_}
-use mathlib.Core.Bool.{false}
-use Prim.Native.Nat.{_+_, _-_, _≤_}
+use mathlib.Core.Path.{_≡_, refl, sym, _∙_}
+use Prim.Native.Nat.{_≤_}
 use native.Mathlib.Omega.{arith}
-use borrow.Author.Needs.{needs}
-use lib.ListN.{length, take}
-use lib.Seq.{length-take-le}
-use Rattle.subst.proofs.CheckedLaws.{refused, passed}
-use Rattle.subst.proofs.ItemLaws.{not-yes, not-no}
 use Rattle.replace.specs.Internal.Pieces.{partsIn}
 use Rattle.replace.proofs.ReadyLaws.{parts-turned, parts-outside, parts-more, parts-none}
 use Rattle.replace.proofs.places.are_inside.Statement.{statement}

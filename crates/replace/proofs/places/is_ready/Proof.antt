@@ -1,15 +1,10 @@
 -- `replace::places::is_ready` meets its contract. Assumes nothing.
-use mathlib.Core.Path.{_≡_, refl, sym, ap, _∙_}
-use mathlib.Core.Bool.{false}
-use Prim.Native.Nat.{_+_, _-_, _≤_}
+use mathlib.Core.Path.{_≡_, sym, _∙_}
+use Prim.Native.Nat.{_≤_}
 use native.Mathlib.Omega.{arith}
 use borrow.Author.Needs.{needs}
-use lib.ListN.{length, take}
-use lib.Seq.{length-take-le}
-use Rattle.subst.proofs.CheckedLaws.{refused, passed}
-use Rattle.subst.proofs.ItemLaws.{not-yes, not-no}
-use Rattle.replace.proofs.ReadyLaws.{ready-many, ready-short, ready-parts, is-ready, placed-not, placed-ready, gone-ready}
-use borrow.Author.Needs.{needs}
+use lib.ListN.{length}
+use Rattle.replace.proofs.ReadyLaws.{ready-many, ready-short, ready-parts}
 use Rattle.replace.proofs.places.is_ready.Statement.{statement}
 use Rattle.replace.proofs.places.is_ready.Tie as tie
 use Rattle.replace.proofs.places.is_ready.Reads as reads
