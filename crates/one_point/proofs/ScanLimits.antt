@@ -24,6 +24,7 @@ use Rattle.one_point.specs.Point.{restOf}
 use Rattle.one_point.proofs.ViewLaws.{ok-deep, plain-node, two-more}
 use Rattle.one_point.proofs.WriteLaws.{negate-other}
 use Rattle.one_point.proofs.PartsLaws.{some-words}
+use Rattle.one_point.proofs.EqualityLaws.{words, kids-words}
 use Rattle.one_point.proofs.RebuildLaws.{notOf, not-kids}
 use Rattle.one_point.proofs.NodeLaws.{count-node}
 
@@ -206,8 +207,8 @@ pick-few true ps q n h k = h
 pick-few false ps q n h k = omega arith
 
 kids-few : (t : ℕ) (o ds : List ℕ) (ks : Forms) → length (encodeAll ks) ≤ length (encode (node t o ds ks))
-unfolding encode
-kids-few t o ds ks = rw (length-append o, length-append ds) (omega arith)
+unfolding words
+kids-few t o ds ks = kids-words t o ds ks
 
 mutual
   unfolding parts encode
