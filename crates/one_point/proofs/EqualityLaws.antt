@@ -53,7 +53,7 @@ pick-short : (b : Bool) (ps : List (Form × Form)) (l r : Form) → words (prese
 pick-short true ps l r h = h
 pick-short false ps l r h = one-short l r
 
-kids-words : (t : ℕ) (o ds : List ℕ) (ks : Forms) → words ks ≤ length (encode (node t o ds ks))
+pub kids-words : (t : ℕ) (o ds : List ℕ) (ks : Forms) → words ks ≤ length (encode (node t o ds ks))
 unfolding words encode
 kids-words t o ds ks = rw (length-append o, length-append ds) (omega arith)
 

@@ -14,3 +14,9 @@ pub mod ImpliesLaws
 pub mod ChildrenLaws
 pub mod JunctionLaws
 pub mod NodeLaws
+pub mod PartialLaws
+pub mod ScanLimits
+pub mod ReduceLaws
+pub mod RestLaws
+pub mod PlaceLaws
+pub mod PointLaws

@@ -66,7 +66,7 @@ count-own (c ∷ o) ds p e q = go (between 2 4294967295 c) q
     go true q = (c, cc, cc, cc, cc)
     go false q = absurd (clash cc)
 
-count-node : {d t : ℕ} {o ds : List ℕ} {ks : Forms} → Ok (suc d) pred (node t o ds ks) → shapeOf pred t ≡ Preds 2 → (c : ℕ) × (o ≡ c ∷ []) × (ds ≡ []) × OkAll d (replicate c pred) ks
+pub count-node : {d t : ℕ} {o ds : List ℕ} {ks : Forms} → Ok (suc d) pred (node t o ds ks) → shapeOf pred t ≡ Preds 2 → (c : ℕ) × (o ≡ c ∷ []) × (ds ≡ []) × OkAll d (replicate c pred) ks
 unfolding own ownOf
 count-node {d} {o = o} {ds = ds} {ks = ks} (ok-node {p = p} {e = e} l h k) q =
     let (c, a, b, x, y) = count-own o ds p e (rw q at (h [])) in

@@ -97,7 +97,7 @@ pub record NotAt (row : List ℕ) (d at : ℕ) (f : Form) : Type 0 where
 not-is : {o ds : List ℕ} {ks : Forms} (g : Form) → o ≡ [] → ds ≡ [] → ks ≡ more g none → node 8 o ds ks ≡ notOf g
 not-is g a b e = rw (a, b, e)
 
-not-kids : {d : ℕ} {o ds : List ℕ} {ks : Forms} → Ok (suc d) pred (node 8 o ds ks) → (g : Form) × (node 8 o ds ks ≡ notOf g) × Ok d pred g
+pub not-kids : {d : ℕ} {o ds : List ℕ} {ks : Forms} → Ok (suc d) pred (node 8 o ds ks) → (g : Form) × (node 8 o ds ks ≡ notOf g) × Ok d pred g
 unfolding shapeOf predTags
 not-kids w =
     let (a, b, k) = plain-node w 1 0 refl in

@@ -3,3 +3,5 @@ pub mod Sides
 pub mod Writes
 pub mod Parts
 pub mod Scans
+pub mod Rest
+pub mod Reduce

@@ -1,22 +1,20 @@
--- One declaration filled, those after it kept: the value of what is filled, and the places that one point fills. Assumes nothing.
+-- One declaration filled, those after it kept: the value of what is filled. Assumes nothing.
 use mathlib.Core.Path.{_≡_, refl, ap, _∙_, sym}
 use mathlib.Core.Bool.{true}
-use mathlib.Core.List.{List, [], _∷_, _++_, map, reverse, reverseAux, reverseAux-eq}
-use Prim.Native.Nat.{ℕ, zero, suc, _+_, _-_, _<_, _≤_}
-use native.Mathlib.Nat.{zero-add, add-zero, suc-add}
+use mathlib.Core.List.{List, [], _∷_, _++_, reverse, reverseAux, reverseAux-eq}
+use Prim.Native.Nat.{ℕ, zero, suc, _+_, _-_, _≤_}
+use native.Mathlib.Nat.{zero-add, add-zero}
 use native.Mathlib.Omega.{arith}
 use lib.Dec.{leb→le}
 use lib.IntN.{ℤ, pos}
-use lib.ListN.{length, drop, set, replicate, length-replicate}
-use lib.Seq.{drop-at}
+use lib.ListN.{length, replicate, length-replicate}
 use Rattle.form.specs.Form.{bound, Form, leaf}
-use Rattle.form.specs.Lists.{Place, kept, filled}
+use Rattle.form.specs.Lists.{kept, filled}
 use Rattle.subst.specs.Walk.{Outer, named, dangling, walk, up, lift, put, subst}
 use Rattle.subst.specs.Shift.{reaches, fall, lower}
 use Rattle.replace.specs.Fill.{keptCount, keptNames, fillIndex, fillFor}
 use Rattle.subst.proofs.WalkLaws.{binding-add, self, undo}
 use Rattle.one_point.specs.Replacement.{above}
-use Rattle.one_point.specs.Partial.{noPlaces, setPlace, front, lowerPlace}
 use Rattle.reading.specs.Reading.{Reading, Env, cons, value}
 use Rattle.reading.specs.Premise.{push, readInBody}
 use Rattle.reading.proofs.ValueLaws.{outerValue, push-add, lift-value, subst-value}
@@ -66,33 +64,6 @@ module _ (R : Reading) (e : Form) (η : Env) (c : List ℤ) where
   pub fill-value : (f : Form)
       → value R (push c η) (subst (fillFor (filled e ∷ replicate (length c) kept)) f) ≡ value R (push c (cons (value R η e) η)) f
   fill-value f = subst-value R (fillFor (filled e ∷ replicate (length c) kept)) (push c (cons (value R η e) η)) (push c η) fillFor-value f
-
--- one place filled, j before it and i after it
-front-filled : (j : ℕ) (e : Form) (ps : List Place) → front (replicate j kept ++ (filled e ∷ ps)) ≡ j
-front-filled zero e ps = refl
-front-filled (suc j) e ps = ap suc (front-filled j e ps)
-
-lower-kept : (m n : ℕ) → map (lowerPlace m) (replicate n kept) ≡ replicate n kept
-lower-kept m zero = refl
-lower-kept m (suc n) = ap (λ z. kept ∷ z) (lower-kept m n)
-
-set-filled : (j i : ℕ) (e : Form) → set (replicate (j + suc i) kept) j (filled e) ≡ replicate j kept ++ (filled e ∷ replicate i kept)
-set-filled zero i e = rw zero-add
-set-filled (suc j) i e = rw suc-add (ap (λ z. kept ∷ z) (set-filled j i e))
-
-module _ (n i : ℕ) (e : Form) (lt : i < n) where
-  pub places-are : setPlace n i e (noPlaces n) ≡ replicate (n - suc i) kept ++ (filled e ∷ replicate i kept)
-  places-are =
-      let z : n ≡ n - suc i + suc i = omega arith in
-      ap (λ m. set (replicate m kept) (n - suc i) (filled e)) z ∙ set-filled (n - suc i) i e
-
-  pub front-is : front (setPlace n i e (noPlaces n)) ≡ n - suc i
-  front-is = rw places-are (front-filled (n - suc i) e (replicate i kept))
-
-  pub rest-is : (m : ℕ) → map (lowerPlace m) (drop (n - suc i) (setPlace n i e (noPlaces n))) ≡ filled (lower m e) ∷ replicate i kept
-  rest-is m =
-      rw (places-are, drop-at (replicate (n - suc i) kept) (filled e ∷ replicate i kept) (n - suc i) (length-replicate (n - suc i) kept))
-      (ap (λ z. filled (lower m e) ∷ z) (lower-kept m i))
 
 -- shifted down and lifted again: the same, where no index is below
 fall-lift : (n k : ℕ) (x : Outer) → reaches n k x ≡ true → walk (up n) k (put (fall n) k x) ≡ self k x

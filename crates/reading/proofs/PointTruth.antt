@@ -19,12 +19,13 @@ use Rattle.one_point.specs.Replacement.{above, taken, nothing}
 use Rattle.one_point.specs.Scan.{Scan, scanned, scan}
 use Rattle.one_point.specs.Partial.{noPlaces, setPlace, putRound, instantiatePartial}
 use Rattle.one_point.specs.Point.{polarity, restOf, reduce, reduceQuantified, onePoint}
+use Rattle.one_point.proofs.PartialLaws.{front-is, rest-is}
 use Rattle.reading.specs.Reading.{Reading, truth, same, meaning, valueOf, Env, value, holds}
 use Rattle.reading.specs.Premise.{has, readInBody, inRange, takenIn, premiseOf, premise}
 use Rattle.reading.proofs.Exists.{exOver, every-over, tagOf, quantified-node}
 use Rattle.reading.proofs.ScanLaws.{tied, Good, leftTruth}
 use Rattle.reading.proofs.ScanTruth.{scan-tied}
-use Rattle.reading.proofs.FillLaws.{keptNames-kept, front-is, rest-is, lift-lower, read-lowered}
+use Rattle.reading.proofs.FillLaws.{keptNames-kept, lift-lower, read-lowered}
 use Rattle.reading.proofs.OnePointLaws.{one-point}
 
 -- the reduced form: the target's declaration gone, those after it round the filled body, those before it round that

@@ -1,21 +1,17 @@
 -- What a part of the list row becomes where it comes to stand: the words saturate, and within the limits they never do. Assumes nothing.
 use mathlib.Core.Path.{_≡_, refl, ap, sym, _∙_}
-use mathlib.Core.Bool.{Bool, true, false, _&&_}
-use mathlib.Core.List.{List, [], _∷_, _++_}
-use Prim.Native.Nat.{ℕ, zero, suc, _+_, _-_, _*_, _≤_, _<_}
+use mathlib.Core.Bool.{true}
+use Prim.Native.Nat.{ℕ, _+_, _-_, _≤_, _<_}
 use native.Mathlib.Omega.{arith}
-use borrow.Author.Tests.{le-leb, leb-true}
-use lib.Dec.{leb}
-use lib.ListN.{length, take}
-use Rattle.form.specs.Form.{Leaf, free, bound, Form, leaf, Forms, between, encode}
-use Rattle.form.specs.Tag.{Sort}
-use Rattle.form.proofs.DecodeLaws.{Ok, ok-free, ok-bound, ok-node, OkAll, ok-none, ok-more}
-use Rattle.form.proofs.HeadLaws.{few-names}
-use Rattle.subst.specs.Walk.{Binding, inside, outside, binding, Outer, named, dangling, walk, up, collectIndex, collect, each, eachAll}
-use Rattle.subst.specs.Internal.Items.{items, rewritten, movedWords, moveWord}
-use Rattle.subst.proofs.WalkLaws.{binding-back, and-left, and-right, walk-agree}
+use borrow.Author.Tests.{leb-true, ltb-true}
+use lib.Dec.{leb, ltb}
+use Rattle.form.specs.Form.{bound, Form, leaf, encode}
+use Rattle.subst.specs.Walk.{Outer, named, dangling, walk, up, lift, put, each}
+use Rattle.subst.specs.Shift.{reaches, fall, lower}
+use Rattle.subst.specs.Internal.Items.{rewritten, movedWords, moveWord}
+use Rattle.subst.proofs.WalkLaws.{binding-add, and-left, and-right, fuse-level, each-agree, walk-agree}
 use Rattle.subst.proofs.LimitLaws.{small, tight}
-use Rattle.subst.proofs.ShiftLaws.{moved, moved-leaf, moved-word, between-high}
+use Rattle.subst.proofs.ShiftLaws.{inRange, down-range, moved, moved-leaf, moved-word, between-high}
 use Rattle.subst.proofs.RowLaws.{itemsOf, walk-items}
 
 -- under at most n declarations
@@ -33,3 +29,19 @@ moved-up u k (dangling j) h e = let l : k + j ≤ 65535 = between-high 65535 (k 
 
 pub moved-lift : (u : ℕ) (x : Form) → u ≤ 4294901760 → each small 0 x ≡ true → walk (moved u 0) 0 x ≡ walk (up u) 0 x
 moved-lift u x h s = walk-agree small (moved u 0) (up u) (λ k y e. moved-up u k y h e) 0 x s
+
+-- where every dangling index is at least n, the words moved up by u and down by n are those of the form lowered by n and lifted by u
+moved-down : (u n k : ℕ) (x : Outer) → u ≤ 4294901760 → inRange n 65536 k x ≡ true → moved u n k x ≡ walk (up u) k (put (fall n) k x)
+unfolding moveWord walk
+moved-down u n k (named m) h e = refl
+moved-down u n k (dangling j) h e =
+    let a : n ≤ j = leb-true n j (and-left (leb n j) (ltb (k + j) 65536) e) in
+    let b : k + j < 65536 = ltb-true (k + j) 65536 (and-right (leb n j) (ltb (k + j) 65536) e) in
+    let q : 0 + (j - n + k) ≡ k + (j - n) = omega arith in
+    rw (q, binding-add) (ap (λ z. leaf (bound z)) (omega arith))
+
+pub moved-lower : (u n : ℕ) (x : Form) → u ≤ 4294901760 → each small 0 x ≡ true → each (reaches n) 0 x ≡ true → walk (moved u n) 0 x ≡ lift u (lower n x)
+moved-lower u n x h s r =
+    let e : each (inRange n 65536) 0 x ≡ true = each-agree small (inRange n 65536) (reaches n) (down-range n) 0 x s ∙ r in
+    walk-agree (inRange n 65536) (moved u n) (λ k y. walk (up u) k (put (fall n) k y)) (λ k y q. moved-down u n k y h q) 0 x e
+    ∙ sym (fuse-level (up u) (put (fall n)) (λ k y. walk (up u) k (put (fall n) k y)) (λ k y. refl) 0 x)

@@ -6,28 +6,30 @@ use Prim.Native.Nat.{ℕ, zero, suc, _+_, _-_, _*_, _≤_, _<_}
 use native.Mathlib.Nat.{zero-add, add-zero}
 use native.Mathlib.Numerals.{add-one}
 use native.Mathlib.Omega.{arith}
-use borrow.Author.Tests.{le-leb, lt-leb, leb-true, leb-false, lt-ltb, le-ltb}
+use borrow.Author.Tests.{leb-true, leb-false, lt-ltb, le-ltb}
 use lib.Dec.{leb, eqb}
-use lib.ListN.{length, getD, take, drop, length-map, length-drop, length-append, length-reverse, List·getD-map}
+use lib.ListN.{length, getD, take, drop, length-map, length-drop, length-reverse, List·getD-map}
 use lib.Seq.{getD-take, split-at}
 use Rattle.form.specs.Form.{Leaf, free, bound, Form, leaf, pick, encode}
 use Rattle.form.specs.Tag.{Sort}
 use Rattle.form.specs.Lists.{Place, kept, filled}
 use Rattle.form.specs.declared.lists.Table.{Table}
 use Rattle.form.proofs.DecodeLaws.{Ok}
-use Rattle.subst.specs.Walk.{Binding, inside, outside, binding, Outer, named, dangling, walkIndex, walkLeaf, walk, up, put, subst, each}
+use Rattle.subst.specs.Walk.{Binding, inside, outside, binding, Outer, named, dangling, walkIndex, walkLeaf, walk, up, lift, put, subst, each}
+use Rattle.subst.specs.Shift.{reaches, lower}
 use Rattle.subst.specs.Internal.Items.{wordsOf, rewritten}
 use Rattle.subst.specs.declared.items.Item.{Item}
 use Rattle.subst.specs.declared.items.Item.the-variants.{Plain, Ident}
 use Rattle.subst.proofs.WalkLaws.{binding-inside, binding-back, shift-shift, walk-agree}
-use Rattle.subst.proofs.LimitLaws.{small, tight, ok-tight}
+use Rattle.subst.proofs.LimitLaws.{tight, ok-tight}
 use Rattle.subst.proofs.ShiftLaws.{moved}
 use Rattle.subst.proofs.RowLaws.{identOf, itemsOf, walk-items-in}
 use Rattle.replace.specs.Fill.{keptCount, fillIndex, fillFor}
-use Rattle.replace.specs.Internal.Pieces.{part, pieceWords, filledWords, placePiece, fillPiece, pieceOf, planned, fillPlan}
-use Rattle.replace.specs.declared.pieces.Piece.the-variants.{Same, Index, Part}
+use Rattle.replace.specs.Internal.Pieces.{pieceWords, filledWords, placePiece, fillPiece, pieceOf, planned, fillPlan}
+use Rattle.replace.specs.declared.pieces.Piece.the-variants.{Index, Part}
+use Rattle.replace.specs.declared.pieces.Plan.{Plan}
 use Rattle.replace.proofs.EntryLaws.{PlaceAt}
-use Rattle.replace.proofs.ActionLaws.{tight-depth, moved-words, moved-lift}
+use Rattle.replace.proofs.ActionLaws.{tight-depth, moved-words, moved-lift, moved-lower}
 
 -- the word of a place, and how many places are kept and filled
 abbrev pub wordFor : Place → ℕ
@@ -81,29 +83,50 @@ fill-here m a b x =
     let n : length b ≡ length (reverse b) + 0 = rw (length-reverse b) (omega arith) in
     rw (e, n, fill-at m 0 (reverse b) (x ∷ reverse a) 0, kept-reverse b, zero-add)
 
+-- a place whose expression becomes another
+abbrev pub lowPlace : (Form → Form) → Place → Place
+lowPlace low kept = kept
+lowPlace low (filled x) = filled (low x)
+
+pub low-words : (low : Form → Form) (ps : List Place) → map wordFor (map (lowPlace low) ps) ≡ map wordFor ps
+low-words low [] = refl
+low-words low (kept ∷ ps) = ap (λ z. 0 ∷ z) (low-words low ps)
+low-words low (filled x ∷ ps) = ap (λ z. 1 ∷ z) (low-words low ps)
+
+pub low-same : (ps : List Place) → map (lowPlace (λ x. x)) ps ≡ ps
+low-same [] = refl
+low-same (kept ∷ ps) = ap (λ z. kept ∷ z) (low-same ps)
+low-same (filled x ∷ ps) = ap (λ z. filled x ∷ z) (low-same ps)
+
+-- the plan whose parts are moved down by dn
+abbrev pub downPlan : ℕ → Table → Plan
+downPlan dn t = record { table = t; fills = true; gone = filledWords (take (t .n) (t .words)); down = dn }
+
+-- an expression that is moved down by dn and up by u becomes the one that is put, lifted by u
+abbrev pub Moves : ℕ → (Form → Form) → Place → Type 0
+Moves dn low kept = Unit {0}
+Moves dn low (filled x) = (u : ℕ) → u ≤ 4294901760 → walk (moved u dn) 0 x ≡ lift u (low x)
+
 -- what the code puts for the place of an index
-abbrev placeMoved : ℕ → ℕ → Place → Form
-placeMoved u v kept = leaf (bound v)
-placeMoved u v (filled x) = walk (moved u 0) 0 x
+abbrev placeMoved : ℕ → ℕ → ℕ → Place → Form
+placeMoved dn u v kept = leaf (bound v)
+placeMoved dn u v (filled x) = walk (moved u dn) 0 x
 
-abbrev Small : Place → Type 0
-Small kept = Unit {0}
-Small (filled x) = each small 0 x ≡ true
-
-place-lift : (k m c u v : ℕ) (x : Place) (qs : List Place) → u ≡ m + k → u ≤ 4294901760 → v ≡ k + c → Small x → placeMoved u v x ≡ walk (up k) 0 (fillIndex m c (x ∷ qs) 0)
+place-lift : (dn : ℕ) (low : Form → Form) (k m c u v : ℕ) (x : Place) (qs : List Place) → u ≡ m + k → u ≤ 4294901760 → v ≡ k + c → Moves dn low x
+    → placeMoved dn u v x ≡ walk (up k) 0 (fillIndex m c (lowPlace low x ∷ qs) 0)
 unfolding walk
-place-lift k m c u v kept qs e h w s = ap (λ z. leaf (bound z)) (omega arith)
-place-lift k m c u v (filled y) qs e h w s = moved-lift u y h s ∙ (rw e (sym (shift-shift m k 0 y)))
+place-lift dn low k m c u v kept qs e h w s = ap (λ z. leaf (bound z)) (omega arith)
+place-lift dn low k m c u v (filled y) qs e h w s = s u h ∙ (rw e (sym (shift-shift m k 0 (low y))))
 
-module _ (list lm : List ℕ) (s e u v w : ℕ) (i : Item) where
-  place-words : (p : Place) → w ≡ wordFor p → PlaceAt (Unit {0}) list lm s e p → pieceWords list lm (pick (eqb w 0) (Index v) (Part s e u 0)) i ≡ encode (placeMoved u v p)
-  unfolding pieceWords encode
-  place-words kept q h = rw q
-  place-words (filled x) q h = rw (q, h .0) (moved-words u 0 x)
+place-words : (list lm : List ℕ) (s e dn u v w : ℕ) (i : Item) (p : Place) → w ≡ wordFor p → PlaceAt (Unit {0}) list lm s e p
+    → pieceWords list lm (pick (eqb w 0) (Index v) (Part s e u dn)) i ≡ encode (placeMoved dn u v p)
+unfolding pieceWords encode
+place-words list lm s e dn u v w i kept q h = rw q
+place-words list lm s e dn u v w i (filled x) q h = rw (q, h .0) (moved-words u dn x)
 
-  place-small : (p : Place) → PlaceAt (Unit {0}) list lm s e p → Small p
-  place-small kept h = tt
-  place-small (filled x) h = h .1
+pub small-moves : (list lm : List ℕ) (s e : ℕ) (p : Place) → PlaceAt (Unit {0}) list lm s e p → Moves 0 (λ x. x) p
+small-moves list lm s e kept h = tt
+small-moves list lm s e (filled x) h = λ u l. moved-lift u x l (h .1)
 
 index-words : (list lm : List ℕ) (v : ℕ) (i : Item) → pieceWords list lm (Index v) i ≡ encode (leaf (bound v))
 unfolding pieceWords encode
@@ -113,8 +136,14 @@ index-words list lm v i = refl
 index-falls : (k j : ℕ) (b : List Place) → length b ≡ j → k + j - filledWords (map wordFor b) ≡ k + keptCount b
 index-falls k j b e = let h = count-both b in omega arith
 
-module _ (t : Table) (list lm : List ℕ) (ps : List Place) (words : take (t .n) (t .words) ≡ map wordFor ps) (count : t .n ≡ length ps)
-    (placed : (i : ℕ) → i < length ps → PlaceAt (Unit {0}) list lm (getD (t .starts) i 0) (getD (t .ends) i 0) (getD ps i kept)) where
+module _ (dn : ℕ) (low : Form → Form) (t : Table) (list lm : List ℕ) (ps : List Place) (words : take (t .n) (t .words) ≡ map wordFor ps) (count : t .n ≡ length ps)
+    (placed : (i : ℕ) → i < length ps → PlaceAt (Unit {0}) list lm (getD (t .starts) i 0) (getD (t .ends) i 0) (getD ps i kept)) (moves : (i : ℕ) → i < length ps → Moves dn low (getD ps i kept)) where
+  abbrev qs : List Place
+  qs = map (lowPlace low) ps
+
+  low-count : length qs ≡ length ps
+  low-count = length-map ps (lowPlace low)
+
   abbrev gone : ℕ
   gone = filledWords (take (t .n) (t .words))
 
@@ -125,25 +154,25 @@ module _ (t : Table) (list lm : List ℕ) (ps : List Place) (words : take (t .n)
   fillMoved k (named m) = leaf (free m)
   fillMoved k (dangling j) =
       pick (leb (t .n) j) (leaf (bound (k + j - gone)))
-      (placeMoved (k + t .n - gone) (k + j - filledWords (drop (spot j + 1) (take (t .n) (t .words)))) (getD ps (spot j) kept))
+      (placeMoved dn (k + t .n - gone) (k + j - filledWords (drop (spot j + 1) (take (t .n) (t .words)))) (getD ps (spot j) kept))
 
   word-at : (i : ℕ) → i < t .n → getD (t .words) i 0 ≡ wordFor (getD ps i kept)
   word-at i h = sym (getD-take (t .n) (t .words) i 0 h) ∙ (ap (λ l. getD l i 0) words ∙ List·getD-map wordFor ps i kept)
 
-  outside-words : (k j : ℕ) → pieceWords list lm (pick (leb (t .n) j) (Index (k + j - gone)) (placePiece (fillPlan t) (k + t .n) (k + j) (spot j))) (Ident (k + t .n) 2 (k + j)) ≡ encode (fillMoved k (dangling j))
+  outside-words : (k j : ℕ) → pieceWords list lm (pick (leb (t .n) j) (Index (k + j - gone)) (placePiece (downPlan dn t) (k + t .n) (k + j) (spot j))) (Ident (k + t .n) 2 (k + j)) ≡ encode (fillMoved k (dangling j))
   unfolding placePiece
   outside-words k j = go (leb (t .n) j) refl
     where
       go : (b : Bool) → leb (t .n) j ≡ b
-          → pieceWords list lm (pick b (Index (k + j - gone)) (placePiece (fillPlan t) (k + t .n) (k + j) (spot j))) (Ident (k + t .n) 2 (k + j))
-          ≡ encode (pick b (leaf (bound (k + j - gone))) (placeMoved (k + t .n - gone) (k + j - filledWords (drop (spot j + 1) (take (t .n) (t .words)))) (getD ps (spot j) kept)))
+          → pieceWords list lm (pick b (Index (k + j - gone)) (placePiece (downPlan dn t) (k + t .n) (k + j) (spot j))) (Ident (k + t .n) 2 (k + j))
+          ≡ encode (pick b (leaf (bound (k + j - gone))) (placeMoved dn (k + t .n - gone) (k + j - filledWords (drop (spot j + 1) (take (t .n) (t .words)))) (getD ps (spot j) kept)))
       go true q = index-words list lm (k + j - gone) (Ident (k + t .n) 2 (k + j))
       go false q =
           let h = leb-false (t .n) j q in
-          place-words list lm (getD (t .starts) (spot j) 0) (getD (t .ends) (spot j) 0) (k + t .n - gone) _ (getD (t .words) (spot j) 0) _ (getD ps (spot j) kept) (word-at (spot j) (omega arith))
+          place-words list lm (getD (t .starts) (spot j) 0) (getD (t .ends) (spot j) 0) dn (k + t .n - gone) _ (getD (t .words) (spot j) 0) _ (getD ps (spot j) kept) (word-at (spot j) (omega arith))
           (placed (spot j) (omega arith))
 
-  index-piece : (k i : ℕ) (z : Binding) → binding k i ≡ z → pieceWords list lm (fillPiece (fillPlan t) (k + t .n) i) (Ident (k + t .n) 2 i) ≡ encode (walkIndex fillMoved k i z)
+  index-piece : (k i : ℕ) (z : Binding) → binding k i ≡ z → pieceWords list lm (fillPiece (downPlan dn t) (k + t .n) i) (Ident (k + t .n) 2 i) ≡ encode (walkIndex fillMoved k i z)
   unfolding fillPiece pieceWords wordsOf encode
   index-piece k i inside q =
       let e : k + t .n - t .n ≡ k = omega arith in
@@ -153,52 +182,79 @@ module _ (t : Table) (list lm : List ℕ) (ps : List Place) (words : take (t .n)
       let d : k + j - k ≡ j = omega arith in
       rw (← binding-back k i j q, e, le-ltb (k + j) k (omega arith), d) (outside-words k j)
 
-  fill-leaf : (k : ℕ) (x : Leaf) → planned (fillPlan t) list lm (identOf (k + t .n) x) ≡ encode (walkLeaf fillMoved k x)
+  fill-leaf : (k : ℕ) (x : Leaf) → planned (downPlan dn t) list lm (identOf (k + t .n) x) ≡ encode (walkLeaf fillMoved k x)
   unfolding pieceOf pieceWords wordsOf encode
   fill-leaf k (free m) = refl
   fill-leaf k (bound i) = index-piece k i (binding k i) refl
 
-  fill-plain : (w : ℕ) → planned (fillPlan t) list lm (Plain w) ≡ w ∷ []
+  fill-plain : (w : ℕ) → planned (downPlan dn t) list lm (Plain w) ≡ w ∷ []
   unfolding pieceOf pieceWords wordsOf
   fill-plain w = refl
 
   -- within the limits it is what fill puts there
-  near : (k j : ℕ) → k ≤ 2048 → t .n ≤ 32 → j < t .n → placeMoved (k + t .n - gone) (k + j - filledWords (drop (spot j + 1) (take (t .n) (t .words)))) (getD ps (spot j) kept) ≡ walk (up k) 0 (fillIndex (keptCount ps) 0 (reverse ps) j)
-  near k j h few low =
+  near : (k j : ℕ) → k ≤ 2048 → t .n ≤ 32 → j < t .n → placeMoved dn (k + t .n - gone) (k + j - filledWords (drop (spot j + 1) (take (t .n) (t .words)))) (getD ps (spot j) kept) ≡ walk (up k) 0 (fillIndex (keptCount qs) 0 (reverse qs) j)
+  near k j h few under =
+      let l = low-count in
       let i = spot j in
-      let b = drop (suc i) ps in
-      let s : ps ≡ take i ps ++ (getD ps i kept ∷ b) = split-at ps i kept (omega arith) in
-      let n : length b ≡ j = length-drop (suc i) ps ∙ omega arith in
-      let both = count-both ps in
-      let g : gone ≡ filledWords (map wordFor ps) = ap filledWords words in
-      let f : filledWords (drop (i + 1) (take (t .n) (t .words))) ≡ filledWords (map wordFor b) = rw (words, drop-map wordFor (i + 1) ps, add-one) in
-      let r : fillIndex (keptCount ps) 0 (reverse ps) j ≡ fillIndex (keptCount ps) (keptCount b) (getD ps i kept ∷ reverse (take i ps)) 0
-      = ap (λ z. fillIndex (keptCount ps) 0 (reverse ps) z) (sym n) ∙ (ap (λ l. fillIndex (keptCount ps) 0 (reverse l) (length b)) s ∙ fill-here (keptCount ps) (take i ps) b (getD ps i kept)) in
+      let b = drop (suc i) qs in
+      let a : getD qs i kept ≡ lowPlace low (getD ps i kept) = List·getD-map (lowPlace low) ps i kept in
+      let s : qs ≡ take i qs ++ (lowPlace low (getD ps i kept) ∷ b) = split-at qs i kept (omega arith) ∙ ap (λ z. take i qs ++ (z ∷ b)) a in
+      let n : length b ≡ j = length-drop (suc i) qs ∙ omega arith in
+      let both = count-both qs in
+      let w : take (t .n) (t .words) ≡ map wordFor qs = words ∙ sym (low-words low ps) in
+      let g : gone ≡ filledWords (map wordFor qs) = ap filledWords w in
+      let f : filledWords (drop (i + 1) (take (t .n) (t .words))) ≡ filledWords (map wordFor b) = rw (w, drop-map wordFor (i + 1) qs, add-one) in
+      let r : fillIndex (keptCount qs) 0 (reverse qs) j ≡ fillIndex (keptCount qs) (keptCount b) (lowPlace low (getD ps i kept) ∷ reverse (take i qs)) 0
+      = ap (λ z. fillIndex (keptCount qs) 0 (reverse qs) z) (sym n) ∙ (ap (λ l. fillIndex (keptCount qs) 0 (reverse l) (length b)) s ∙ fill-here (keptCount qs) (take i qs) b (lowPlace low (getD ps i kept))) in
       rw (r, f)
-      (place-lift k (keptCount ps) (keptCount b) (k + t .n - gone) (k + j - filledWords (map wordFor b)) (getD ps i kept) (reverse (take i ps)) (omega arith) (omega arith) (index-falls k j b n)
-      (place-small list lm (getD (t .starts) i 0) (getD (t .ends) i 0) 0 0 0 (Plain 0) (getD ps i kept) (placed i (omega arith))))
+      (place-lift dn low k (keptCount qs) (keptCount b) (k + t .n - gone) (k + j - filledWords (map wordFor b)) (getD ps i kept) (reverse (take i qs)) (omega arith) (omega arith) (index-falls k j b n) (moves i (omega arith)))
 
-  far : (k j : ℕ) → t .n ≤ j → leaf (bound (k + j - gone)) ≡ walk (up k) 0 (fillIndex (keptCount ps) 0 (reverse ps) j)
+  far : (k j : ℕ) → t .n ≤ j → leaf (bound (k + j - gone)) ≡ walk (up k) 0 (fillIndex (keptCount qs) 0 (reverse qs) j)
   unfolding walk
   far k j h =
-      let l = length-reverse ps in
-      let n : j ≡ length (reverse ps) + (j - length (reverse ps)) = omega arith in
-      let both = count-both ps in
-      let g : gone ≡ filledWords (map wordFor ps) = ap filledWords words in
-      let r : fillIndex (keptCount ps) 0 (reverse ps) j ≡ leaf (bound (keptCount ps + (j - length (reverse ps)))) = ap (λ z. fillIndex (keptCount ps) 0 (reverse ps) z) n ∙ fill-past (keptCount ps) (reverse ps) (j - length (reverse ps)) in
+      let m = low-count in
+      let l = length-reverse qs in
+      let n : j ≡ length (reverse qs) + (j - length (reverse qs)) = omega arith in
+      let both = count-both qs in
+      let g : gone ≡ filledWords (map wordFor qs) = ap filledWords (words ∙ sym (low-words low ps)) in
+      let r : fillIndex (keptCount qs) 0 (reverse qs) j ≡ leaf (bound (keptCount qs + (j - length (reverse qs)))) = ap (λ z. fillIndex (keptCount qs) 0 (reverse qs) z) n ∙ fill-past (keptCount qs) (reverse qs) (j - length (reverse qs)) in
       rw r (ap (λ z. leaf (bound z)) (omega arith))
 
-  fill-agree : t .n ≤ 32 → (k : ℕ) (x : Outer) → tight 2048 k x ≡ true → fillMoved k x ≡ put (fillFor ps) k x
+  fill-agree : t .n ≤ 32 → (k : ℕ) (x : Outer) → tight 2048 k x ≡ true → fillMoved k x ≡ put (fillFor qs) k x
   unfolding walk
   fill-agree few k (named m) h = refl
   fill-agree few k (dangling j) h = go (leb (t .n) j) refl
     where
-      go : (b : Bool) → leb (t .n) j ≡ b → pick b (leaf (bound (k + j - gone))) (placeMoved (k + t .n - gone) (k + j - filledWords (drop (spot j + 1) (take (t .n) (t .words)))) (getD ps (spot j) kept))
-          ≡ walk (up k) 0 (fillIndex (keptCount ps) 0 (reverse ps) j)
+      go : (b : Bool) → leb (t .n) j ≡ b → pick b (leaf (bound (k + j - gone))) (placeMoved dn (k + t .n - gone) (k + j - filledWords (drop (spot j + 1) (take (t .n) (t .words)))) (getD ps (spot j) kept))
+          ≡ walk (up k) 0 (fillIndex (keptCount qs) 0 (reverse qs) j)
       go true q = far k j (leb-true (t .n) j q)
       go false q = near k j (tight-depth 2048 k (dangling j) h) few (leb-false (t .n) j q)
 
+  -- k more declarations are open inside
+  pub fill-tree-down : t .n ≤ 32 → (k : ℕ) {d : ℕ} {s : Sort} {f : Form} → k + 32 * d ≤ 2048 → Ok d s f
+      → rewritten (planned (downPlan dn t) list lm) (itemsOf (k + t .n) f) ≡ encode (walk (put (fillFor (map (lowPlace low) ps))) k f)
+  fill-tree-down few k {d} {s} {f} deep ok =
+      walk-items-in (t .n) (planned (downPlan dn t) list lm) fillMoved fill-plain fill-leaf k f
+      ∙ ap encode (walk-agree (tight 2048) fillMoved (put (fillFor qs)) (fill-agree few) k f (ok-tight ok 2048 k deep))
+
+-- every index that dangles in a place's expression is at least dn
+abbrev pub Above : ℕ → Place → Type 0
+Above dn kept = Unit {0}
+Above dn (filled x) = each (reaches dn) 0 x ≡ true
+
+-- with nothing moved down, and with expressions in which no index dangles below dn
+module _ (t : Table) (list lm : List ℕ) (ps : List Place) (words : take (t .n) (t .words) ≡ map wordFor ps) (count : t .n ≡ length ps)
+    (placed : (i : ℕ) → i < length ps → PlaceAt (Unit {0}) list lm (getD (t .starts) i 0) (getD (t .ends) i 0) (getD ps i kept)) where
   pub fill-tree : t .n ≤ 32 → {d : ℕ} {s : Sort} {f : Form} → d ≤ 64 → Ok d s f → rewritten (planned (fillPlan t) list lm) (itemsOf (t .n) f) ≡ encode (subst (fillFor ps) f)
-  fill-tree few {d} {s} {f} deep ok =
-      (rw zero-add at (walk-items-in (t .n) (planned (fillPlan t) list lm) fillMoved fill-plain fill-leaf 0 f))
-      ∙ ap encode (walk-agree (tight 2048) fillMoved (put (fillFor ps)) (fill-agree few) 0 f (ok-tight ok 2048 0 (omega arith)))
+  fill-tree few deep ok =
+      rw (zero-add, low-same ps) at
+      (fill-tree-down 0 (λ x. x) t list lm ps words count placed (λ i h. small-moves list lm (getD (t .starts) i 0) (getD (t .ends) i 0) (getD ps i kept) (placed i h)) few 0 (omega arith) ok)
+
+  above-moves : (dn s e : ℕ) (p : Place) → PlaceAt (Unit {0}) list lm s e p → Above dn p → Moves dn (lower dn) p
+  above-moves dn s e kept h a = tt
+  above-moves dn s e (filled x) h a = λ u l. moved-lower u dn x l (h .1) a
+
+  pub fill-tree-lower : (dn : ℕ) → ((i : ℕ) → i < length ps → Above dn (getD ps i kept)) → t .n ≤ 32 → (k : ℕ) {d : ℕ} {s : Sort} {f : Form} → k + 32 * d ≤ 2048 → Ok d s f
+      → rewritten (planned (downPlan dn t) list lm) (itemsOf (k + t .n) f) ≡ encode (walk (put (fillFor (map (lowPlace (lower dn)) ps))) k f)
+  fill-tree-lower dn above few k deep ok =
+      fill-tree-down dn (lower dn) t list lm ps words count placed (λ i h. above-moves dn (getD (t .starts) i 0) (getD (t .ends) i 0) (getD ps i kept) (placed i h) (above i h)) few k deep ok

@@ -10,6 +10,7 @@ pub mod NameLaws
 pub mod QuantLaws
 pub mod FillLaws
 pub mod PruneLaws
+pub mod ReadyLaws
 pub mod TreeLaws
 pub mod OkLaws
 pub mod PruneTree

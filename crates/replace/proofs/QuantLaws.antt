@@ -142,12 +142,16 @@ dec-no t ws h = go (ltb (length (t ∷ ws)) 2) (eqb t 851) (eqb t 852) (getD (t 
     go false false true n e = absurd (clash cc)
     go false false false n e = refl
 
+pub quant-by-tag : {f : Form} → Ok 64 pred f → (eqb (getD (encode f) 0 0) 851 || eqb (getD (encode f) 0 0) 852) ≡ true → Quant f
+unfolding encode
+quant-by-tag (ok-node {t = t} {o = o} {ds = ds} {p = p} {e = e} {ks = ks} l r w) q = kid-quant t o ds p e ks q (tag-heading t (o ++ (ds ++ [])) o ds p e [] q (r [])) w
+
 pub is-quant : {f : Form} → Ok 64 pred f → 0 < declaredIn (encode f) → Quant f
 unfolding encode
 is-quant (ok-node {t = t} {o = o} {ds = ds} {p = p} {e = e} {ks = ks} l r w) h = go (eqb t 851 || eqb t 852) refl
   where
     go : (b : Bool) → (eqb t 851 || eqb t 852) ≡ b → Quant (node t o ds ks)
-    go true q = kid-quant t o ds p e ks q (tag-heading t (o ++ (ds ++ [])) o ds p e [] q (r [])) w
+    go true q = quant-by-tag (ok-node {t = t} {o = o} {ds = ds} {p = p} {e = e} {ks = ks} l r w) q
     go false q = let z = dec-no t (o ++ (ds ++ encodeAll ks)) q in absurd (omega arith)
 
 other-tag : (t : ℕ) (o ds : List ℕ) (ks : Forms) → (eqb t 851 || eqb t 852) ≡ false → quantified (node t o ds ks) ≡ other
@@ -173,14 +177,14 @@ items-nil : (m : List ℕ) → items [] m ≡ []
 unfolding items
 items-nil m = refl
 
-module _ (t n : ℕ) (ds : List ℕ) (b : Form) (rest : List ℕ) (e : n ≡ length ds) where
-  node-items : items (drop (2 + n) (encode (node t (length ds ∷ []) ds (more b none)))) (drop (2 + n) (marksOf 0 (node t (length ds ∷ []) ds (more b none)) ++ rest)) ≡ itemsOf n b
+module _ (t n u : ℕ) (ds : List ℕ) (b : Form) (rest : List ℕ) (e : n ≡ length ds) where
+  node-items : items (drop (2 + n) (encode (node t (length ds ∷ []) ds (more b none)))) (drop (2 + n) (marksOf u (node t (length ds ∷ []) ds (more b none)) ++ rest)) ≡ itemsOf (n + u) b
   unfolding encode marksOf
   node-items =
       let k : 2 + n ≡ suc (suc n) = omega arith in
-      let x : (zeros ds ++ (marksOf (length ds + 0) b ++ [])) ++ rest ≡ zeros ds ++ (marksOf n b ++ rest) = rw (append-assoc (zeros ds), append-nil, add-zero, ← e) in
-      rw (k, drop-at ds (encode b ++ []) n (sym e), x, drop-at (zeros ds) (marksOf n b ++ rest) n (zeros-length ds ∙ sym e))
-      (items-encode n b [] rest ∙ (rw (items-nil rest) (append-nil (itemsOf n b))))
+      let x : (zeros ds ++ (marksOf (length ds + u) b ++ [])) ++ rest ≡ zeros ds ++ (marksOf (n + u) b ++ rest) = rw (append-assoc (zeros ds), append-nil, ← e) in
+      rw (k, drop-at ds (encode b ++ []) n (sym e), x, drop-at (zeros ds) (marksOf (n + u) b ++ rest) n (zeros-length ds ∙ sym e))
+      (items-encode (n + u) b [] rest ∙ (rw (items-nil rest) (append-nil (itemsOf (n + u) b))))
 
 module _ (f : Form) (y : Quant f) where
   pub quant-count : declaredIn (encode f) ≡ length (y .decls)
@@ -199,10 +203,11 @@ module _ (f : Form) (y : Quant f) where
   unfolding encode
   quant-long = rw (y .form, length-append (y .decls)) (omega arith)
 
+  -- under u declarations
+  pub quant-items-in : (n u : ℕ) (rest : List ℕ) → n ≡ length (y .decls) → items (drop (2 + n) (encode f)) (drop (2 + n) (marksOf u f ++ rest)) ≡ itemsOf (n + u) (y .body)
+  quant-items-in n u rest e = rw (y .form) (node-items (y .tag) n u (y .decls) (y .body) rest e)
+
   pub quant-items : (n : ℕ) (m : List ℕ) → n ≡ length (y .decls) → take (length (encode f)) m ≡ mark f 0 0 (replicate (length (encode f)) 0) → items (drop (2 + n) (encode f)) (drop (2 + n) m) ≡ itemsOf n (y .body)
   quant-items n m e k =
       let q : marksOf 0 f ++ drop (length (encode f)) m ≡ m = rw (← (k ∙ only-mark f)) (take-append-drop (length (encode f)) m) in
-      rw (← q) (by-form (drop (length (encode f)) m))
-    where
-      by-form : (rest : List ℕ) → items (drop (2 + n) (encode f)) (drop (2 + n) (marksOf 0 f ++ rest)) ≡ itemsOf n (y .body)
-      by-form rest = rw (y .form) (node-items (y .tag) n (y .decls) (y .body) rest e)
+      rw (← q) (rw add-zero at (quant-items-in n 0 (drop (length (encode f)) m) e))

@@ -19,7 +19,7 @@ ghost use Rattle.replace.specs.Fill.{fillOutcome};
 ghost use Rattle.replace.specs.Internal.Pieces.{Ready, fillPlan, keptWords, headWords, declaredIn, filledRow};
 
 // The number of declarations of a row that is a quantified predicate; 0 for any other.
-pub(crate) fn declared(row: &[u32]) -> u32
+pub fn declared(row: &[u32]) -> u32
     ensures { λ r. ⌜ r ≡ declaredIn (now (row .entry)) ⌝ }
 {
     if row.len() < 2 {

@@ -4,4 +4,5 @@ pub mod fill;
 pub mod free;
 mod marks;
 mod pieces;
+pub mod places;
 pub mod prune;

@@ -1,7 +1,7 @@
 -- What stands for each item of a form: the item itself, an index, or a part of the list row whose dangling indices are moved. A plan says
 -- which. Nothing here is needed to read a public contract.
 use mathlib.Core.Path.{_≡_}
-use mathlib.Core.Bool.{Bool, true, false, not}
+use mathlib.Core.Bool.{Bool, true, false, not, _&&_}
 use mathlib.Core.List.{List, [], _∷_, _++_}
 use Prim.Native.Nat.{ℕ, zero, suc, _+_, _-_, _≤_, _<_}
 use lib.Dec.{leb, ltb, eqb}
@@ -157,3 +157,18 @@ usedWords n (suc k) xs = pick (allItems (notIndex n k) xs) 1 0 ∷ usedWords n k
 -- all dropped places have the expression that stands in the first two words of the list row
 unfoldable pub usedTable : ℕ → List Item → Table
 usedTable n xs = record { words = store (replicate 32 0) 0 (usedWords n n xs); starts = replicate 32 0; ends = replicate 32 2; n = n }
+
+-- whether the first n parts lie in a row of so many words; whether a table's parts stand in the list row, and all of it is marked
+unfoldable pub partsIn : List ℕ → List ℕ → ℕ → ℕ → Bool
+partsIn starts ends words zero = true
+partsIn starts ends words (suc n) = leb (getD starts n 0) (getD ends n 0) && (leb (getD ends n 0) words && partsIn starts ends words n)
+
+unfoldable pub isReady : Table → List ℕ → List ℕ → Bool
+isReady t list lm = leb (t .n) 32 && (leb (length list) (length lm) && partsIn (t .starts) (t .ends) (length list) (t .n))
+
+-- the plan that fills by the places of a table, whose expressions are moved down; what it puts under a head, where the table is ready
+abbrev pub downPlan : Table → ℕ → Plan
+downPlan t d = record { table = t; fills = true; gone = filledWords (take (t .n) (t .words)); down = d }
+
+unfoldable pub placedRow : List ℕ → Table → ℕ → List ℕ → List ℕ → List ℕ → List ℕ → ℕ → Outcome
+placedRow head t d list lm row marks room = needs 7 (isReady t list lm) (replaced Predicate head (downPlan t d) list lm row marks room)

@@ -1,0 +1,141 @@
+-- One point after the scan: the place that is filled, the rest of the body, and the whole call. Assumes nothing.
+use mathlib.Core.Path.{_≡_, refl, ap, sym, _∙_}
+use mathlib.Core.Bool.{true}
+use mathlib.Core.List.{List, [], _∷_, _++_, append-nil}
+use Prim.Native.Nat.{ℕ, zero, suc, _+_, _-_, _≤_, _<_}
+use native.Mathlib.Nat.{zero-add}
+use native.Mathlib.Omega.{arith}
+use borrow.Author.Tests.{eq-eqb, ne-eqb, lt-ltb}
+use lib.ListN.{length, getD, take, drop, set, replicate}
+use lib.Seq.{drop-length}
+use Rattle.form.specs.Form.{Form, encode}
+use Rattle.form.specs.Tag.{expr, pred}
+use Rattle.form.specs.Decode.{Got, got, decode}
+use Rattle.form.specs.Answer.{finish}
+use Rattle.form.specs.Internal.Reads.{mark, Told}
+use Rattle.form.specs.declared.head.Step.{Step}
+use Rattle.form.specs.declared.head.Step.the-variants.{Bad}
+use Rattle.form.proofs.DecodeLaws.{clash, Ok, decode-sound}
+use Rattle.subst.specs.Internal.Items.{items}
+use Rattle.subst.proofs.RowLaws.{itemsOf, marksOf}
+use Rattle.replace.specs.Internal.Pieces.{part as part-of, declaredIn}
+use Rattle.replace.proofs.QuantLaws.{Quant, quant-by-tag, quant-long}
+use Rattle.one_point.specs.Internal.Rest.{partialRow}
+use Rattle.one_point.specs.Internal.Reduce.{isQuantifier, quantifierIn, Inner, oneTable, Resting, placedForm, placedOutcome, Placing, Cleared, Marking}
+use Rattle.one_point.specs.declared.one_point_inference.Quantifier.the-variants.{Of, None}
+use Rattle.one_point.proofs.ViewLaws.{ok-deep}
+use Rattle.one_point.proofs.PartsLaws.{some-words}
+use Rattle.one_point.proofs.PlacesLaws.{place-from}
+use Rattle.one_point.proofs.PartialLaws.{mark-front, first-filled, part-items, point-row}
+
+-- the head of a row as the code finds it
+module _ (row : List ℕ) (n : ℕ) (is : n ≡ declaredIn row) where
+  pub head-none : n ≡ 0 → None ≡ quantifierIn row
+  unfolding quantifierIn
+  head-none z = rw (eq-eqb (declaredIn row) 0 (sym is ∙ z))
+
+  pub head-of : (n ≡ 0 → ⊥) → Of (getD row 0 0) n ≡ quantifierIn row
+  unfolding quantifierIn
+  head-of z = rw (is, ne-eqb (declaredIn row) 0 (λ e. z (is ∙ e)))
+
+  pub head-word : (n ≡ 0 → ⊥) → 0 < length row
+  unfolding declaredIn
+  head-word z = go (length row) refl
+    where
+      go : (k : ℕ) → length row ≡ k → 0 < length row
+      go zero e = absurd (z (is ∙ rw (lt-ltb (length row) 2 (omega arith))))
+      go (suc k) e = omega arith
+
+-- the word of an emptied body
+pub first-word : (l : List ℕ) (w : ℕ) → 1 ≤ length l → take 1 (set l 0 w) ≡ w ∷ []
+first-word [] w h = absurd (omega arith)
+first-word (x ∷ l) w h = refl
+
+-- a whole row that is one form
+module _ (row : List ℕ) (f : Form) where
+  pub whole-pred : decode 63 pred row ≡ got f [] → (row ≡ encode f) × Ok 63 pred f
+  whole-pred e = let s = decode-sound 63 pred row f [] e in (s .0 ∙ append-nil (encode f), s .1)
+
+  pub whole-expr : decode 63 expr row ≡ got f [] → (row ≡ encode f) × Ok 63 expr f
+  whole-expr e = let s = decode-sound 63 expr row f [] e in (s .0 ∙ append-nil (encode f), s .1)
+
+row-all : (row ws : List ℕ) → row ≡ ws → row ≡ ws ++ drop (length row) row
+row-all row ws e = e ∙ (sym (append-nil ws) ∙ ap (λ (z : List ℕ). ws ++ z) (sym (drop-length row)))
+
+-- what a reader of the whole row tells
+module _ (u : ℕ) (f : Form) (g : Got) (x a b : List ℕ) (r : Step) (e : g ≡ got f x) (h : Told 0 u g a b r) where
+  pub told-marks : b ≡ mark f 0 u a
+  unfolding Told
+  told-marks = (rw e at h) .1
+
+  pub told-not-bad : r ≡ Bad → ⊥
+  unfolding Told
+  told-not-bad q = let z = (rw e at h) .0 in clash cc
+
+-- a body that begins with a quantifier's tag has its head
+quant-head : (row : List ℕ) (g : Form) → row ≡ encode g → (y : Quant g) → (getD row 1 0 ≤ 32) × (2 + getD row 1 0 ≤ length row)
+unfolding encode
+quant-head row g w y =
+    let c : getD row 1 0 ≡ length (y .decls) = ap (λ l. getD l 1 0) w ∙ ap (λ f. getD (encode f) 1 0) (y .form) in
+    let l : length row ≡ length (encode g) = ap length w in
+    let k = quant-long g y in
+    let m = y .most in
+    (omega arith, omega arith)
+
+module _ (t : ℕ) (which : isQuantifier t ≡ true) (row : List ℕ) (g : Form) (is : decode 63 pred row ≡ got g []) where
+  same-head : getD row 0 0 ≡ t → (getD row 1 0 ≤ 32) × (2 + getD row 1 0 ≤ length row)
+  same-head e =
+      let w = whole-pred row g is in
+      let q : isQuantifier (getD (encode g) 0 0) ≡ true = rw (← w .0, e) which in
+      quant-head row g (w .0) (quant-by-tag (ok-deep (w .1) 64 (omega arith)) q)
+
+  pub inner-of : Inner t row
+  inner-of =
+      let w = whole-pred row g is in
+      let s = some-words g in
+      let l : length row ≡ length (encode g) = ap length (w .0) in
+      record { some = omega arith; long = λ e. same-head e .1; few = λ e. same-head e .0 }
+
+-- the marks of a replacement
+pub marking-of : (part pm pm′ : List ℕ) (f : Form) → Cleared part pm → decode 63 expr part ≡ got f [] → pm′ ≡ mark f 0 0 pm → length pm′ ≡ length pm → Marking part pm′
+marking-of part pm pm′ f h is m l = record { enough = let e = h .enough in omega arith; are = λ g q. go g (sym q ∙ is) }
+  where
+    go : (g : Form) → _≡_ {A = Got} (got g []) (got f []) → pm′ ≡ mark g 0 0 (replicate (length pm′) 0)
+    go g e =
+        let k : g ≡ f = cc in
+        m ∙ (ap (λ (z : List ℕ). mark f 0 0 z) (h .zeros ∙ ap (λ (n : ℕ). replicate n 0) (sym l)) ∙ ap (λ (z : Form). mark z 0 0 (replicate (length pm′) 0)) (sym k))
+
+-- the target's place filled in the rest
+module _ (t : ℕ) (ns : List ℕ) (i : ℕ) (part rest : List ℕ) (h : Placing t ns i part rest) where
+  pub place-within : (p : ℕ) → p ≡ length ns - 1 - i → p < length ns
+  place-within p e = let a = h .target in omega arith
+
+  pub resting : (p : ℕ) (pm : List ℕ) → p ≡ length ns - 1 - i → length part ≤ length pm → Resting t ns p part pm rest
+  resting p pm e m = record { within = place-within p e; few = h .few; marked = m; inner = inner-of t (h .which) rest (h .form) (h .is-rest) }
+
+  outcome-is : (room : ℕ) → placedOutcome t ns i part rest room ≡ finish pred room (placedForm t ns i (h .by) (h .form))
+  unfolding placedOutcome
+  outcome-is room = rw (h .is-part, h .is-rest)
+
+  module _ (pm : List ℕ) (k : Marking part pm) (marks marks′ : List ℕ) (c : Cleared rest marks) (is : marks′ ≡ mark (h .form) 0 (i + 1) marks) where
+    pub placed-row : (p : ℕ) → p ≡ length ns - 1 - i → (room : ℕ)
+        → partialRow t (take p ns) (drop p ns) (oneTable (length ns - p) (length part)) part pm rest marks′ room ≡ placedOutcome t ns i part rest room
+    placed-row p e room =
+        let w = whole-pred rest (h .form) (h .is-rest) in
+        let v = whole-expr part (h .by) (h .is-part) in
+        let a : p ≡ length ns - suc i = e ∙ sym (place-from (length ns) i) in
+        let b : length ns - (length ns - suc i) ≡ suc i = let q = h .target in omega arith in
+        let o : i + 1 ≡ suc i = omega arith in
+        let f = h .few in
+        let q = h .target in
+        let m : marks′ ≡ marksOf (suc i) (h .form) ++ replicate (length marks - length (encode (h .form))) 0
+        = is ∙ (ap (λ (l : List ℕ). mark (h .form) 0 (i + 1) l) (c .zeros) ∙ rw o (mark-front (h .form) (suc i) (length marks) (rw (← w .0) (c .enough)))) in
+        let there : items (part-of 0 (length part) part) (part-of 0 (length part) pm) ≡ itemsOf 0 (h .by)
+        = part-items (h .by) part pm 0 (length part) (length pm) (ap length (v .0) ∙ sym (zero-add (length (encode (h .by))))) (row-all part (encode (h .by)) (v .0)) (k .enough) (k .are (h .by) (h .is-part)) in
+        rw (a, b) (
+        ap (λ (r : List ℕ). partialRow t (take (length ns - suc i) ns) (drop (length ns - suc i) ns) (oneTable (suc i) (length part)) part pm r marks′ room) (w .0)
+        ∙ (
+        point-row t (h .which) ns i (h .by) (h .target) (h .few) (oneTable (suc i) (length part)) part pm refl (first-filled 32 i (omega arith)) there (v .1) (h .up) (h .form) (w .1) marks′ (replicate (length marks - length (encode (h .form))) 0) m room
+        ∙ sym (outcome-is room)
+        )
+        )

@@ -1,0 +1,51 @@
+-- `one_point::reduce::place_part` meets its contract. Assumes nothing.
+use mathlib.Core.List.{[]}
+use borrow.Author.Needs.{needs}
+use Rattle.one_point.proofs.PlaceLaws.{told-marks, told-not-bad, marking-of}
+use Rattle.one_point.proofs.reduce.place_part.Statement.{statement}
+use Rattle.one_point.proofs.reduce.place_part.Tie as tie
+use Rattle.one_point.proofs.reduce.place_part.Reads as reads
+use Rattle.one_point.proofs.reduce.place_part.Lts as lts
+use Rattle.form.proofs.reader.mark_expr.Reads as mark-expr-reads
+use Rattle.one_point.proofs.reduce.place_rest.Reads as place-rest-reads
+
+mark-expr-requires : tie.Need-mark-expr-requires
+mark-expr-requires c κs = search needs
+
+enum-known-end : tie.Need-enum-known-end
+enum-known-end c = search needs
+
+enum-told : tie.Need-enum-told
+enum-told c = search needs
+
+same-length : tie.Need-same-length
+same-length c = search needs
+
+returns : tie.Need-returns
+returns c = absurd (told-not-bad 0 (c .before .before .before .before .before .before .before .before .before .before .before .pre .0 .by) _ [] _ _ _ (c .before .before .before .before .before .before .before .before .before .before .before .pre .0 .is-part) (c .before .before .before .before .mark-expr .ensures) (c .enum-told .given .1))
+
+place-rest-requires : tie.Need-place-rest-requires
+place-rest-requires c κs = (c .before .before .before .before .before .before .before .before .before .before .before .before .before .before .pre .0, marking-of (c .before .before .before .before .before .before .before .before .before .before .before .before .before .before .args .part .now) (c .before .before .before .before .before .before .before .before .before .before .before .before .before .before .args .part-marks .now) _ (c .before .before .before .before .before .before .before .before .before .before .before .before .before .before .pre .0 .by) (c .before .before .before .before .before .before .before .before .before .before .before .before .before .before .pre .1) (c .before .before .before .before .before .before .before .before .before .before .before .before .before .before .pre .0 .is-part) (told-marks 0 (c .before .before .before .before .before .before .before .before .before .before .before .before .before .before .pre .0 .by) _ [] _ _ _ (c .before .before .before .before .before .before .before .before .before .before .before .before .before .before .pre .0 .is-part) (c .before .before .before .before .before .before .before .mark-expr .ensures)) (c .before .before .before .before .before .before .before .mark-expr .kept .1 .0))
+
+same-length-2 : tie.Need-same-length-2
+same-length-2 c = search needs
+
+same-length-3 : tie.Need-same-length-3
+same-length-3 c = search needs
+
+returns-2 : tie.Need-returns-2
+returns-2 c = search needs
+
+pub place-part-spec : {M : Type 1} → statement M
+place-part-spec =
+    tie.close
+    (tie.spec
+    mark-expr-requires
+    enum-known-end
+    enum-told
+    same-length
+    returns
+    place-rest-requires
+    same-length-2
+    same-length-3
+    returns-2)

@@ -1,0 +1,15 @@
+-- `one_point::rest::inner_start` meets its contract. Assumes nothing.
+use borrow.Author.Tests.{eq-eqb, ne-eqb}
+use Rattle.one_point.proofs.rest.inner_start.Statement.{statement}
+use Rattle.one_point.proofs.rest.inner_start.Tie as tie
+use Rattle.one_point.proofs.rest.inner_start.Reads as reads
+use Rattle.one_point.proofs.rest.inner_start.Lts as lts
+
+returns : tie.Need-returns
+returns c = rw (eq-eqb _ _ (c .if1 .taken))
+
+returns-2 : tie.Need-returns-2
+returns-2 c = rw (ne-eqb _ _ (c .if1 .left))
+
+pub inner-start-spec : {M : Type 1} → statement M
+inner-start-spec = tie.close (tie.spec returns returns-2)

@@ -1,0 +1,99 @@
+-- What the parts of one point answer after the scan: the head of the reduced form, its one filled place, and the reduced body.
+use mathlib.Core.Path.{_≡_}
+use mathlib.Core.Bool.{Bool, true, _||_}
+use mathlib.Core.List.{List, []}
+use Prim.Native.Nat.{ℕ, _+_, _≤_, _<_}
+use lib.Dec.{eqb}
+use lib.ListN.{length, getD, set, replicate}
+use Rattle.form.specs.Form.{Form, pick}
+use Rattle.form.specs.Tag.{expr, pred}
+use Rattle.form.specs.Decode.{Got, got, no-form, decode}
+use Rattle.form.specs.Answer.{Outcome, refusal, finish}
+use Rattle.form.specs.Internal.Reads.{mark}
+use Rattle.form.specs.declared.lists.Table.{Table}
+use Rattle.replace.specs.Internal.Pieces.{declaredIn}
+use Rattle.one_point.specs.Replacement.{above}
+use Rattle.one_point.specs.Scan.{scan}
+use Rattle.one_point.specs.Partial.{noPlaces, setPlace, instantiatePartial}
+use Rattle.one_point.specs.Point.{polarity, reduce, ofResult}
+use Rattle.one_point.specs.declared.one_point_inference.Quantifier.{Quantifier}
+use Rattle.one_point.specs.declared.one_point_inference.Quantifier.the-variants.{Of, None}
+
+abbrev pub isQuantifier : ℕ → Bool
+isQuantifier t = eqb t 851 || eqb t 852
+
+-- the head of a row that is a quantified predicate
+unfoldable pub quantifierIn : List ℕ → Quantifier
+quantifierIn row = pick (eqb (declaredIn row) 0) None (Of (getD row 0 0) (declaredIn row))
+
+-- a body that begins with the tag t has the head of a quantifier
+pub record Inner (t : ℕ) (body : List ℕ) : Type 0 where
+  pub some : 1 ≤ length body
+  pub long : getD body 0 0 ≡ t → 2 + getD body 1 0 ≤ length body
+  pub few : getD body 0 0 ≡ t → getD body 1 0 ≤ 32
+
+abbrev pub innerStart : ℕ → ℕ
+innerStart e = pick (eqb e 0) 0 2
+
+-- the first of n places is filled by the part that ends at e
+abbrev pub oneTable : ℕ → ℕ → Table
+oneTable n e = record { words = set (replicate 32 0) 0 1; starts = replicate 32 0; ends = replicate 32 e; n = n }
+
+pub record Resting (t : ℕ) (names : List ℕ) (p : ℕ) (part pm body : List ℕ) : Type 0 where
+  pub within : p < length names
+  pub few : length names ≤ 32
+  pub marked : length part ≤ length pm
+  pub inner : Inner t body
+
+-- the expression e put for the target i of the declarations ns in the body g
+abbrev pub placedForm : ℕ → List ℕ → ℕ → Form → Form → Form
+placedForm t ns i e g = instantiatePartial t ns (setPlace (length ns) i e (noPlaces (length ns))) g
+
+abbrev pub placedIn : ℕ → List ℕ → ℕ → ℕ → Got → Got → Outcome
+placedIn t ns i room (got e x) (got g y) = finish pred room (placedForm t ns i e g)
+placedIn t ns i room (got e x) no-form = refusal 2
+placedIn t ns i room no-form b = refusal 2
+
+unfoldable pub placedOutcome : ℕ → List ℕ → ℕ → List ℕ → List ℕ → ℕ → Outcome
+placedOutcome t ns i part rest room = placedIn t ns i room (decode 63 expr part) (decode 63 pred rest)
+
+-- the part is an expression that can stand for the target i, the rest a predicate
+pub record Placing (t : ℕ) (ns : List ℕ) (i : ℕ) (part rest : List ℕ) : Type 0 where
+  pub which : isQuantifier t ≡ true
+  pub target : i < length ns
+  pub few : length ns ≤ 32
+  pub by : Form
+  pub is-part : decode 63 expr part ≡ got by []
+  pub up : above i by ≡ true
+  pub short : length part ≤ 8192
+  pub form : Form
+  pub is-rest : decode 63 pred rest ≡ got form []
+  pub long : length rest ≤ 16384
+
+-- marks that hold 0, and those of an expression
+pub record Cleared (row marks : List ℕ) : Type 0 where
+  pub zeros : marks ≡ replicate (length marks) 0
+  pub enough : length row ≤ length marks
+
+pub record Marking (part pm : List ℕ) : Type 0 where
+  pub enough : length part ≤ length pm
+  pub are : (e : Form) → decode 63 expr part ≡ got e [] → pm ≡ mark e 0 0 (replicate (length pm) 0)
+
+-- the word of an emptied body
+abbrev pub emptyWord : ℕ → ℕ
+emptyWord t = pick (eqb t 852) 610 611
+
+abbrev pub reducedIn : ℕ → List ℕ → ℕ → Got → Outcome
+reducedIn t ns room (got f x) = ofResult room (reduce t ns (scan (length ns) (polarity t) f))
+reducedIn t ns room no-form = refusal 2
+
+unfoldable pub bodyOutcome : ℕ → List ℕ → List ℕ → ℕ → Outcome
+bodyOutcome t ns body room = reducedIn t ns room (decode 63 pred body)
+
+pub record Reducing (t : ℕ) (ns body : List ℕ) (work : ℕ) : Type 0 where
+  pub which : isQuantifier t ≡ true
+  pub few : length ns ≤ 32
+  pub form : Form
+  pub is : decode 63 pred body ≡ got form []
+  pub short : length body ≤ 8192
+  pub enough : 16384 ≤ work

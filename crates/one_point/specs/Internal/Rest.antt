@@ -1,0 +1,46 @@
+-- A rest of declarations filled by the places of a table, and the front put round it, on words. The parts of the list row are moved down by
+-- the declarations of the rest.
+use mathlib.Core.Bool.{Bool, true, false, not, _&&_}
+use mathlib.Core.List.{List, [], _∷_, _++_}
+use Prim.Native.Nat.{ℕ, _+_}
+use lib.Dec.{eqb}
+use lib.ListN.{length, getD, take, drop}
+use Rattle.form.specs.Form.{pick}
+use Rattle.form.specs.Answer.{Outcome}
+use Rattle.form.specs.declared.answer.Kind.the-variants.{Predicate}
+use Rattle.form.specs.declared.lists.Table.{Table}
+use Rattle.subst.specs.Internal.Items.{items, rewritten}
+use Rattle.replace.specs.Internal.Pieces.{filledWords, planned, keptWords, headWords, emitted}
+use Rattle.replace.specs.declared.pieces.Plan.{Plan}
+
+abbrev pub restPlan : Table → Plan
+restPlan t = record { table = t; fills = true; gone = filledWords (take (t .n) (t .words)); down = t .n }
+
+-- the declarations of the rest that stay
+abbrev pub restKept : Table → List ℕ → List ℕ
+restKept t rest = keptWords (take (t .n) (t .words)) rest
+
+abbrev pub isEmpty : List ℕ → Bool
+isEmpty [] = true
+isEmpty (n ∷ ns) = false
+
+-- whether the body's own quantifier joins the front: none of the rest stays, there is a front, and the operator is the same
+unfoldable pub joins : ℕ → List ℕ → List ℕ → List ℕ → Bool
+joins t front stay row = isEmpty stay && (not (isEmpty front) && eqb (getD row 0 0) t)
+
+-- the words of the body's own head that leave it, and the names in them
+unfoldable pub innerEnd : ℕ → List ℕ → List ℕ → List ℕ → ℕ
+innerEnd t front stay row = pick (joins t front stay row) (2 + getD row 1 0) 0
+
+unfoldable pub innerNames : ℕ → List ℕ → List ℕ → List ℕ → List ℕ
+innerNames t front stay row = pick (joins t front stay row) (take (getD row 1 0) (drop 2 row)) []
+
+-- the head of the whole, and the words of the rest
+unfoldable pub partialWords : ℕ → List ℕ → List ℕ → Table → List ℕ → List ℕ → List ℕ → List ℕ → List ℕ
+partialWords t front rest tb list lm row marks =
+    let stay = restKept tb rest in
+    let from = innerEnd t front stay row in
+    headWords t (front ++ (stay ++ innerNames t front stay row)) ++ rewritten (planned (restPlan tb) list lm) (items (drop from row) (drop from marks))
+
+abbrev pub partialRow : ℕ → List ℕ → List ℕ → Table → List ℕ → List ℕ → List ℕ → List ℕ → ℕ → Outcome
+partialRow t front rest tb list lm row marks room = emitted Predicate (partialWords t front rest tb list lm row marks) room

@@ -1,0 +1,48 @@
+// One point: a quantified predicate is reduced by the first equality that its body offers.
+use crate::reduce::reduce;
+use form::answer::Answer;
+use form::answer::Kind;
+use form::answer::Limit;
+use replace::fill::declared;
+ghost use mathlib.Core.Path.{_≡_};
+ghost use lib.ListN.{length};
+ghost use Rattle.form.specs.Answer.{told, written};
+ghost use Rattle.one_point.specs.Point.{pointOutcome};
+ghost use Rattle.one_point.specs.Internal.Reduce.{quantifierIn};
+
+// The head of a quantified predicate: its tag, and the number of its declarations.
+pub enum Quantifier {
+    Of(u32, u32),
+    None,
+}
+
+fn quantifier_of(row: &[u32]) -> Quantifier
+    ensures { λ r. ⌜ r ≡ quantifierIn (now (row .entry)) ⌝ }
+{
+    let n = declared(row);
+    if n == 0 {
+        return Quantifier::None;
+    }
+    Quantifier::Of(row[0], n)
+}
+
+// The quantified predicate in the row, reduced.
+pub fn one_point_inference(row: &[u32], work: &mut [u32], out: &mut [u32]) -> Answer
+    ensures { λ r. ⌜ r ≡ told (pointOutcome (now (row .entry)) (length (now (work .entry))) (length (now (out .entry)))) ⌝ }
+    ensures { λ _. ⌜ now (out .exit) ≡ written (pointOutcome (now (row .entry)) (length (now (work .entry))) (length (now (out .entry)))) (now (out .entry)) ⌝ }
+{
+    if work.len() < 16384 {
+        return Answer::No(15);
+    }
+    if Limit::WORDS < row.len() {
+        return Answer::No(1);
+    }
+    let Answer::Done(k) = form::check::check(row, Kind::Predicate) else {
+        return Answer::No(2);
+    };
+    let Quantifier::Of(tag, n) = quantifier_of(row) else {
+        return Answer::No(9);
+    };
+    let start = 2 + (n as usize);
+    reduce(tag, &row[2..start], &row[start..], work, out)
+}

@@ -1,0 +1,141 @@
+// A body reduced by the equality that its scan takes.
+use crate::rest::put_rest;
+use crate::scan::scan_pred;
+use crate::sides::Replacement;
+use form::answer::Answer;
+use form::head::Step;
+use form::reader::mark_expr;
+use form::reader::mark_pred;
+use form::tag::Tag;
+ghost use mathlib.Core.Path.{_≡_};
+ghost use mathlib.Core.List.{[], _∷_};
+ghost use Prim.Native.Nat.{_≤_};
+ghost use lib.ListN.{length, take};
+ghost use Rattle.form.specs.Form.{pick};
+ghost use Rattle.form.specs.Answer.{told, written};
+ghost use Rattle.one_point.specs.Internal.Reduce.{Placing, Marking, Cleared, placedOutcome, emptyWord, Reducing, bodyOutcome};
+
+// The target's place filled in the rest of a body, with marks for the rest and with the replacement's marks.
+fn place_in(
+    tag: u32,
+    names: &[u32],
+    target: u32,
+    part: &[u32],
+    part_marks: &[u32],
+    rest: &[u32],
+    marks: &mut [u32],
+    out: &mut [u32],
+) -> Answer
+    requires { ⌜ Placing tag (now names) target (now part) (now rest) × Marking (now part) (now «part_marks») × Cleared (now rest) (now marks) ⌝ }
+    ensures { λ r. ⌜ r ≡ told (placedOutcome tag (now (names .entry)) target (now (part .entry)) (now (rest .entry)) (length (now (out .entry)))) ⌝ }
+    ensures { λ _. ⌜ now (out .exit) ≡ written (placedOutcome tag (now (names .entry)) target (now (part .entry)) (now (rest .entry)) (length (now (out .entry)))) (now (out .entry)) ⌝ }
+{
+    let Step::End(end) = mark_pred(rest, marks, 0, 63, target + 1) else {
+        return Answer::No(2);
+    };
+    let p = names.len() - 1 - (target as usize);
+    put_rest(tag, names, p, part, part_marks, rest, marks, out)
+}
+
+// The same, with marks for the rest of its own.
+fn place_rest(
+    tag: u32,
+    names: &[u32],
+    target: u32,
+    part: &[u32],
+    part_marks: &[u32],
+    rest: &[u32],
+    out: &mut [u32],
+) -> Answer
+    requires { ⌜ Placing tag (now names) target (now part) (now rest) × Marking (now part) (now «part_marks») ⌝ }
+    ensures { λ r. ⌜ r ≡ told (placedOutcome tag (now (names .entry)) target (now (part .entry)) (now (rest .entry)) (length (now (out .entry)))) ⌝ }
+    ensures { λ _. ⌜ now (out .exit) ≡ written (placedOutcome tag (now (names .entry)) target (now (part .entry)) (now (rest .entry)) (length (now (out .entry)))) (now (out .entry)) ⌝ }
+{
+    if rest.len() <= 64 {
+        let mut marks = [0u32; 64];
+        return place_in(tag, names, target, part, part_marks, rest, &mut marks, out);
+    }
+    if rest.len() <= 512 {
+        let mut marks = [0u32; 512];
+        return place_in(tag, names, target, part, part_marks, rest, &mut marks, out);
+    }
+    let mut marks = [0u32; 16384];
+    place_in(tag, names, target, part, part_marks, rest, &mut marks, out)
+}
+
+// The same, with marks for the replacement.
+fn place_part(
+    tag: u32,
+    names: &[u32],
+    target: u32,
+    part: &[u32],
+    part_marks: &mut [u32],
+    rest: &[u32],
+    out: &mut [u32],
+) -> Answer
+    requires { ⌜ Placing tag (now names) target (now part) (now rest) × Cleared (now part) (now «part_marks») ⌝ }
+    ensures { λ r. ⌜ r ≡ told (placedOutcome tag (now (names .entry)) target (now (part .entry)) (now (rest .entry)) (length (now (out .entry)))) ⌝ }
+    ensures { λ _. ⌜ now (out .exit) ≡ written (placedOutcome tag (now (names .entry)) target (now (part .entry)) (now (rest .entry)) (length (now (out .entry)))) (now (out .entry)) ⌝ }
+{
+    let Step::End(end) = mark_expr(part, part_marks, 0, 63, 0) else {
+        return Answer::No(2);
+    };
+    place_rest(tag, names, target, part, part_marks, rest, out)
+}
+
+// The target's place filled in the rest of a body.
+fn place(
+    tag: u32,
+    names: &[u32],
+    target: u32,
+    part: &[u32],
+    rest: &[u32],
+    out: &mut [u32],
+) -> Answer
+    requires { ⌜ Placing tag (now names) target (now part) (now rest) ⌝ }
+    ensures { λ r. ⌜ r ≡ told (placedOutcome tag (now (names .entry)) target (now (part .entry)) (now (rest .entry)) (length (now (out .entry)))) ⌝ }
+    ensures { λ _. ⌜ now (out .exit) ≡ written (placedOutcome tag (now (names .entry)) target (now (part .entry)) (now (rest .entry)) (length (now (out .entry)))) (now (out .entry)) ⌝ }
+{
+    if part.len() <= 64 {
+        let mut marks = [0u32; 64];
+        return place_part(tag, names, target, part, &mut marks, rest, out);
+    }
+    if part.len() <= 512 {
+        let mut marks = [0u32; 512];
+        return place_part(tag, names, target, part, &mut marks, rest, out);
+    }
+    let mut marks = [0u32; 8192];
+    place_part(tag, names, target, part, &mut marks, rest, out)
+}
+
+// Where what is left of a body ends; an emptied body becomes true under 852 and false under 851.
+fn rest_end(tag: u32, gone: bool, end: usize, work: &mut [u32]) -> usize
+    requires { ⌜ 1 ≤ length (now work) ⌝ }
+    ensures { λ r. ⌜ r ≡ pick gone 1 end ⌝ }
+    ensures { λ r. ⌜ take r (now (work .exit)) ≡ pick gone (emptyWord tag ∷ []) (take end (now (work .entry))) ⌝ }
+{
+    if !gone {
+        return end;
+    }
+    if tag == Tag::EXISTS {
+        work[0] = Tag::TRUE;
+        return 1;
+    }
+    work[0] = Tag::FALSE;
+    1
+}
+
+// The body of a quantifier with these names, reduced by the first equality that its scan takes.
+pub fn reduce(tag: u32, names: &[u32], body: &[u32], work: &mut [u32], out: &mut [u32]) -> Answer
+    requires { ⌜ Reducing tag (now names) (now body) (length (now work)) ⌝ }
+    ensures { λ r. ⌜ r ≡ told (bodyOutcome tag (now (names .entry)) (now (body .entry)) (length (now (out .entry)))) ⌝ }
+    ensures { λ _. ⌜ now (out .exit) ≡ written (bodyOutcome tag (now (names .entry)) (now (body .entry)) (length (now (out .entry)))) (now (out .entry)) ⌝ }
+{
+    let s = scan_pred(body, 0, 63, names.len(), tag == Tag::EXISTS, work, 0);
+    let found = s.found;
+    let Replacement::Is(target, start, end) = found else {
+        return Answer::No(9);
+    };
+    let stop = rest_end(tag, s.gone, s.end, work);
+    place(tag, names, target, &body[start..end], &work[..stop], out)
+}
