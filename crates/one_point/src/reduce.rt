@@ -4,8 +4,8 @@ use crate::scan::scan_pred;
 use crate::sides::Replacement;
 use form::answer::Answer;
 use form::head::Step;
-use form::reader::mark_expr;
-use form::reader::mark_pred;
+use form::reader::expr_at;
+use form::reader::pred_at;
 use form::tag::Tag;
 ghost use mathlib.Core.Path.{_≡_};
 ghost use mathlib.Core.List.{[], _∷_};
@@ -30,7 +30,7 @@ fn place_in(
     ensures { λ r. ⌜ r ≡ told (placedOutcome tag (now (names .entry)) target (now (part .entry)) (now (rest .entry)) (length (now (out .entry)))) ⌝ }
     ensures { λ _. ⌜ now (out .exit) ≡ written (placedOutcome tag (now (names .entry)) target (now (part .entry)) (now (rest .entry)) (length (now (out .entry)))) (now (out .entry)) ⌝ }
 {
-    let Step::End(end) = mark_pred(rest, marks, 0, 63, target + 1) else {
+    let Step::End(end) = pred_at(rest, marks, 0, 63, target + 1) else {
         return Answer::No(2);
     };
     let p = names.len() - 1 - (target as usize);
@@ -77,7 +77,7 @@ fn place_part(
     ensures { λ r. ⌜ r ≡ told (placedOutcome tag (now (names .entry)) target (now (part .entry)) (now (rest .entry)) (length (now (out .entry)))) ⌝ }
     ensures { λ _. ⌜ now (out .exit) ≡ written (placedOutcome tag (now (names .entry)) target (now (part .entry)) (now (rest .entry)) (length (now (out .entry)))) (now (out .entry)) ⌝ }
 {
-    let Step::End(end) = mark_expr(part, part_marks, 0, 63, 0) else {
+    let Step::End(end) = expr_at(part, part_marks, 0, 63, 0) else {
         return Answer::No(2);
     };
     place_rest(tag, names, target, part, part_marks, rest, out)

@@ -1,16 +1,18 @@
 -- `one_point::reduce::place_part` meets its contract. Assumes nothing.
 use mathlib.Core.List.{[]}
+use native.Mathlib.Omega.{arith}
 use borrow.Author.Needs.{needs}
+use Rattle.one_point.proofs.SidesLaws.{told-plain}
 use Rattle.one_point.proofs.PlaceLaws.{told-marks, told-not-bad, marking-of}
 use Rattle.one_point.proofs.reduce.place_part.Statement.{statement}
 use Rattle.one_point.proofs.reduce.place_part.Tie as tie
 use Rattle.one_point.proofs.reduce.place_part.Reads as reads
 use Rattle.one_point.proofs.reduce.place_part.Lts as lts
-use Rattle.form.proofs.reader.mark_expr.Reads as mark-expr-reads
+use Rattle.form.proofs.reader.expr_at.Reads as expr-at-reads
 use Rattle.one_point.proofs.reduce.place_rest.Reads as place-rest-reads
 
-mark-expr-requires : tie.Need-mark-expr-requires
-mark-expr-requires c κs = search needs
+expr-at-requires : tie.Need-expr-at-requires
+expr-at-requires c κs = search needs
 
 enum-known-end : tie.Need-enum-known-end
 enum-known-end c = search needs
@@ -22,10 +24,10 @@ same-length : tie.Need-same-length
 same-length c = search needs
 
 returns : tie.Need-returns
-returns c = absurd (told-not-bad 0 (c .before .before .before .before .before .before .before .before .before .before .before .pre .0 .by) _ [] _ _ _ (c .before .before .before .before .before .before .before .before .before .before .before .pre .0 .is-part) (c .before .before .before .before .mark-expr .ensures) (c .enum-told .given .1))
+returns c = absurd (told-not-bad 0 (c .before .before .before .before .before .before .before .before .before .before .before .pre .0 .by) _ [] _ _ _ (c .before .before .before .before .before .before .before .before .before .before .before .pre .0 .is-part) (told-plain _ _ _ _ _ _ _ _ (omega arith) (omega arith) (c .before .before .before .before .expr-at .ensures)) (c .enum-told .given .1))
 
 place-rest-requires : tie.Need-place-rest-requires
-place-rest-requires c κs = (c .before .before .before .before .before .before .before .before .before .before .before .before .before .before .pre .0, marking-of (c .before .before .before .before .before .before .before .before .before .before .before .before .before .before .args .part .now) (c .before .before .before .before .before .before .before .before .before .before .before .before .before .before .args .part-marks .now) _ (c .before .before .before .before .before .before .before .before .before .before .before .before .before .before .pre .0 .by) (c .before .before .before .before .before .before .before .before .before .before .before .before .before .before .pre .1) (c .before .before .before .before .before .before .before .before .before .before .before .before .before .before .pre .0 .is-part) (told-marks 0 (c .before .before .before .before .before .before .before .before .before .before .before .before .before .before .pre .0 .by) _ [] _ _ _ (c .before .before .before .before .before .before .before .before .before .before .before .before .before .before .pre .0 .is-part) (c .before .before .before .before .before .before .before .mark-expr .ensures)) (c .before .before .before .before .before .before .before .mark-expr .kept .1 .0))
+place-rest-requires c κs = (c .before .before .before .before .before .before .before .before .before .before .before .before .before .before .pre .0, marking-of (c .before .before .before .before .before .before .before .before .before .before .before .before .before .before .args .part .now) (c .before .before .before .before .before .before .before .before .before .before .before .before .before .before .args .part-marks .now) _ (c .before .before .before .before .before .before .before .before .before .before .before .before .before .before .pre .0 .by) (c .before .before .before .before .before .before .before .before .before .before .before .before .before .before .pre .1) (c .before .before .before .before .before .before .before .before .before .before .before .before .before .before .pre .0 .is-part) (told-marks 0 (c .before .before .before .before .before .before .before .before .before .before .before .before .before .before .pre .0 .by) _ [] _ _ _ (c .before .before .before .before .before .before .before .before .before .before .before .before .before .before .pre .0 .is-part) (told-plain _ _ _ _ _ _ _ _ (omega arith) (omega arith) (c .before .before .before .before .before .before .before .expr-at .ensures))) (c .before .before .before .before .before .before .before .expr-at .kept .1 .0))
 
 same-length-2 : tie.Need-same-length-2
 same-length-2 c = search needs
@@ -40,7 +42,7 @@ pub place-part-spec : {M : Type 1} → statement M
 place-part-spec =
     tie.close
     (tie.spec
-    mark-expr-requires
+    expr-at-requires
     enum-known-end
     enum-told
     same-length
