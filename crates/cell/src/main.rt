@@ -19,6 +19,7 @@ fn answer(
     line: &[u8],
     list: &mut [u32],
     form: &mut [u32],
+    work: &mut [u32],
     result: &mut [u32],
     output: &mut [u8],
     used: usize,
@@ -26,7 +27,8 @@ fn answer(
     if output.len() <= used {
         return used;
     }
-    let Answer::Done(n) = reply::reply::reply(line, list, form, result, &mut output[used..]) else {
+    let Answer::Done(n) = reply::reply::reply(line, list, form, work, result, &mut output[used..])
+    else {
         return used;
     };
     if output.len() <= used {
@@ -73,6 +75,7 @@ fn last(
     input: &[u8],
     list: &mut [u32],
     form: &mut [u32],
+    work: &mut [u32],
     result: &mut [u32],
     output: &mut [u8],
     left: usize,
@@ -83,7 +86,7 @@ fn last(
     if input.len() < left {
         return stop();
     }
-    let used = answer(&input[..left], list, form, result, output, 0);
+    let used = answer(&input[..left], list, form, work, result, output, 0);
     flush(output, used);
     stop()
 }
@@ -93,6 +96,7 @@ fn more(
     input: &mut [u8],
     list: &mut [u32],
     form: &mut [u32],
+    work: &mut [u32],
     result: &mut [u32],
     output: &mut [u8],
     st: State,
@@ -110,7 +114,7 @@ fn more(
     }
     let got = libc::read(STDIN_FILENO, &mut input[left..]);
     if got <= 0 {
-        return last(input, list, form, result, output, left);
+        return last(input, list, form, work, result, output, left);
     }
     let now = left + io::count(got, input);
     State {
@@ -146,6 +150,7 @@ fn line_of(
     input: &[u8],
     list: &mut [u32],
     form: &mut [u32],
+    work: &mut [u32],
     result: &mut [u32],
     output: &mut [u8],
     st: State,
@@ -159,7 +164,15 @@ fn line_of(
         return stop();
     }
     let end = start + n;
-    let used = answer(&input[start..end], list, form, result, output, st.used);
+    let used = answer(
+        &input[start..end],
+        list,
+        form,
+        work,
+        result,
+        output,
+        st.used,
+    );
     past(st, used, n)
 }
 
@@ -168,6 +181,7 @@ fn long_of(
     input: &[u8],
     list: &mut [u32],
     form: &mut [u32],
+    work: &mut [u32],
     result: &mut [u32],
     output: &mut [u8],
     st: State,
@@ -180,7 +194,15 @@ fn long_of(
     if input.len() < end {
         return stop();
     }
-    let used = answer(&input[start..end], list, form, result, output, st.used);
+    let used = answer(
+        &input[start..end],
+        list,
+        form,
+        work,
+        result,
+        output,
+        st.used,
+    );
     State {
         start: 0,
         end: 0,
@@ -209,6 +231,7 @@ fn turn(
     input: &mut [u8],
     list: &mut [u32],
     form: &mut [u32],
+    work: &mut [u32],
     result: &mut [u32],
     output: &mut [u8],
     st: State,
@@ -223,10 +246,10 @@ fn turn(
     }
     let next = reply::split::next_line(&input[start..end], st.skipping);
     match next {
-        Next::Line(n) => line_of(input, list, form, result, output, st, n),
+        Next::Line(n) => line_of(input, list, form, work, result, output, st, n),
         Next::Skipped(n) => past(st, st.used, n),
-        Next::Long => long_of(input, list, form, result, output, st),
-        Next::More => more(input, list, form, result, output, dropped(st)),
+        Next::Long => long_of(input, list, form, work, result, output, st),
+        Next::More => more(input, list, form, work, result, output, dropped(st)),
     }
 }
 
@@ -251,6 +274,7 @@ fn run(
     input: &mut [u8],
     list: &mut [u32],
     form: &mut [u32],
+    work: &mut [u32],
     result: &mut [u32],
     output: &mut [u8],
 ) {
@@ -264,7 +288,7 @@ fn run(
     let mut turns = u64::MAX;
     let mut going = true;
     while turns > 0 && going {
-        let next = turn(input, list, form, result, output, st);
+        let next = turn(input, list, form, work, result, output, st);
         st = room(output, next);
         going = st.going;
         turns -= 1;
@@ -275,7 +299,15 @@ fn main() {
     let mut input = [0u8; 131072];
     let mut list = [0u32; 8192];
     let mut form = [0u32; 8192];
+    let mut work = [0u32; 16384];
     let mut result = [0u32; 8192];
     let mut output = [0u8; 262144];
-    run(&mut input, &mut list, &mut form, &mut result, &mut output);
+    run(
+        &mut input,
+        &mut list,
+        &mut form,
+        &mut work,
+        &mut result,
+        &mut output,
+    );
 }

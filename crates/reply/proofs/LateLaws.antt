@@ -2,74 +2,142 @@
 use mathlib.Core.Path.{_≡_, refl, ap, sym, _∙_}
 use mathlib.Core.Bool.{Bool, true, false}
 use mathlib.Core.List.{List, [], _∷_, _++_}
-use Prim.Native.Nat.{ℕ, _≤_}
+use mathlib.Core.Logic.{⊎-elim}
+use mathlib.Core.Option.{Option, none as absent, some}
+use Prim.Native.Nat.{ℕ, _≤_, _<_}
+use native.Mathlib.Omega.{arith}
+use borrow.Author.Tests.{le-leb, lt-leb}
 use lib.Dec.{leb}
 use lib.ListN.{length, take, drop}
-use lib.Seq.{take-append-seam}
 use Rattle.form.specs.Form.{Form, pick}
 use Rattle.form.specs.Tag.{Sort}
 use Rattle.form.specs.Decode.{Found, found, missing, formOf}
-use Rattle.form.specs.Answer.{Outcome, answer, refusal, told, written, ofFound, needs, checkOutcome}
+use Rattle.form.specs.Lists.{Entry, listOf}
+use Rattle.form.specs.Answer.{Outcome, answer, refusal, told, written, within, ofFound, ofList, withForm, withList, needs, checkOutcome}
+use Rattle.form.specs.Internal.Reads.{Listing}
 use Rattle.form.specs.declared.answer.Kind.{Kind}
 use Rattle.form.specs.declared.answer.Answer.{Answer}
 use Rattle.form.specs.declared.answer.Answer.the-variants.{Done, No}
+use Rattle.form.specs.declared.lists.ListKind.{ListKind}
+use Rattle.form.specs.declared.lists.Listed.{Listed}
 use Rattle.form.proofs.DecodeLaws.{clash}
-use Rattle.line.specs.Spell.{fitsForm}
-use Rattle.reply.specs.Reply.{spelledForm, Fronts}
+use Rattle.form.proofs.Ranges.{split}
+use Rattle.form.proofs.TableLaws.{listing-no, listing-yes}
+use Rattle.line.specs.Spell.{fitsForm, fitsList, fitsNames}
+use Rattle.line.specs.declared.line.Part.{Part}
+use Rattle.reply.specs.Reply.{spelledForm, spelledList, spelledNames}
+use Rattle.reply.specs.Internal.Parts.{Held}
 
--- the check's answer decides all but the 8
-module _ (kind : Kind) (text row : List ℕ) (o : Outcome) (r : Answer) (e : r ≡ told (checkOutcome kind row)) where
-  abbrev Whole : Bool → Found → Outcome → Outcome
-  Whole b x o = pick b (ofFound (λ s f. o) x) (refusal 1)
+-- a test before a command: it passes every outcome on, or refuses them all by one number
+pub data Gate (g : Outcome → Outcome) : Type 0 where
+  passes : ((o : Outcome) → g o ≡ o) → Gate g
+  refuses : (n : ℕ) → ((o : Outcome) → g o ≡ refusal n) → Gate g
 
-  refused-by : (b : Bool) (x : Found) (k : ℕ) → r ≡ told (Whole b x (answer [])) → r ≡ No k → r ≡ told (pick b (ofFound (λ s f. needs 8 (fitsForm text row) o) x) (refusal 1))
-  refused-by true (found s f) k p q = absurd (clash cc)
-  refused-by true missing k p q = p
-  refused-by false x k p q = p
+gate-pick : (b : Bool) (n : ℕ) (g : Outcome → Outcome) → Gate g → Gate (λ o. pick b (g o) (refusal n))
+gate-pick true n g h = h
+gate-pick false n g h = refuses n (λ o. refl)
 
-  pub late-refused : (k : ℕ) → r ≡ No k → r ≡ told (spelledForm kind text row o)
+gate-found : (x : Found) (g : Outcome → Outcome) → Gate g → Gate (λ o. ofFound (λ s f. g o) x)
+gate-found (found s f) g h = h
+gate-found missing g h = refuses 2 (λ o. refl)
+
+gate-list : (x : Option (List Entry)) (g : Outcome → Outcome) → Gate g → Gate (λ o. ofList (λ es. g o) x)
+gate-list (some es) g h = h
+gate-list absent g h = refuses 2 (λ o. refl)
+
+gate-8 : (b : Bool) → Gate (needs 8 b)
+gate-8 b = gate-pick b 8 (λ o. o) (passes (λ o. refl))
+
+-- a test of a row, whose first refusal is 1
+pub record Tests (row : List ℕ) (g : Outcome → Outcome) : Type 0 where
+  pub gate : Gate g
+  pub long : 8192 < length row → (o : Outcome) → g o ≡ refusal 1
+
+within-tests : (row : List ℕ) (g : Outcome → Outcome) → Gate g → Tests row (λ o. within row (g o))
+within-tests row g h = record { gate = gate-pick (leb (length row) 8192) 1 g h; long = λ l o. rw (lt-leb (length row) 8192 l) }
+
+pub check-tests : (kind : Kind) (row : List ℕ) → Tests row (λ o. withForm kind row (λ s f. o))
+check-tests kind row = within-tests row _ (gate-found (formOf kind row) (λ o. o) (passes (λ o. refl)))
+
+pub form-tests : (kind : Kind) (text row : List ℕ) → Tests row (spelledForm kind text row)
+unfolding spelledForm
+form-tests kind text row = within-tests row _ (gate-found (formOf kind row) _ (gate-8 (fitsForm text row)))
+
+pub list-tests : (kind : ListKind) (text row : List ℕ) → Tests row (spelledList kind text row)
+unfolding spelledList
+list-tests kind text row = within-tests row _ (gate-list (listOf kind row) _ (gate-8 (fitsList kind text row)))
+
+pub names-tests : (text row : List ℕ) → Tests row (spelledNames text row)
+unfolding spelledNames
+names-tests text row = within-tests row _ (gate-8 (fitsNames text row))
+
+-- what a test answers for the empty answer it answers for all
+module _ (g : Outcome → Outcome) (r : Answer) (n : ℕ) (e : r ≡ told (g (answer []))) where
+  pub gate-refused : Gate g → r ≡ No n → (o : Outcome) → g o ≡ refusal n
+  gate-refused (passes h) q o = let z = rw (h (answer [])) at e in absurd (clash cc)
+  gate-refused (refuses m h) q o = let z = rw (h (answer [])) at e in h o ∙ ap refusal (let y : m ≡ n = cc in y)
+
+  pub gate-done : Gate g → r ≡ Done n → (o : Outcome) → g o ≡ o
+  gate-done (passes h) q o = h o
+  gate-done (refuses m h) q o = let z = rw (h (answer [])) at e in absurd (clash cc)
+
+pub told-long : (row : List ℕ) (g : Outcome → Outcome) → Tests row g → 8192 < length row → (o : Outcome) → No 1 ≡ told (g o)
+told-long row g t l o = ap told (sym (t .long l o))
+
+-- a form's check, then its 8
+module _ (kind : Kind) (text row : List ℕ) (r : Answer) (n : ℕ) (e : r ≡ told (checkOutcome kind row)) where
+  pub late-refused : r ≡ No n → r ≡ told (spelledForm kind text row (answer []))
   unfolding checkOutcome spelledForm
-  late-refused k q = refused-by (leb (length row) 8192) (formOf kind row) k e q
+  late-refused q = q ∙ sym (ap told (gate-refused _ r n e (check-tests kind row .gate) q (needs 8 (fitsForm text row) (answer []))))
 
-  taken-by : (b : Bool) (x : Found) (m : ℕ) → r ≡ told (Whole b x (answer [])) → r ≡ Done m → pick b (ofFound (λ s f. needs 8 (fitsForm text row) o) x) (refusal 1) ≡ needs 8 (fitsForm text row) o
-  taken-by true (found s f) m p q = refl
-  taken-by true missing m p q = absurd (clash cc)
-  taken-by false x m p q = absurd (clash cc)
-
-  taken : (m : ℕ) → r ≡ Done m → spelledForm kind text row o ≡ needs 8 (fitsForm text row) o
+  pub late-told : r ≡ Done n → (b : Bool) → b ≡ fitsForm text row → told (needs 8 b (answer [])) ≡ told (spelledForm kind text row (answer []))
   unfolding checkOutcome spelledForm
-  taken m q = taken-by (leb (length row) 8192) (formOf kind row) m e q
+  late-told q b t = rw t (sym (ap told (gate-done _ r n e (check-tests kind row .gate) q (needs 8 (fitsForm text row) (answer [])))))
 
-  module _ (m : ℕ) (q : r ≡ Done m) (b : Bool) (t : b ≡ fitsForm text row) where
-    pub late-unfit : b ≡ false → No 8 ≡ told (spelledForm kind text row o)
-    late-unfit h = rw (taken m q, ← t, h)
+-- a list's
+module _ (kind : ListKind) (text row : List ℕ) (short : length row ≤ 8192) (a b : List ℕ) (l : Listed) (t : Listing (listOf kind row) a b l) where
+  pub list-none : l .ok ≡ false → No 2 ≡ told (spelledList kind text row (answer []))
+  unfolding spelledList
+  list-none e = rw (le-leb (length row) 8192 short, listing-no (listOf kind row) a b l t e)
 
-    pub late-fits : b ≡ true → told o ≡ told (spelledForm kind text row o)
-    late-fits h = rw (taken m q, ← t, h)
+  pub list-told : l .ok ≡ true → (c : Bool) → c ≡ fitsList kind text row → told (needs 8 c (answer [])) ≡ told (spelledList kind text row (answer []))
+  unfolding spelledList
+  list-told e c f = let (es, o, u, m) = listing-yes (listOf kind row) a b l t e in rw (le-leb (length row) 8192 short, o, f)
 
--- what the check with its 8 says, passed on to a command
-module _ (kind : Kind) (text row : List ℕ) (o : Outcome) where
-  pass-by : (b : Bool) (x : Found) (c : Bool) (n : ℕ) → told (pick b (ofFound (λ s f. needs 8 c (answer [])) x) (refusal 1)) ≡ No n → pick b (ofFound (λ s f. needs 8 c o) x) (refusal 1) ≡ refusal n
-  pass-by true (found s f) true n e = absurd (clash cc)
-  pass-by true (found s f) false n e = ap refusal (let z : 8 ≡ n = cc in z)
-  pass-by true missing c n e = ap refusal (let z : 2 ≡ n = cc in z)
-  pass-by false x c n e = ap refusal (let z : 1 ≡ n = cc in z)
+-- the names'
+pub names-told : (text row : List ℕ) → length row ≤ 8192 → (c : Bool) → c ≡ fitsNames text row → told (needs 8 c (answer [])) ≡ told (spelledNames text row (answer []))
+unfolding spelledNames
+names-told text row short c f = rw (le-leb (length row) 8192 short, f)
 
-  pub spelled-refused : (r : Answer) (n : ℕ) → r ≡ told (spelledForm kind text row (answer [])) → r ≡ No n → spelledForm kind text row o ≡ refusal n
-  unfolding spelledForm
-  spelled-refused r n e q = pass-by (leb (length row) 8192) (formOf kind row) (fitsForm text row) n (sym e ∙ q)
+-- the words of a part at the front of its row
+module _ (line row ws : List ℕ) (p : Part) (h : Held line row ws p) where
+  pub held-long : 8192 < p .count → 8192 < length ws
+  held-long l = let c = h .counted in omega arith
 
-  done-by : (b : Bool) (x : Found) (c : Bool) (n : ℕ) → told (pick b (ofFound (λ s f. needs 8 c (answer [])) x) (refusal 1)) ≡ Done n → pick b (ofFound (λ s f. needs 8 c o) x) (refusal 1) ≡ o
-  done-by true (found s f) true n e = refl
-  done-by true (found s f) false n e = absurd (clash cc)
-  done-by true missing c n e = absurd (clash cc)
-  done-by false x c n e = absurd (clash cc)
+  pub held-row : p .count ≤ 8192 → take (p .count) row ≡ ws
+  held-row l = let c = h .counted in rw c (h .front (omega arith))
 
-  pub spelled-done : (r : Answer) (n : ℕ) → r ≡ told (spelledForm kind text row (answer [])) → r ≡ Done n → spelledForm kind text row o ≡ o
-  unfolding spelledForm
-  spelled-done r n e q = done-by (leb (length row) 8192) (formOf kind row) (fitsForm text row) n (sym e ∙ q)
+  pub held-fits : p .count ≤ 8192 → p .count ≤ length row
+  held-fits l = let c = h .room in omega arith
 
--- an answer that was written stands at the front
-pub fronts : (o : Outcome) (out out′ : List ℕ) → out′ ≡ written o out → Fronts o out′
-fronts (answer ws) out out′ e = rw e (take-append-seam ws (drop (length ws) out))
-fronts (refusal k) out out′ e = tt
+-- what a command answers and writes
+abbrev pub Said : Answer → Outcome → List ℕ → List ℕ → Type 0
+Said r o result result′ = (r ≡ told o) × (result′ ≡ written o result)
+
+pub said-no : (o : Outcome) (n : ℕ) (result : List ℕ) → o ≡ refusal n → Said (No n) o result result
+said-no o n result e = rw e (refl, refl)
+
+pub said-same : (o p : Outcome) (r : Answer) (result result′ : List ℕ) → o ≡ p → Said r o result result′ → Said r p result result′
+said-same o p r result result′ e h = rw e at h
+
+-- a command after a test
+module _ (row : List ℕ) (g : Outcome → Outcome) (t : Tests row g) (r : Answer) (n : ℕ) (e : r ≡ told (g (answer []))) where
+  pub test-refused : r ≡ No n → (o : Outcome) (result : List ℕ) → Said r (g o) result result
+  test-refused q o result = rw q (said-no (g o) n result (gate-refused g r n e (t .gate) q o))
+
+  module _ (q : r ≡ Done n) where
+    pub test-passed : (o : Outcome) (r′ : Answer) (result result′ : List ℕ) → Said r′ o result result′ → Said r′ (g o) result result′
+    test-passed o r′ result result′ h = said-same o (g o) r′ result result′ (sym (gate-done g r n e (t .gate) q o)) h
+
+    pub test-short : (m : ℕ) → m ≡ length row → m ≤ 8192
+    test-short m k = ⊎-elim (λ low. omega arith) (λ high. absurd (clash (let z = told-long row g t (omega arith) (answer []) in cc))) (split 8193 m)

@@ -11,8 +11,8 @@ use mathlib.Core.Logic.{⊎-elim}
 use Rattle.form.specs.Form.{pick}
 use Rattle.form.proofs.HeadLaws.{gone}
 use Rattle.form.proofs.Ranges.{split}
-use Rattle.line.specs.Scan.{Scan, ended, broken, addByte, moved, markWords, note, depthAfter, turn, scan, group, Signed, signed, unsigned, offset}
-use Rattle.line.specs.Line.{closing, closed, lastGroup, Formed, formed, formPart, formArg, space, nextArg, noList, ofOffset, shiftArgs, ofList, listArgs, args, ofStart, startOf, heads, readLine}
+use Rattle.line.specs.Scan.{Scan, ended, broken, addByte, moved, markWords, note, depthAfter, turn, scan, group, scanWords, Signed, signed, unsigned, offset}
+use Rattle.line.specs.Line.{closing, closed, lastGroup, Formed, formed, formPart, formArg, space, nextArg, noList, ofOffset, shiftArgs, ofList, listArgs, args, listWords, ofStart, listStart, startOf, heads, readLine, listRow}
 use Rattle.line.specs.declared.turn.State.{State}
 use Rattle.line.specs.declared.turn.State.the-variants.{Opened}
 use Rattle.line.specs.declared.turn.Turn.{Turn}
@@ -63,56 +63,79 @@ ends-last : (bs : List ℕ) → Ends (length bs) (lastGroup bs)
 unfolding lastGroup
 ends-last bs = ends-closed (length bs) bs (group false bs) (ends-group false bs)
 
--- where the form of a command lies
-abbrev pub Inside : List ℕ → Formed → Type 0
-Inside line (formed (Command p) ws) = (p .form .start ≤ p .form .end) × (p .form .end ≤ length line) × (p .form .count ≡ length ws)
-Inside line (formed Misspelled ws) = Unit {0}
+-- where a group lies in the line, and how many words it has
+abbrev pub Lies : List ℕ → List ℕ → Part → Type 0
+Lies line ws p = (p .start ≤ p .end) × (p .end ≤ length line) × (p .count ≡ length ws)
+
+-- the form of a command, and its list, whose words are ls
+abbrev pub Inside : List ℕ → List ℕ → Formed → Type 0
+Inside line ls (formed (Command p) ws) = Lies line ws (p .form) × Lies line ls (p .list)
+Inside line ls (formed Misspelled ws) = Unit {0}
 
 module _ (line : List ℕ) where
-  part-inside : (h : Head) (z : ℤ) (list : Part) (at : ℕ) (x : Scan) → at ≤ length line → Ends (length line - at) x → Inside line (formPart h z list at x)
-  part-inside h z list at (ended ws k) l e = (omega arith, omega arith, refl)
-  part-inside h z list at (broken ws) l e = tt
+  pub nothing-lies : Lies line [] noList
+  nothing-lies = (omega arith, omega arith, refl)
 
-  none-inside : (h : Head) (z : ℤ) (list : Part) (at : ℕ) (bs : List ℕ) → bs ≡ [] → Inside line (formPart h z list at (lastGroup bs))
-  unfolding lastGroup group
-  none-inside h z list at bs e = rw e tt
+  module _ (ls : List ℕ) where
+    part-inside : (h : Head) (z : ℤ) (list : Part) (at : ℕ) (x : Scan) → Lies line ls list → at ≤ length line → Ends (length line - at) x → Inside line ls (formPart h z list at x)
+    part-inside h z list at (ended ws k) t l e = ((omega arith, omega arith, refl), t)
+    part-inside h z list at (broken ws) t l e = tt
 
-  form-inside : (h : Head) (z : ℤ) (list : Part) (at : ℕ) → Inside line (formArg h z list at line)
-  unfolding formArg
-  form-inside h z list at =
-      ⊎-elim (λ low. part-inside h z list at (lastGroup (drop at line)) (omega arith) (rw length-drop at (ends-last (drop at line))))
-      (λ high. none-inside h z list at (drop at line) (gone line at (omega arith))) (split (length line) at)
+    none-inside : (h : Head) (z : ℤ) (list : Part) (at : ℕ) (bs : List ℕ) → bs ≡ [] → Inside line ls (formPart h z list at (lastGroup bs))
+    unfolding lastGroup group
+    none-inside h z list at bs e = rw e tt
 
-  pick-inside : (b : Bool) (x y : Formed) → Inside line x → Inside line y → Inside line (pick b x y)
-  pick-inside true x y h k = h
-  pick-inside false x y h k = k
+    form-inside : (h : Head) (z : ℤ) (list : Part) (at : ℕ) → Lies line ls list → Inside line ls (formArg h z list at line)
+    unfolding formArg
+    form-inside h z list at t =
+        ⊎-elim (λ low. part-inside h z list at (lastGroup (drop at line)) t (omega arith) (rw length-drop at (ends-last (drop at line))))
+        (λ high. none-inside h z list at (drop at line) (gone line at (omega arith))) (split (length line) at)
 
-  next-inside : (h : Head) (z : ℤ) (list : Part) (at : ℕ) → Inside line (nextArg h z list at line)
-  unfolding nextArg
-  next-inside h z list at = pick-inside (space (drop at line)) _ _ (form-inside h z list (at + 1)) tt
+    pick-inside : (b : Bool) (x y : Formed) → Inside line ls x → Inside line ls y → Inside line ls (pick b x y)
+    pick-inside true x y h k = h
+    pick-inside false x y h k = k
 
-  offset-inside : (at : ℕ) (x : Signed) → Inside line (ofOffset at line x)
-  offset-inside at (signed z k) = next-inside Shift z noList (at + k)
+    next-inside : (h : Head) (z : ℤ) (list : Part) (at : ℕ) → Lies line ls list → Inside line ls (nextArg h z list at line)
+    unfolding nextArg
+    next-inside h z list at t = pick-inside (space (drop at line)) _ _ (form-inside h z list (at + 1) t) tt
+
+  offset-inside : (at : ℕ) (x : Signed) → Inside line [] (ofOffset at line x)
+  offset-inside at (signed z k) = next-inside [] Shift z noList (at + k) nothing-lies
   offset-inside at unsigned = tt
 
-  list-inside : (h : Head) (at : ℕ) (x : Scan) → Inside line (ofList h at line x)
-  list-inside h at (ended ws k) = next-inside h (pos 0) _ (at + k)
-  list-inside h at (broken ws) = tt
+  listed-inside : (h : Head) (at : ℕ) (x : Scan) → at ≤ length line → Ends (length line - at) x → Inside line (scanWords x) (ofList h at line x)
+  unfolding scanWords
+  listed-inside h at (ended ws k) l e = next-inside ws h (pos 0) _ (at + k) (omega arith, omega arith, refl)
+  listed-inside h at (broken ws) l e = tt
 
-  args-inside : (h : Head) (at : ℕ) → Inside line (args h at line)
-  unfolding args shiftArgs listArgs
+  no-list-inside : (h : Head) (places : Bool) (at : ℕ) (bs : List ℕ) → bs ≡ [] → Inside line (scanWords (group places bs)) (ofList h at line (group places bs))
+  unfolding group scanWords
+  no-list-inside h places at bs e = rw e tt
+
+  list-inside : (h : Head) (places : Bool) (at : ℕ) → Inside line (scanWords (group places (drop at line))) (listArgs h places at line)
+  unfolding listArgs
+  list-inside h places at =
+      ⊎-elim (λ low. listed-inside h at (group places (drop at line)) (omega arith) (rw length-drop at (ends-group places (drop at line))))
+      (λ high. no-list-inside h places at (drop at line) (gone line at (omega arith))) (split (length line) at)
+
+  args-inside : (h : Head) (at : ℕ) → Inside line (listWords h at line) (args h at line)
+  unfolding args shiftArgs listWords
   args-inside Shift at = offset-inside at (offset (drop at line))
-  args-inside Free at = list-inside Free at (group false (drop at line))
-  args-inside Bind at = list-inside Bind at (group false (drop at line))
-  args-inside Fill at = list-inside Fill at (group true (drop at line))
-  args-inside Prune at = form-inside Prune (pos 0) noList at
-  args-inside Point at = form-inside Point (pos 0) noList at
-  args-inside Member at = form-inside Member (pos 0) noList at
+  args-inside Free at = list-inside Free false at
+  args-inside Bind at = list-inside Bind false at
+  args-inside Fill at = list-inside Fill true at
+  args-inside Prune at = form-inside [] Prune (pos 0) noList at nothing-lies
+  args-inside Point at = form-inside [] Point (pos 0) noList at nothing-lies
+  args-inside Member at = form-inside [] Member (pos 0) noList at nothing-lies
 
-  start-inside : (x : Start) → Inside line (ofStart line x)
+  start-inside : (x : Start) → Inside line (listStart line x) (ofStart line x)
   start-inside (At h at) = args-inside h at
   start-inside Unknown = tt
 
-  pub line-inside : Inside line (readLine line)
-  unfolding readLine
-  line-inside = pick-inside (leb (length line) 65535) _ _ (start-inside (startOf heads line)) tt
+  line-by : (b : Bool) → Inside line (pick b (listStart line (startOf heads line)) []) (pick b (ofStart line (startOf heads line)) (formed Misspelled []))
+  line-by true = start-inside (startOf heads line)
+  line-by false = tt
+
+  pub line-inside : Inside line (listRow line) (readLine line)
+  unfolding readLine listRow
+  line-inside = line-by (leb (length line) 65535)

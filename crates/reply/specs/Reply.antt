@@ -6,13 +6,19 @@ use mathlib.Core.Path.{_≡_}
 use Prim.Native.Nat.{ℕ, _-_}
 use lib.Dec.{leb}
 use lib.IntN.{ℤ}
-use lib.ListN.{length, take, drop}
-use Rattle.form.specs.Answer.{Outcome, answer, refusal, withForm, needs}
+use lib.ListN.{take, drop}
+use Rattle.form.specs.Answer.{Outcome, answer, refusal, within, withForm, withList, needs}
 use Rattle.form.specs.declared.answer.Kind.{Kind}
-use Rattle.form.specs.declared.answer.Kind.the-variants.{Either}
+use Rattle.form.specs.declared.answer.Kind.the-variants.{Predicate, Either}
+use Rattle.form.specs.declared.lists.ListKind.{ListKind}
+use Rattle.form.specs.declared.lists.ListKind.the-variants.{Pairs, Places}
 use Rattle.subst.specs.Shift.{shiftOutcome}
-use Rattle.line.specs.Spell.{fitsForm, printOutcome, printNo}
-use Rattle.line.specs.Line.{Formed, formed, readLine}
+use Rattle.subst.specs.Bind.{bindOutcome}
+use Rattle.replace.specs.Free.{freeOutcome}
+use Rattle.replace.specs.Fill.{fillOutcome}
+use Rattle.replace.specs.Prune.{pruneOutcome}
+use Rattle.line.specs.Spell.{fitsForm, fitsList, fitsNames, printOutcome, printNo}
+use Rattle.line.specs.Line.{Formed, formed, readLine, listRow}
 use Rattle.line.specs.declared.head.Head.{Head}
 use Rattle.line.specs.declared.head.Head.the-variants.{Shift, Free, Bind, Fill, Prune, Point, Member}
 use Rattle.line.specs.declared.line.Part.{Part}
@@ -23,37 +29,43 @@ use Rattle.line.specs.declared.line.Line.the-variants.{Command, Misspelled}
 abbrev pub textOf : List ℕ → Part → List ℕ
 textOf line p = take (p .end - p .start) (drop (p .start) line)
 
--- a form's 1 and 2, then its 8
+-- a row's 1 and 2, then its 8; names have no 2
 unfoldable pub spelledForm : Kind → List ℕ → List ℕ → Outcome → Outcome
 spelledForm kind text row o = withForm kind row (λ s f. needs 8 (fitsForm text row) o)
 
--- a head whose command is not there is an unknown head
-abbrev pub commandOutcome : Head → ℤ → List ℕ → List ℕ → ℕ → Outcome
-commandOutcome Shift z text row room = spelledForm Either text row (shiftOutcome row z room)
-commandOutcome Free z text row room = refusal 8
-commandOutcome Bind z text row room = refusal 8
-commandOutcome Fill z text row room = refusal 8
-commandOutcome Prune z text row room = refusal 8
-commandOutcome Point z text row room = refusal 8
-commandOutcome Member z text row room = refusal 8
+unfoldable pub spelledList : ListKind → List ℕ → List ℕ → Outcome → Outcome
+spelledList kind text row o = withList kind row (λ es. needs 8 (fitsList kind text row) o)
 
-abbrev pub ofLine : List ℕ → ℕ → Formed → Outcome
-ofLine line room (formed (Command p) ws) = commandOutcome (p .head) (p .offset) (textOf line (p .form)) ws room
-ofLine line room (formed Misspelled ws) = refusal 8
+unfoldable pub spelledNames : List ℕ → List ℕ → Outcome → Outcome
+spelledNames text row o = within row (needs 8 (fitsNames text row) o)
 
--- with rows for the form and the list of at least 8,192 words, and a row for the answer
-unfoldable pub lineOutcome : List ℕ → ℕ → ℕ → ℕ → Outcome
-lineOutcome line list form room = needs 15 (leb 8192 list && leb 8192 form) (ofLine line room (readLine line))
+-- the list's text and row, the form's text and row, and the room in the work row and in the output; a head whose command is not there is
+-- an unknown head
+abbrev pub commandOutcome : Head → ℤ → List ℕ → List ℕ → List ℕ → List ℕ → ℕ → ℕ → Outcome
+commandOutcome Shift z listText list text row work room = spelledForm Either text row (shiftOutcome row z room)
+commandOutcome Free z listText list text row work room = spelledForm Either text row (spelledList Pairs listText list (freeOutcome list row work room))
+commandOutcome Bind z listText list text row work room = spelledForm Either text row (spelledNames listText list (bindOutcome list row room))
+commandOutcome Fill z listText list text row work room = spelledForm Predicate text row (spelledList Places listText list (fillOutcome list row work room))
+commandOutcome Prune z listText list text row work room = spelledForm Predicate text row (pruneOutcome row room)
+commandOutcome Point z listText list text row work room = refusal 8
+commandOutcome Member z listText list text row work room = refusal 8
+
+abbrev pub ofLine : List ℕ → ℕ → ℕ → Formed → Outcome
+ofLine line work room (formed (Command p) ws) =
+    commandOutcome (p .head) (p .offset) (textOf line (p .list)) (listRow line) (textOf line (p .form)) ws work room
+ofLine line work room (formed Misspelled ws) = refusal 8
+
+-- 15 where the row for the list or for the form has under 8,192 words, or the work row under 16,384
+abbrev pub enoughRows : ℕ → ℕ → ℕ → Bool
+enoughRows list form work = leb 8192 list && (leb 8192 form && leb 16384 work)
+
+unfoldable pub lineOutcome : List ℕ → ℕ → ℕ → ℕ → ℕ → Outcome
+lineOutcome line list form work room = needs 15 (enoughRows list form work) (ofLine line work room (readLine line))
 
 -- the bytes of the answer, in a buffer of so many
 abbrev pub printed : ℕ → Outcome → Outcome
 printed bytes (answer ws) = printOutcome ws bytes
 printed bytes (refusal k) = printNo k bytes
 
-unfoldable pub replyOutcome : List ℕ → ℕ → ℕ → ℕ → ℕ → Outcome
-replyOutcome line list form room bytes = printed bytes (lineOutcome line list form room)
-
--- an answer stands at the front of its row; what follows it there is free
-abbrev pub Fronts : Outcome → List ℕ → Type 0
-Fronts (answer ws) row = take (length ws) row ≡ ws
-Fronts (refusal k) row = Unit {0}
+unfoldable pub replyOutcome : List ℕ → ℕ → ℕ → ℕ → ℕ → ℕ → Outcome
+replyOutcome line list form work room bytes = printed bytes (lineOutcome line list form work room)

@@ -1,10 +1,16 @@
-// A row's 1 and 2, and then the 8 of brackets that balance but do not hold one node each.
+// A row's 1 and 2, and then the 8 of brackets that balance but do not hold one node, pair or place each.
 use form::answer::Answer;
 use form::answer::Kind;
+use form::answer::Limit;
+use form::lists::ListKind;
+use form::lists::mark_list;
+use line::line::Part;
 ghost use mathlib.Core.Path.{_≡_};
 ghost use mathlib.Core.List.{[]};
 ghost use Rattle.form.specs.Answer.{told, answer};
-ghost use Rattle.reply.specs.Reply.{spelledForm};
+ghost use Rattle.line.specs.Line.{listRow};
+ghost use Rattle.reply.specs.Reply.{textOf, spelledForm, spelledList, spelledNames};
+ghost use Rattle.reply.specs.Internal.Parts.{Held, formWords};
 
 // Whether the row is one form of the kind and the text its spelling.
 pub fn check_text(text: &[u8], row: &[u32], kind: Kind) -> Answer
@@ -18,4 +24,77 @@ pub fn check_text(text: &[u8], row: &[u32], kind: Kind) -> Answer
         return Answer::No(8);
     }
     Answer::Done(0)
+}
+
+// Whether the row is a list of the kind and the text its spelling.
+pub fn check_list_text(text: &[u8], row: &[u32], kind: ListKind) -> Answer
+    ensures { λ r. ⌜ r ≡ told (spelledList kind (now (text .entry)) (now (row .entry)) (answer [])) ⌝ }
+{
+    if Limit::WORDS < row.len() {
+        return Answer::No(1);
+    }
+    let mut marks = [0u32; 1];
+    let listed = mark_list(row, kind, &mut marks);
+    if !listed.ok {
+        return Answer::No(2);
+    }
+    if !line::fits::fits_list(text, row, kind) {
+        return Answer::No(8);
+    }
+    Answer::Done(0)
+}
+
+// Whether the row is short enough and the text its spelling as a list of names.
+pub fn check_names_text(text: &[u8], row: &[u32]) -> Answer
+    ensures { λ r. ⌜ r ≡ told (spelledNames (now (text .entry)) (now (row .entry)) (answer [])) ⌝ }
+{
+    if Limit::WORDS < row.len() {
+        return Answer::No(1);
+    }
+    if !line::fits::fits_names(text, row) {
+        return Answer::No(8);
+    }
+    Answer::Done(0)
+}
+
+// The form of a line.
+pub(crate) fn check_form_part(line: &[u8], row: &[u32], part: Part, kind: Kind) -> Answer
+    requires { ⌜ Held (now line) (now row) (formWords (now line)) part ⌝ }
+    ensures { λ r. ⌜ r ≡ told (spelledForm kind (textOf (now (line .entry)) part) (formWords (now (line .entry))) (answer [])) ⌝ }
+{
+    let start = part.start;
+    let end = part.end;
+    let count = part.count;
+    if Limit::WORDS < count {
+        return Answer::No(1);
+    }
+    check_text(&line[start..end], &row[..count], kind)
+}
+
+// The list of a line.
+pub(crate) fn check_list_part(line: &[u8], row: &[u32], part: Part, kind: ListKind) -> Answer
+    requires { ⌜ Held (now line) (now row) (listRow (now line)) part ⌝ }
+    ensures { λ r. ⌜ r ≡ told (spelledList kind (textOf (now (line .entry)) part) (listRow (now (line .entry))) (answer [])) ⌝ }
+{
+    let start = part.start;
+    let end = part.end;
+    let count = part.count;
+    if Limit::WORDS < count {
+        return Answer::No(1);
+    }
+    check_list_text(&line[start..end], &row[..count], kind)
+}
+
+// The names of a line.
+pub(crate) fn check_names_part(line: &[u8], row: &[u32], part: Part) -> Answer
+    requires { ⌜ Held (now line) (now row) (listRow (now line)) part ⌝ }
+    ensures { λ r. ⌜ r ≡ told (spelledNames (textOf (now (line .entry)) part) (listRow (now (line .entry))) (answer [])) ⌝ }
+{
+    let start = part.start;
+    let end = part.end;
+    let count = part.count;
+    if Limit::WORDS < count {
+        return Answer::No(1);
+    }
+    check_names_text(&line[start..end], &row[..count])
 }

@@ -2,7 +2,6 @@
 use mathlib.Core.Path.{sym}
 use lib.Seq.{length-take-le}
 use borrow.Author.Needs.{needs}
-use borrow.Author.Needs.{needs}
 use Rattle.cell.proofs.last.Statement.{statement}
 use Rattle.cell.proofs.last.Tie as tie
 use Rattle.cell.proofs.last.Reads as reads
@@ -47,6 +46,9 @@ same-length-3 c = search needs
 same-length-4 : tie.Need-same-length-4
 same-length-4 c = search needs
 
+same-length-5 : tie.Need-same-length-5
+same-length-5 c = search needs
+
 returns-3 : tie.Need-returns-3
 returns-3 c = search needs
 
@@ -66,4 +68,5 @@ last-spec =
     same-length-2
     same-length-3
     same-length-4
+    same-length-5
     returns-3)

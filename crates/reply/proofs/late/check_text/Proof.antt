@@ -1,6 +1,10 @@
 -- `reply::late::check_text` meets its contract. Assumes nothing.
-use Rattle.subst.proofs.ItemLaws.{not-yes, not-no}
-use Rattle.reply.proofs.LateLaws.{late-refused, late-unfit, late-fits}
+use mathlib.Core.Path.{refl, sym, _∙_}
+use mathlib.Core.Bool.{true, false}
+use native.Mathlib.Omega.{arith}
+use borrow.Author.Tests.{not-true, not-false}
+use lib.Seq.{length-take-le}
+use Rattle.reply.proofs.LateLaws.{late-refused, late-told}
 use borrow.Author.Needs.{needs}
 use Rattle.reply.proofs.late.check_text.Statement.{statement}
 use Rattle.reply.proofs.late.check_text.Tie as tie
@@ -19,16 +23,16 @@ enum-told : tie.Need-enum-told
 enum-told c = search needs
 
 returns : tie.Need-returns
-returns c = late-refused _ _ _ _ _ (c .before .before .check .ensures) _ (c .enum-told .given .1)
+returns c = late-refused _ _ _ _ _ (c .before .before .check .ensures) (c .enum-told .given .1)
 
 fits-form-requires : tie.Need-fits-form-requires
 fits-form-requires c κs = search needs
 
 returns-2 : tie.Need-returns-2
-returns-2 c = late-unfit _ _ _ _ _ (c .before .before .before .before .before .check .ensures) _ (c .before .before .before .checked .given .1) _ (c .before .fits-form .ensures) (not-yes _ (c .if1 .taken))
+returns-2 c = late-told _ _ _ _ _ (c .before .before .before .before .before .check .ensures) (c .before .before .before .checked .given .1) false (sym (not-true _ (c .if1 .taken)) ∙ c .before .fits-form .ensures)
 
 returns-3 : tie.Need-returns-3
-returns-3 c = late-fits _ _ _ _ _ (c .before .before .before .before .before .check .ensures) _ (c .before .before .before .checked .given .1) _ (c .before .fits-form .ensures) (not-no _ (c .if1 .left))
+returns-3 c = late-told _ _ _ _ _ (c .before .before .before .before .before .check .ensures) (c .before .before .before .checked .given .1) true (sym (not-false _ (c .if1 .left)) ∙ c .before .fits-form .ensures)
 
 pub check-text-spec : {M : Type 1} → statement M
 check-text-spec =

@@ -4,7 +4,8 @@ use native.Mathlib.Omega.{arith}
 use lib.Seq.{length-take-le}
 use lib.ListN.{length}
 use Rattle.reply.specs.Reply.{lineOutcome, replyOutcome}
-use Rattle.reply.proofs.ReplyLaws.{too-short, row-there, no-there, printed-says}
+use Rattle.reply.proofs.LateLaws.{said-same}
+use Rattle.reply.proofs.ReplyLaws.{too-short, row-there, no-there}
 use borrow.Author.Needs.{needs}
 use Rattle.reply.proofs.reply.reply.Statement.{statement}
 use Rattle.reply.proofs.reply.reply.Tie as tie
@@ -29,11 +30,14 @@ same-length-2 c = search needs
 same-length-3 : tie.Need-same-length-3
 same-length-3 c = search needs
 
+same-length-4 : tie.Need-same-length-4
+same-length-4 c = search needs
+
 returns : tie.Need-returns
-returns c = too-short (lineOutcome (c .before .before .before .before .before .before .before .before .before .before .before .before .before .before .before .before .before .before .before .args .line .now) (length (c .before .before .before .before .before .before .before .before .before .before .before .before .before .before .before .before .before .before .before .args .list .now)) (length (c .before .before .before .before .before .before .before .before .before .before .before .before .before .before .before .before .before .before .before .args .form .now)) (length (c .before .before .before .before .before .before .before .before .before .before .before .before .before .before .before .before .before .before .before .args .result .now))) _ _ (c .before .before .before .before .before .before .before .before .before .before .answer-line .ensures) _ (c .before .before .n .given .1) (c .if1 .taken)
+returns c = too-short (lineOutcome (c .before .before .before .before .before .before .before .before .before .before .before .before .before .before .before .before .before .before .before .before .before .before .before .args .line .now) (length (c .before .before .before .before .before .before .before .before .before .before .before .before .before .before .before .before .before .before .before .before .before .before .before .args .list .now)) (length (c .before .before .before .before .before .before .before .before .before .before .before .before .before .before .before .before .before .before .before .before .before .before .before .args .form .now)) (length (c .before .before .before .before .before .before .before .before .before .before .before .before .before .before .before .before .before .before .before .before .before .before .before .args .work .now)) (length (c .before .before .before .before .before .before .before .before .before .before .before .before .before .before .before .before .before .before .before .before .before .before .before .args .result .now))) _ _ _ (c .before .before .before .before .before .before .before .before .before .before .before .before .answer-line .ensures) _ (c .before .before .n .given .1) (c .if1 .taken)
 
 slice-reshare-prefix-print-form : tie.Need-slice-reshare-prefix-print-form
-slice-reshare-prefix-print-form c = omega arith
+slice-reshare-prefix-print-form c = search needs
 
 slice-aggregate-print-form : tie.Need-slice-aggregate-print-form
 slice-aggregate-print-form c = sym (length-take-le _ _ (c .before .if1 .left))
@@ -47,9 +51,6 @@ enum-known-k c = search needs
 print-no-requires : tie.Need-print-no-requires
 print-no-requires c κs = search needs
 
-same-length-4 : tie.Need-same-length-4
-same-length-4 c = search needs
-
 same-length-5 : tie.Need-same-length-5
 same-length-5 c = search needs
 
@@ -59,15 +60,15 @@ same-length-6 c = search needs
 same-length-7 : tie.Need-same-length-7
 same-length-7 c = search needs
 
-returns-2 : tie.Need-returns-2
-unfolding replyOutcome
-returns-2 c = printed-says _ _ _ _ _ (row-there (lineOutcome (c .before .before .before .before .before .before .before .before .before .before .before .before .before .before .before .before .before .before .before .before .before .before .before .before .args .line .now) (length (c .before .before .before .before .before .before .before .before .before .before .before .before .before .before .before .before .before .before .before .before .before .before .before .before .args .list .now)) (length (c .before .before .before .before .before .before .before .before .before .before .before .before .before .before .before .before .before .before .before .before .before .before .before .before .args .form .now)) (length (c .before .before .before .before .before .before .before .before .before .before .before .before .before .before .before .before .before .before .before .before .before .before .before .before .args .result .now))) _ _ (c .before .before .before .before .before .before .before .before .before .before .before .before .before .before .before .answer-line .ensures) _ (length (c .before .before .before .before .before .before .before .before .before .before .before .before .before .before .before .before .before .before .before .before .before .before .before .before .args .bytes .now)) (c .before .before .before .before .before .before .before .n .given .1)) (c .before .before .print-form .ensures)
-
 same-length-8 : tie.Need-same-length-8
 same-length-8 c = search needs
 
 same-length-9 : tie.Need-same-length-9
 same-length-9 c = search needs
+
+returns-2 : tie.Need-returns-2
+unfolding replyOutcome
+returns-2 c = said-same _ _ _ _ _ (row-there (lineOutcome (c .before .before .before .before .before .before .before .before .before .before .before .before .before .before .before .before .before .before .before .before .before .before .before .before .before .before .before .before .args .line .now) (length (c .before .before .before .before .before .before .before .before .before .before .before .before .before .before .before .before .before .before .before .before .before .before .before .before .before .before .before .before .args .list .now)) (length (c .before .before .before .before .before .before .before .before .before .before .before .before .before .before .before .before .before .before .before .before .before .before .before .before .before .before .before .before .args .form .now)) (length (c .before .before .before .before .before .before .before .before .before .before .before .before .before .before .before .before .before .before .before .before .before .before .before .before .before .before .before .before .args .work .now)) (length (c .before .before .before .before .before .before .before .before .before .before .before .before .before .before .before .before .before .before .before .before .before .before .before .before .before .before .before .before .args .result .now))) _ _ _ (c .before .before .before .before .before .before .before .before .before .before .before .before .before .before .before .before .before .answer-line .ensures) _ (length (c .before .before .before .before .before .before .before .before .before .before .before .before .before .before .before .before .before .before .before .before .before .before .before .before .before .before .before .before .args .bytes .now)) (c .before .before .before .before .before .before .before .n .given .1)) (c .before .before .print-form .ensures)
 
 same-length-10 : tie.Need-same-length-10
 same-length-10 c = search needs
@@ -75,9 +76,18 @@ same-length-10 c = search needs
 same-length-11 : tie.Need-same-length-11
 same-length-11 c = search needs
 
+same-length-12 : tie.Need-same-length-12
+same-length-12 c = search needs
+
+same-length-13 : tie.Need-same-length-13
+same-length-13 c = search needs
+
+same-length-14 : tie.Need-same-length-14
+same-length-14 c = search needs
+
 returns-3 : tie.Need-returns-3
 unfolding replyOutcome
-returns-3 c = printed-says _ _ _ _ _ (no-there (lineOutcome (c .before .before .before .before .before .before .before .before .before .before .before .before .before .before .before .before .before .before .before .before .before .before .args .line .now) (length (c .before .before .before .before .before .before .before .before .before .before .before .before .before .before .before .before .before .before .before .before .before .before .args .list .now)) (length (c .before .before .before .before .before .before .before .before .before .before .before .before .before .before .before .before .before .before .before .before .before .before .args .form .now)) (length (c .before .before .before .before .before .before .before .before .before .before .before .before .before .before .before .before .before .before .before .before .before .before .args .result .now))) _ _ (c .before .before .before .before .before .before .before .before .before .before .before .before .before .answer-line .ensures) _ (length (c .before .before .before .before .before .before .before .before .before .before .before .before .before .before .before .before .before .before .before .before .before .before .args .bytes .now)) (c .before .before .before .before .before .k .given .1)) (c .before .before .print-no .ensures)
+returns-3 c = said-same _ _ _ _ _ (no-there (lineOutcome (c .before .before .before .before .before .before .before .before .before .before .before .before .before .before .before .before .before .before .before .before .before .before .before .before .before .before .args .line .now) (length (c .before .before .before .before .before .before .before .before .before .before .before .before .before .before .before .before .before .before .before .before .before .before .before .before .before .before .args .list .now)) (length (c .before .before .before .before .before .before .before .before .before .before .before .before .before .before .before .before .before .before .before .before .before .before .before .before .before .before .args .form .now)) (length (c .before .before .before .before .before .before .before .before .before .before .before .before .before .before .before .before .before .before .before .before .before .before .before .before .before .before .args .work .now)) (length (c .before .before .before .before .before .before .before .before .before .before .before .before .before .before .before .before .before .before .before .before .before .before .before .before .before .before .args .result .now))) _ _ _ (c .before .before .before .before .before .before .before .before .before .before .before .before .before .before .before .answer-line .ensures) _ (length (c .before .before .before .before .before .before .before .before .before .before .before .before .before .before .before .before .before .before .before .before .before .before .before .before .before .before .args .bytes .now)) (c .before .before .before .before .before .k .given .1)) (c .before .before .print-no .ensures)
 
 pub reply-spec : {M : Type 1} → statement M
 reply-spec =
@@ -88,19 +98,22 @@ reply-spec =
     same-length
     same-length-2
     same-length-3
+    same-length-4
     returns
     slice-reshare-prefix-print-form
     slice-aggregate-print-form
     print-form-requires
     enum-known-k
     print-no-requires
-    same-length-4
     same-length-5
     same-length-6
     same-length-7
-    returns-2
     same-length-8
     same-length-9
+    returns-2
     same-length-10
     same-length-11
+    same-length-12
+    same-length-13
+    same-length-14
     returns-3)

@@ -1,0 +1,51 @@
+-- `reply::commands::prune_part` meets its contract. Assumes nothing.
+use mathlib.Core.Path.{refl, sym, _∙_}
+use mathlib.Core.Bool.{true, false}
+use native.Mathlib.Omega.{arith}
+use borrow.Author.Tests.{not-true, not-false}
+use lib.Seq.{length-take-le}
+use Rattle.reply.proofs.LateLaws.{form-tests, test-refused, test-passed, test-short, held-fits, held-row}
+use borrow.Author.Needs.{needs}
+use Rattle.reply.proofs.commands.prune_part.Statement.{statement}
+use Rattle.reply.proofs.commands.prune_part.Tie as tie
+use Rattle.reply.proofs.commands.prune_part.Reads as reads
+use Rattle.reply.proofs.commands.prune_part.Lts as lts
+use Rattle.replace.proofs.prune.remove_unused_decls.Reads as remove-unused-decls-reads
+use Rattle.reply.proofs.late.check_form_part.Reads as check-form-part-reads
+
+check-form-part-requires : tie.Need-check-form-part-requires
+check-form-part-requires c κs = c .before .before .before .pre
+
+enum-known-checked : tie.Need-enum-known-checked
+enum-known-checked c = search needs
+
+enum-told : tie.Need-enum-told
+enum-told c = search needs
+
+returns : tie.Need-returns
+returns c = test-refused _ _ (form-tests _ _ _) _ _ (c .before .before .check-form-part .ensures) (c .enum-told .given .1) _ _
+
+slice-aggregate-remove-unused-decls : tie.Need-slice-aggregate-remove-unused-decls
+slice-aggregate-remove-unused-decls c = sym (length-take-le _ _ (held-fits _ _ _ _ (c .before .before .before .before .before .before .before .before .pre) (test-short _ _ (form-tests _ _ _) _ _ (c .before .before .before .before .check-form-part .ensures) (c .before .before .checked .given .1) _ (c .before .before .before .before .before .before .before .before .pre .counted))))
+
+remove-unused-decls-requires : tie.Need-remove-unused-decls-requires
+remove-unused-decls-requires c κs = search needs
+
+same-length : tie.Need-same-length
+same-length c = search needs
+
+returns-2 : tie.Need-returns-2
+returns-2 c = test-passed _ _ (form-tests _ _ _) _ _ (c .before .before .before .before .before .before .before .before .check-form-part .ensures) (c .before .before .before .before .before .before .checked .given .1) _ _ _ _ (rw (held-row _ _ _ _ (c .before .before .before .before .before .before .before .before .before .before .before .before .pre) (test-short _ _ (form-tests _ _ _) _ _ (c .before .before .before .before .before .before .before .before .check-form-part .ensures) (c .before .before .before .before .before .before .checked .given .1) _ (c .before .before .before .before .before .before .before .before .before .before .before .before .pre .counted))) at (c .before .before .remove-unused-decls .ensures))
+
+pub prune-part-spec : {M : Type 1} → statement M
+prune-part-spec =
+    tie.close
+    (tie.spec
+    check-form-part-requires
+    enum-known-checked
+    enum-told
+    returns
+    slice-aggregate-remove-unused-decls
+    remove-unused-decls-requires
+    same-length
+    returns-2)

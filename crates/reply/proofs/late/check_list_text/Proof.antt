@@ -1,0 +1,47 @@
+-- `reply::late::check_list_text` meets its contract. Assumes nothing.
+use mathlib.Core.Path.{refl, sym, _∙_}
+use mathlib.Core.Bool.{true, false}
+use native.Mathlib.Omega.{arith}
+use borrow.Author.Tests.{not-true, not-false}
+use lib.Seq.{length-take-le}
+use Rattle.reply.proofs.LateLaws.{told-long, list-tests, list-none, list-told}
+use borrow.Author.Needs.{needs}
+use Rattle.reply.proofs.late.check_list_text.Statement.{statement}
+use Rattle.reply.proofs.late.check_list_text.Tie as tie
+use Rattle.reply.proofs.late.check_list_text.Reads as reads
+use Rattle.reply.proofs.late.check_list_text.Lts as lts
+use Rattle.form.proofs.lists.mark_list.Reads as mark-list-reads
+use Rattle.line.proofs.fits.fits_list.Reads as fits-list-reads
+
+returns : tie.Need-returns
+returns c = told-long _ _ (list-tests _ _ _) (c .if1 .taken) _
+
+slice-aggregate-mark-list : tie.Need-slice-aggregate-mark-list
+slice-aggregate-mark-list c = search needs
+
+mark-list-requires : tie.Need-mark-list-requires
+mark-list-requires c κs = search needs
+
+returns-2 : tie.Need-returns-2
+returns-2 c = list-none _ _ _ (c .before .before .before .before .before .if1 .left) _ _ _ (c .before .before .before .mark-list .ensures) (not-true _ (c .if2 .taken))
+
+fits-list-requires : tie.Need-fits-list-requires
+fits-list-requires c κs = search needs
+
+returns-3 : tie.Need-returns-3
+returns-3 c = list-told _ _ _ (c .before .before .before .before .before .before .before .if1 .left) _ _ _ (c .before .before .before .before .before .mark-list .ensures) (not-false _ (c .before .before .if2 .left)) false (sym (not-true _ (c .if3 .taken)) ∙ c .before .fits-list .ensures)
+
+returns-4 : tie.Need-returns-4
+returns-4 c = list-told _ _ _ (c .before .before .before .before .before .before .before .if1 .left) _ _ _ (c .before .before .before .before .before .mark-list .ensures) (not-false _ (c .before .before .if2 .left)) true (sym (not-false _ (c .if3 .left)) ∙ c .before .fits-list .ensures)
+
+pub check-list-text-spec : {M : Type 1} → statement M
+check-list-text-spec =
+    tie.close
+    (tie.spec
+    returns
+    slice-aggregate-mark-list
+    mark-list-requires
+    returns-2
+    fits-list-requires
+    returns-3
+    returns-4)
