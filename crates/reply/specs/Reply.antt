@@ -17,6 +17,7 @@ use Rattle.subst.specs.Bind.{bindOutcome}
 use Rattle.replace.specs.Free.{freeOutcome}
 use Rattle.replace.specs.Fill.{fillOutcome}
 use Rattle.replace.specs.Prune.{pruneOutcome}
+use Rattle.one_point.specs.Point.{pointOutcome}
 use Rattle.line.specs.Spell.{fitsForm, fitsList, fitsNames, printOutcome, printNo}
 use Rattle.line.specs.Line.{Formed, formed, readLine, listRow}
 use Rattle.line.specs.declared.head.Head.{Head}
@@ -47,7 +48,7 @@ commandOutcome Free z listText list text row work room = spelledForm Either text
 commandOutcome Bind z listText list text row work room = spelledForm Either text row (spelledNames listText list (bindOutcome list row room))
 commandOutcome Fill z listText list text row work room = spelledForm Predicate text row (spelledList Places listText list (fillOutcome list row work room))
 commandOutcome Prune z listText list text row work room = spelledForm Predicate text row (pruneOutcome row room)
-commandOutcome Point z listText list text row work room = refusal 8
+commandOutcome Point z listText list text row work room = spelledForm Predicate text row (pointOutcome row work room)
 commandOutcome Member z listText list text row work room = refusal 8
 
 abbrev pub ofLine : List ℕ → ℕ → ℕ → Formed → Outcome

@@ -15,6 +15,7 @@ use Rattle.line.proofs.line.read_line.Reads as read-line-reads
 use Rattle.reply.proofs.commands.bind_part.Reads as bind-part-reads
 use Rattle.reply.proofs.commands.fill_part.Reads as fill-part-reads
 use Rattle.reply.proofs.commands.free_part.Reads as free-part-reads
+use Rattle.reply.proofs.commands.point_part.Reads as point-part-reads
 use Rattle.reply.proofs.commands.prune_part.Reads as prune-part-reads
 use Rattle.reply.proofs.commands.shift_part.Reads as shift-part-reads
 use Rattle.reply.proofs.reply.are_enough.Reads as are-enough-reads
@@ -75,6 +76,9 @@ prune-part-requires c κs = (held-form (c .before .before .before .before .befor
 
 enum-told-7 : tie.Need-enum-told-7
 enum-told-7 c = search needs
+
+point-part-requires : tie.Need-point-part-requires
+point-part-requires c κs = (held-form (c .before .before .before .before .before .before .before .before .before .before .before .before .before .before .before .before .before .before .before .before .before .before .args .line .now) (length (c .before .before .before .before .before .before .before .before .before .before .before .before .before .before .before .before .before .before .before .before .before .before .args .list .now)) (length (c .before .before .before .before .before .before .before .before .before .before .before .before .before .before .before .before .before .before .before .before .before .before .args .form .now)) (length (c .before .before .before .before .before .before .before .before .before .before .before .before .before .before .before .before .before .before .before .before .before .before .args .work .now)) (length (c .before .before .before .before .before .before .before .before .before .before .before .before .before .before .before .before .before .before .before .before .before .before .args .result .now)) (sym (c .before .before .before .before .before .before .before .before .before .before .before .before .before .before .before .before .are-enough .ensures) ∙ not-false _ (c .before .before .before .before .before .before .before .before .before .before .before .before .before .before .before .if1 .left)) _ (c .before .before .before .before .before .before .before .before .before .before .before .before .read-line .ensures .0) _ (c .before .before .before .before .before .before .parts .given .1) (c .before .before .before .before .before .before .before .before .before .before .before .before .before .before .before .before .before .before .before .before .before .before .args .form .now) _ refl (c .before .before .before .before .before .before .before .before .before .before .before .before .read-line .ensures .1 .1) (c .before .before .before .before .before .before .before .before .before .before .before .before .read-line .kept .1 .1 .0))
 
 enum-told-8 : tie.Need-enum-told-8
 enum-told-8 c = search needs
@@ -151,14 +155,20 @@ same-length-20 c = search needs
 same-length-21 : tie.Need-same-length-21
 same-length-21 c = search needs
 
-returns-8 : tie.Need-returns-8
-returns-8 c = command-said (c .before .before .before .before .before .before .before .before .before .before .before .before .before .before .before .before .before .before .before .args .line .now) (length (c .before .before .before .before .before .before .before .before .before .before .before .before .before .before .before .before .before .before .before .args .list .now)) (length (c .before .before .before .before .before .before .before .before .before .before .before .before .before .before .before .before .before .before .before .args .form .now)) (length (c .before .before .before .before .before .before .before .before .before .before .before .before .before .before .before .before .before .before .before .args .work .now)) (length (c .before .before .before .before .before .before .before .before .before .before .before .before .before .before .before .before .before .before .before .args .result .now)) (sym (c .before .before .before .before .before .before .before .before .before .before .before .before .before .are-enough .ensures) ∙ not-false _ (c .before .before .before .before .before .before .before .before .before .before .before .before .if1 .left)) _ (c .before .before .before .before .before .before .before .before .before .read-line .ensures .0) _ (c .before .before .before .parts .given .1) Point (c .enum-told7 .given .1) _ _ _ (refl, refl)
-
 same-length-22 : tie.Need-same-length-22
 same-length-22 c = search needs
 
 same-length-23 : tie.Need-same-length-23
 same-length-23 c = search needs
+
+returns-8 : tie.Need-returns-8
+returns-8 c = command-said (c .before .before .before .before .before .before .before .before .before .before .before .before .before .before .before .before .before .before .before .before .before .before .before .before .before .before .before .args .line .now) (length (c .before .before .before .before .before .before .before .before .before .before .before .before .before .before .before .before .before .before .before .before .before .before .before .before .before .before .before .args .list .now)) (length (c .before .before .before .before .before .before .before .before .before .before .before .before .before .before .before .before .before .before .before .before .before .before .before .before .before .before .before .args .form .now)) (length (c .before .before .before .before .before .before .before .before .before .before .before .before .before .before .before .before .before .before .before .before .before .before .before .before .before .before .before .args .work .now)) (length (c .before .before .before .before .before .before .before .before .before .before .before .before .before .before .before .before .before .before .before .before .before .before .before .before .before .before .before .args .result .now)) (sym (c .before .before .before .before .before .before .before .before .before .before .before .before .before .before .before .before .before .before .before .before .before .are-enough .ensures) ∙ not-false _ (c .before .before .before .before .before .before .before .before .before .before .before .before .before .before .before .before .before .before .before .before .if1 .left)) _ (c .before .before .before .before .before .before .before .before .before .before .before .before .before .before .before .before .before .read-line .ensures .0) _ (c .before .before .before .before .before .before .before .before .before .before .before .parts .given .1) Point (c .before .before .before .before .before .before .before .before .enum-told7 .given .1) _ _ _ (c .before .before .before .before .point-part .ensures)
+
+same-length-24 : tie.Need-same-length-24
+same-length-24 c = search needs
+
+same-length-25 : tie.Need-same-length-25
+same-length-25 c = search needs
 
 returns-9 : tie.Need-returns-9
 returns-9 c = command-said (c .before .before .before .before .before .before .before .before .before .before .before .before .before .before .before .before .before .before .before .args .line .now) (length (c .before .before .before .before .before .before .before .before .before .before .before .before .before .before .before .before .before .before .before .args .list .now)) (length (c .before .before .before .before .before .before .before .before .before .before .before .before .before .before .before .before .before .before .before .args .form .now)) (length (c .before .before .before .before .before .before .before .before .before .before .before .before .before .before .before .before .before .before .before .args .work .now)) (length (c .before .before .before .before .before .before .before .before .before .before .before .before .before .before .before .before .before .before .before .args .result .now)) (sym (c .before .before .before .before .before .before .before .before .before .before .before .before .before .are-enough .ensures) ∙ not-false _ (c .before .before .before .before .before .before .before .before .before .before .before .before .if1 .left)) _ (c .before .before .before .before .before .before .before .before .before .read-line .ensures .0) _ (c .before .before .before .parts .given .1) Member (c .enum-told8 .given .1) _ _ _ (refl, refl)
@@ -186,6 +196,7 @@ answer-line-spec =
     enum-told-6
     prune-part-requires
     enum-told-7
+    point-part-requires
     enum-told-8
     same-length-3
     same-length-4
@@ -211,7 +222,9 @@ answer-line-spec =
     returns-7
     same-length-20
     same-length-21
-    returns-8
     same-length-22
     same-length-23
+    returns-8
+    same-length-24
+    same-length-25
     returns-9)
