@@ -20,3 +20,5 @@ pub mod ReduceLaws
 pub mod RestLaws
 pub mod PlaceLaws
 pub mod PointLaws
+pub mod ShapeLaws
+pub mod OutputLaws

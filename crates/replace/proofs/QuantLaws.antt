@@ -79,7 +79,7 @@ tag-852 : own pred 852 ≡ ask 1 32 (λ n. kids n 1 0)
 unfolding own ownOf shapeOf predTags
 tag-852 = refl
 
-tag-heading : (t : ℕ) (ws o ds : List ℕ) (p e : ℕ) (r : List ℕ) → (eqb t 851 || eqb t 852) ≡ true → read (own pred t) ws ≡ head o ds p e r → Heading o ds p e
+pub tag-heading : (t : ℕ) (ws o ds : List ℕ) (p e : ℕ) (r : List ℕ) → (eqb t 851 || eqb t 852) ≡ true → read (own pred t) ws ≡ head o ds p e r → Heading o ds p e
 tag-heading t ws o ds p e r h q = go (eqb t 851) (eqb t 852) refl refl h
   where
     go : (a b : Bool) → eqb t 851 ≡ a → eqb t 852 ≡ b → (a || b) ≡ true → Heading o ds p e
