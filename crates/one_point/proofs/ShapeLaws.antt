@@ -127,7 +127,7 @@ one-kid : (s : Sort) (t : ℕ) (o ds : List ℕ) (p e : ℕ) → ((x : List ℕ)
 one-kid s t o ds p e h k w = heading-one o ds p e (tag-heading t (o ++ (ds ++ [])) o ds p e [] w (rw k at (h [])))
 
 mutual
-  pub ok-shaped : {d : ℕ} {s : Sort} {f : Form} → Ok d s f → Shaped s f
+  ok-shaped : {d : ℕ} {s : Sort} {f : Form} → Ok d s f → Shaped s f
   ok-shaped (ok-free {n = n} e) = shaped-leaf (free n)
   ok-shaped (ok-bound {n = n} e) = shaped-leaf (bound n)
   ok-shaped (ok-node {s = s} {t = t} {o = o} {ds = ds} {p = p} {e = e} l h k) = shaped-node l (read-same s t o ds p e h) (one-kid s t o ds p e h) (all-shaped k)
@@ -149,7 +149,7 @@ module _ (act : ℕ → Outer → Form) (h : (k : ℕ) (x : Outer) → Shaped ex
   mutual
     unfolding walk
 
-    pub walk-shaped : {s : Sort} {f : Form} → Shaped s f → (k : ℕ) → Shaped s (walk act k f)
+    walk-shaped : {s : Sort} {f : Form} → Shaped s f → (k : ℕ) → Shaped s (walk act k f)
     walk-shaped (shaped-leaf x) k = leaf-shaped k x
     walk-shaped (shaped-node {ds = ds} l r o w) k = shaped-node l r o (walks-shaped w (length ds + k))
 
@@ -231,7 +231,7 @@ module _ (t : ℕ) (which : (eqb t 851 || eqb t 852) ≡ true) where
   quantify-shaped [] h = h
   quantify-shaped (n ∷ ns) h = shaped-node {p = 1} {e = 0} not-leaf (quant-reads (n ∷ ns)) (λ a b. refl) (shaped-more h shaped-none)
 
-  pub fill-whole : (ns : List ℕ) (ps : List Place) {f : Form} → ShapedPlaces ps → Shaped pred f → Shaped pred (fill t ns ps f)
+  fill-whole : (ns : List ℕ) (ps : List Place) {f : Form} → ShapedPlaces ps → Shaped pred f → Shaped pred (fill t ns ps f)
   unfolding fill
   fill-whole ns ps h w = quantify-shaped (keptNames ps ns) (subst-shaped (fillFor ps) (λ x. of-outer x) w)
     where
