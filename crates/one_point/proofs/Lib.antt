@@ -16,7 +16,8 @@ pub mod JunctionLaws
 pub mod NodeLaws
 pub mod PartialLaws
 pub mod ScanLimits
-pub mod ReduceLaws
 pub mod RestLaws
 pub mod PlaceLaws
 pub mod PointLaws
+pub mod ShapeLaws
+pub mod OutputLaws

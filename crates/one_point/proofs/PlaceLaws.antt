@@ -56,7 +56,7 @@ module _ (row : List ℕ) (f : Form) where
   pub whole-pred : decode 63 pred row ≡ got f [] → (row ≡ encode f) × Ok 63 pred f
   whole-pred e = let s = decode-sound 63 pred row f [] e in (s .0 ∙ append-nil (encode f), s .1)
 
-  pub whole-expr : decode 63 expr row ≡ got f [] → (row ≡ encode f) × Ok 63 expr f
+  whole-expr : decode 63 expr row ≡ got f [] → (row ≡ encode f) × Ok 63 expr f
   whole-expr e = let s = decode-sound 63 expr row f [] e in (s .0 ∙ append-nil (encode f), s .1)
 
 row-all : (row ws : List ℕ) → row ≡ ws → row ≡ ws ++ drop (length row) row
@@ -107,7 +107,7 @@ marking-of part pm pm′ f h is m l = record { enough = let e = h .enough in ome
 
 -- the target's place filled in the rest
 module _ (t : ℕ) (ns : List ℕ) (i : ℕ) (part rest : List ℕ) (h : Placing t ns i part rest) where
-  pub place-within : (p : ℕ) → p ≡ length ns - 1 - i → p < length ns
+  place-within : (p : ℕ) → p ≡ length ns - 1 - i → p < length ns
   place-within p e = let a = h .target in omega arith
 
   pub resting : (p : ℕ) (pm : List ℕ) → p ≡ length ns - 1 - i → length part ≤ length pm → Resting t ns p part pm rest

@@ -37,8 +37,7 @@ use Rattle.one_point.specs.declared.one_point_inference.Quantifier.the-v
 use Rattle.one_point.proofs.SidesLaws.{part-words}
 use Rattle.one_point.proofs.PlacesLaws.{PredRow}
 use Rattle.one_point.proofs.PartsLaws.{some-words, in-row}
-use Rattle.one_point.proofs.ScanLimits.{OkScan, rest-ok}
-use Rattle.one_point.proofs.ReduceLaws.{taken-ok}
+use Rattle.one_point.proofs.ScanLimits.{OkScan, rest-ok, scan-ok}
 use Rattle.one_point.proofs.PlaceLaws.{whole-pred}
 
 -- a row that is the words of a well-formed form
@@ -166,7 +165,7 @@ module _ (t : ℕ) (ns body : List ℕ) (wl : ℕ) (h : Reducing t ns body wl) w
             end-is-low false e l = rw e l
 
         took-ok : OkScan (length ns) 63 (scanned (taken i (k .by)) (k .left))
-        took-ok = taken-ok t ns (h .form) (body-is .1) short-form i (k .by) (k .left) (k .is)
+        took-ok = let m = short-form in rw (k .is) at (scan-ok (body-is .1) (omega arith) (length ns) (polarity t))
 
         part-is : decode 63 expr (take (b - a) (drop a body)) ≡ got (k .by) []
         part-is = whole (take (b - a) (drop a body)) (k .by) (part-words body (encode (k .by)) (drop b body) a b (k .there) (k .long)) (took-ok .0 .0)

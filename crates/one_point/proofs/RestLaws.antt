@@ -101,7 +101,7 @@ module _ (t a b c : ℕ) (h₀ h₁ h₂ h₃ front stay inner : List ℕ) (low 
   three : Wrote 2 h₀ (front ++ (stay ++ inner)) c h₃
   three = wrote-on 2 a c h₀ front h₁ (stay ++ inner) h₃ x (wrote-on a b c h₁ stay h₂ inner h₃ y z)
 
-  pub three-end : c ≡ 2 + length (front ++ (stay ++ inner))
+  three-end : c ≡ 2 + length (front ++ (stay ++ inner))
   three-end = wrote-end 2 c h₀ (front ++ (stay ++ inner)) h₃ three
 
   pub no-head : c ≡ 2 → take 0 h₃ ≡ headWords t (front ++ (stay ++ inner))

@@ -16,6 +16,7 @@ pub enum Quantifier {
     None,
 }
 
+// The head of a row that is a predicate.
 fn quantifier_of(row: &[u32]) -> Quantifier
     ensures { λ r. ⌜ r ≡ quantifierIn (now (row .entry)) ⌝ }
 {

@@ -29,6 +29,7 @@ fn inner_end(tag: u32, front: &[u32], stay: &[u32], body: &[u32]) -> usize
     2 + (body[1] as usize)
 }
 
+// Where the names of that head start.
 fn inner_start(end: usize) -> usize
     ensures { λ r. ⌜ r ≡ innerStart end ⌝ }
 {

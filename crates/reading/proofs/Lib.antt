@@ -7,4 +7,5 @@ pub mod ScanTruth
 pub mod FillLaws
 pub mod OnePointLaws
 pub mod PointTruth
+pub mod PointOutput
 pub mod Worked

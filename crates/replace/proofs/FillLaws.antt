@@ -65,7 +65,7 @@ module _ (f : Form) (q : Quant f) (t : Table) (list lm : List ℕ) (ps : List Pl
       (emit-form pred room _)
 
 -- the row's form
-pred-sort : (row : List ℕ) (s : Sort) (f : Form) → formOf Predicate row ≡ found s f → s ≡ pred
+pub pred-sort : (row : List ℕ) (s : Sort) (f : Form) → formOf Predicate row ≡ found s f → s ≡ pred
 unfolding formOf
 pred-sort row s f e = go (rowForm pred row) e
   where

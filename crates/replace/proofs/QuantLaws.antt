@@ -95,7 +95,7 @@ tag-node t h = go (eqb t 851) (eqb t 852) refl refl h
     go false true x y z = rw (eqb-true t 852 y)
     go false false x y z = absurd (clash cc)
 
-tag-heading : (t : ℕ) (ws o ds : List ℕ) (p e : ℕ) (r : List ℕ) → (eqb t 851 || eqb t 852) ≡ true → read (own pred t) ws ≡ head o ds p e r → Heading o ds p e
+pub tag-heading : (t : ℕ) (ws o ds : List ℕ) (p e : ℕ) (r : List ℕ) → (eqb t 851 || eqb t 852) ≡ true → read (own pred t) ws ≡ head o ds p e r → Heading o ds p e
 tag-heading t ws o ds p e r h q = read-heading ws o ds p e r (rw (tag-own t h) at q)
 
 one-kid : {d : ℕ} {ks : Forms} → OkAll d (pred ∷ []) ks → (b : Form) × (ks ≡ more b none) × Ok d pred b
