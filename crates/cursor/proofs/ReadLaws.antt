@@ -10,7 +10,6 @@ use lib.ListN.{length, getD}
 use denote.Ref.{RefT, now}
 use Rattle.cursor.specs.Read.{nextAt, openingOf}
 use Rattle.cursor.specs.declared.Cursor.{Cursor}
-use Rattle.cursor.specs.declared.Opening.{Opening}
 
 next-one : (w : ℕ) (ws : List ℕ) → nextAt (w ∷ ws) 0 ≡ 1
 unfolding nextAt
