@@ -1,0 +1,16 @@
+-- The machine values of a set of places and of an answer.
+use mir.Val.{Val}
+use denote.Steps.{only}
+use denote.Struct.Laws as LL
+use Rattle.one_point.specs.declared.replacements.Replacements.{Replacements}
+use Rattle.one_point.specs.declared.replacements.Offered.{Offered}
+use Rattle.one_point.proofs.replacements.Replacements as T
+use Rattle.one_point.proofs.replacements.Replacements.Laws as T′
+use Rattle.one_point.proofs.replacements.Offered as O
+use Rattle.one_point.proofs.replacements.Offered.Laws as O′
+
+abbrev pub mach : Replacements → Val
+mach p = only (LL.vals T.the-type T′.the-laws p)
+
+abbrev pub machO : Offered → Val
+machO r = only (LL.vals O.the-type O′.the-laws r)
