@@ -1,2 +1,4 @@
+pub mod OutputLaws
 pub mod PutLaws
+pub mod StillLaws
 pub mod TurnLaws

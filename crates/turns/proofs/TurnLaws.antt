@@ -252,6 +252,10 @@ module _ (st : State) (input : ℕ) where
   pub move-end : st .start ≤ st .end → leb (st .end) input ≡ movable st input
   move-end h = rw (le-leb (st .start) (st .end) h)
 
+  pub moved-are : movable st input ≡ true → (st .start ≤ st .end) × (st .end ≤ input)
+  moved-are e =
+      let (a, b) = and-both (leb (st .start) (st .end)) (leb (st .end) input) e in (leb-true (st .start) (st .end) a, leb-true (st .end) input b)
+
 module _ (st : State) (input : List ℕ) where
   abbrev Moved : State → List ℕ → Type 0
   Moved r input′ = (r ≡ movedState st (length input)) × (input′ ≡ put input 0 (movedBytes st input))
@@ -261,12 +265,6 @@ module _ (st : State) (input : List ℕ) where
   moved-not e = rw e (refl, sym (put-none input 0))
 
   module _ (e : movable st (length input) ≡ true) where
-    pub moved-order : st .start ≤ st .end
-    moved-order = leb-true (st .start) (st .end) (and-both (leb (st .start) (st .end)) (leb (st .end) (length input)) e .0)
-
-    pub moved-inside : st .end ≤ length input
-    moved-inside = leb-true (st .end) (length input) (and-both (leb (st .start) (st .end)) (leb (st .end) (length input)) e .1)
-
     pub moved-done : (input′ : List ℕ) → input′ ≡ put input 0 (pendingOf st input)
         → Moved (record { start = 0; end = st .end - st .start; used = st .used; skipping = st .skipping; ended = st .ended }) input′
     unfolding movedState movedBytes

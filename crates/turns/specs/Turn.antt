@@ -1,6 +1,6 @@
 -- The program's turns: the next line is answered behind what is not written yet, or the program is told to write, to read or to stop.
 use mathlib.Core.Bool.{Bool, true, false, _&&_}
-use mathlib.Core.List.{List, [], _∷_}
+use mathlib.Core.List.{List, [], _∷_, _++_}
 use Prim.Native.Nat.{ℕ, _+_, _-_}
 use lib.Dec.{leb, eqb}
 use lib.ListN.{length, take, drop}
@@ -8,7 +8,7 @@ use Rattle.form.specs.Form.{pick}
 use Rattle.reply.specs.Split.{nextOf}
 use Rattle.reply.specs.declared.split.Next.{Next}
 use Rattle.reply.specs.declared.split.Next.the-variants.{Line, Skipped, Long, More}
-use Rattle.turns.specs.Output.{answerTo}
+use Rattle.turns.specs.Output.{answerTo, outputOf}
 use Rattle.turns.specs.declared.state.State.{State}
 use Rattle.turns.specs.declared.turn.Turn.{Turn}
 use Rattle.turns.specs.declared.turn.Turn.the-variants.{On, Write, Read, Stop}
@@ -88,3 +88,7 @@ ending st = record { start = st .start; end = st .end; used = st .used; skipping
 unfoldable pub readState : State → ℕ → ℕ → State
 readState st input got =
     pick (leb got (input - st .end) && leb 1 got) (record { start = st .start; end = st .end + got; used = st .used; skipping = st .skipping; ended = st .ended }) (ending st)
+
+-- all that is printed from here on, if `more` is what is still to be read
+abbrev pub stillOf : State → List ℕ → List ℕ → List ℕ → List ℕ
+stillOf st input output more = take (st .used) output ++ outputOf (st .skipping) (pendingOf st input ++ more)

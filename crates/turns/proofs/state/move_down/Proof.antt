@@ -2,7 +2,7 @@
 use mathlib.Core.Path.{_≡_, refl, sym, ap, _∙_}
 use native.Mathlib.Omega.{arith}
 use borrow.Author.Tests.{not-true, not-false}
-use Rattle.turns.proofs.TurnLaws.{moved-not, moved-order, moved-inside, moved-done}
+use Rattle.turns.proofs.TurnLaws.{moved-are, moved-not, moved-done}
 use borrow.Author.Needs.{needs}
 use Rattle.turns.proofs.state.move_down.Statement.{statement}
 use Rattle.turns.proofs.state.move_down.Tie as tie
@@ -18,10 +18,10 @@ returns : tie.Need-returns
 returns c = moved-not _ _ (sym (c .before .is-movable .ensures) ∙ not-true _ (c .if1 .taken))
 
 move-bytes-requires : tie.Need-move-bytes-requires
-move-bytes-requires c κs = let e = sym (c .before .before .is-movable .ensures) ∙ not-false _ (c .before .if1 .left) in (moved-order (c .before .before .before .before .args .st) (c .before .before .before .before .args .input .now) e, moved-inside (c .before .before .before .before .args .st) (c .before .before .before .before .args .input .now) e)
+move-bytes-requires c κs = moved-are (c .before .before .before .before .args .st) _ (sym (c .before .before .is-movable .ensures) ∙ not-false _ (c .before .if1 .left))
 
 sub-t6 : tie.Need-sub-t6
-sub-t6 c = let a = moved-order (c .before .before .before .before .before .before .before .args .st) (c .before .before .before .before .before .before .before .args .input .now) (sym (c .before .before .before .before .before .is-movable .ensures) ∙ not-false _ (c .before .before .before .before .if1 .left)) in omega arith
+sub-t6 c = let (a, b) = moved-are (c .before .before .before .before .before .before .before .args .st) _ (sym (c .before .before .before .before .before .is-movable .ensures) ∙ not-false _ (c .before .before .before .before .if1 .left)) in omega arith
 
 same-length : tie.Need-same-length
 same-length c = search needs
