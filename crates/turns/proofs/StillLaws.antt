@@ -52,7 +52,7 @@ answer-few : (line : List ℕ) → length (answerTo line) ≤ 131073
 unfolding answerTo replyOutcome
 answer-few line = few-printed (lineOutcome line 8192 8192 16384 8192)
 
-few-next : (s e : Bool) (bs : List ℕ) → length (printedOf (ofNext s e bs (nextOf s bs))) ≤ 131073
+pub few-next : (s e : Bool) (bs : List ℕ) → length (printedOf (ofNext s e bs (nextOf s bs))) ≤ 131073
 unfolding nextOf
 few-next s e bs = go s e (ltb (newlineIn bs) (length bs)) (ltb 65535 (newlineIn bs)) (leb 1 (length bs))
   where
@@ -110,7 +110,7 @@ module _ (rows : Bool) (st : State) (input output : List ℕ) where
   After = put output (st .used) (printedBy rows st input (length output))
 
   module _ (st′ : State) where
-    on-piece : (a b : Bool) (p : Piece) → pick a (pick b (ofPiece st p) (waiting st Stop)) Stop ≡ On st′
+    pub on-piece : (a b : Bool) (p : Piece) → pick a (pick b (ofPiece st p) (waiting st Stop)) Stop ≡ On st′
         → (out : List ℕ) × (n : ℕ) × (s : Bool) × (a ≡ true) × (b ≡ true) × (p ≡ piece out n s) × (st′ ≡ passed st out n s)
     on-piece false b p e = absurd (clash cc)
     on-piece true false p e = absurd (never-on st Stop st′ (inl refl) e)

@@ -11,14 +11,15 @@ use Rattle.turns.specs.declared.state.State.{State}
 use Rattle.turns.specs.declared.turn.Turn.the-variants.{On, Write, Read, Stop}
 
 pub data Run : State → List ℕ → List ℕ → List ℕ → List ℕ → Type 0 where
-  stops : (st : State) (input output : List ℕ) → turnOf true st input (length output) ≡ Stop → Run st input output [] []
-  goes-on : (st next : State) (input output bytes out : List ℕ) → turnOf true st input (length output) ≡ On next
+  stops : {st : State} {input output bytes out : List ℕ} → turnOf true st input (length output) ≡ Stop → bytes ≡ [] → out ≡ [] → Run st input output bytes out
+  goes-on : {st : State} {input output bytes out : List ℕ} (next : State) → turnOf true st input (length output) ≡ On next
       → Run next input (put output (st .used) (printedBy true st input (length output))) bytes out → Run st input output bytes out
-  writes : (st : State) (input output bytes out : List ℕ) → turnOf true st input (length output) ≡ Write
-      → Run (writtenState st) input output bytes out → Run st input output bytes (take (st .used) output ++ out)
-  reads : (st : State) (input input′ output new bytes out : List ℕ) → turnOf true st input (length output) ≡ Read
-      → 1 ≤ length new → length new ≤ length input - movedState st (length input) .end → length input′ ≡ length input
-      → take (movedState st (length input) .end + length new) input′ ≡ take (movedState st (length input) .end) (put input 0 (movedBytes st input)) ++ new
-      → Run (readState (movedState st (length input)) (length input) (length new)) input′ output bytes out → Run st input output (new ++ bytes) out
-  ends : (st : State) (input output out : List ℕ) → turnOf true st input (length output) ≡ Read
-      → Run (readState (movedState st (length input)) (length input) 0) (put input 0 (movedBytes st input)) output [] out → Run st input output [] out
+  writes : {st : State} {input output bytes out : List ℕ} (rest : List ℕ) → turnOf true st input (length output) ≡ Write
+      → out ≡ take (st .used) output ++ rest → Run (writtenState st) input output bytes rest → Run st input output bytes out
+  -- the bytes that are not passed yet are moved down, and the new ones stand behind them
+  reads : {st : State} {input output bytes out : List ℕ} (moved : State) (input′ new later : List ℕ) → turnOf true st input (length output) ≡ Read
+      → moved ≡ movedState st (length input) → 1 ≤ length new → length new ≤ length input - moved .end → length input′ ≡ length input
+      → take (moved .end + length new) input′ ≡ take (moved .end) (put input 0 (movedBytes st input)) ++ new → bytes ≡ new ++ later
+      → Run (readState moved (length input) (length new)) input′ output later out → Run st input output bytes out
+  ends : {st : State} {input output bytes out : List ℕ} → turnOf true st input (length output) ≡ Read → bytes ≡ []
+      → Run (readState (movedState st (length input)) (length input) 0) (put input 0 (movedBytes st input)) output [] out → Run st input output bytes out
