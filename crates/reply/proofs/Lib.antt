@@ -1,3 +1,4 @@
+pub mod GoodLaws
 pub mod LateLaws
 pub mod ReadLaws
 pub mod ReplyLaws

@@ -1,0 +1,153 @@
+-- Every answer to a line is the row of one form, so a line is always answered where there is room for 106,496 bytes. Assumes nothing.
+use mathlib.Core.Path.{_≡_, refl, ap, sym, _∙_}
+use mathlib.Core.Bool.{Bool, true, false, not}
+use mathlib.Core.List.{List, [], _∷_, _++_, map}
+use mathlib.Core.Option.{Option, none as absent, some}
+use Prim.Native.Nat.{ℕ, _+_, _*_, _≤_}
+use native.Mathlib.Omega.{arith}
+use borrow.Author.Tests.{le-leb}
+use lib.Dec.{leb, eqb}
+use lib.IntN.{ℤ}
+use lib.ListN.{length, length-append}
+use Rattle.form.specs.Form.{Form, pick, encode}
+use Rattle.form.specs.Tag.{Sort, expr, pred}
+use Rattle.form.specs.Decode.{Whole, one, not-one, rowForm, Found, found, missing, formOf}
+use Rattle.form.specs.Lists.{Entry, wordOf, placeOf, listOf, goodNames}
+use Rattle.form.specs.Answer.{Outcome, answer, refusal, within, withForm, ofFound, withList, ofList, withWork, needs, isOne, finish}
+use Rattle.form.specs.declared.answer.Kind.{Kind}
+use Rattle.form.specs.declared.answer.Kind.the-variants.{Predicate, Either}
+use Rattle.form.specs.declared.lists.ListKind.{ListKind}
+use Rattle.form.specs.declared.lists.ListKind.the-variants.{Pairs, Places}
+use Rattle.form.proofs.RowLaws.{found-exact}
+use Rattle.subst.specs.Shift.{Shifted, shifted, captured, shift, ofShifted, shiftOutcome}
+use Rattle.subst.specs.Bind.{bind, bindOutcome}
+use Rattle.subst.proofs.CheckedLaws.{row-one}
+use Rattle.replace.specs.Free.{substitute, freeOutcome}
+use Rattle.replace.specs.Fill.{Quantified, quantifier, other, quantified, ofQuantified, keptCount, fill, fillOutcome}
+use Rattle.replace.specs.Prune.{usedPlaces, prune, pruneOutcome}
+use Rattle.line.specs.Spell.{digits, decimal, spell, spellNo, printOutcome, printNo}
+use Rattle.line.specs.Line.{Formed, formed, readLine}
+use Rattle.line.proofs.PrintLaws.{spell-few}
+use Rattle.line.proofs.WriteLaws.{digits-few}
+use Rattle.line.specs.declared.head.Head.{Head}
+use Rattle.line.specs.declared.head.Head.the-variants.{Shift, Free, Bind, Fill, Prune, Point, Member}
+use Rattle.line.specs.declared.line.Line.the-variants.{Command, Misspelled}
+use Rattle.reply.specs.Reply.{commandOutcome, ofLine, enoughRows, lineOutcome, printed, replyOutcome}
+use Rattle.reply.proofs.LateLaws.{Gate, passes, refuses, form-tests, list-tests, names-tests}
+
+-- an answer is the row of one form
+abbrev pub Good : Outcome → Type 0
+Good (answer ws) = (s : Sort) × (f : Form) × (rowForm s ws ≡ one f)
+Good (refusal k) = Unit {0}
+
+good-needs : (k : ℕ) (b : Bool) (o : Outcome) → Good o → Good (needs k b o)
+good-needs k true o h = h
+good-needs k false o h = tt
+
+good-form : (kind : Kind) (row : List ℕ) (go : Sort → Form → Outcome) → ((s : Sort) (f : Form) → Good (go s f)) → Good (withForm kind row go)
+good-form kind row go h = good-needs 1 (leb (length row) 8192) _ (by-case (formOf kind row))
+  where
+    by-case : (x : Found) → Good (ofFound go x)
+    by-case (found s f) = h s f
+    by-case missing = tt
+
+good-list : (kind : ListKind) (row : List ℕ) (go : List Entry → Outcome) → ((es : List Entry) → Good (go es)) → Good (withList kind row go)
+good-list kind row go h = good-needs 1 (leb (length row) 8192) _ (by-case (listOf kind row))
+  where
+    by-case : (x : Option (List Entry)) → Good (ofList go x)
+    by-case (some es) = h es
+    by-case absent = tt
+
+pub good-finish : (s : Sort) (room : ℕ) (g : Form) → Good (finish s room g)
+unfolding finish
+good-finish s room g = by-case (rowForm s (encode g)) refl (leb (length (encode g)) room)
+  where
+    by-case : (x : Whole) → rowForm s (encode g) ≡ x → (b : Bool) → Good (needs 7 (isOne x) (needs 14 b (answer (encode g))))
+    by-case (one f) e true = (s, f, e)
+    by-case (one f) e false = tt
+    by-case not-one e b = tt
+
+-- the commands
+good-shift : (row : List ℕ) (z : ℤ) (room : ℕ) → Good (shiftOutcome row z room)
+unfolding shiftOutcome
+good-shift row z room = good-form Either row _ (λ s f. by-case s (shift z f))
+  where
+    by-case : (s : Sort) (x : Shifted) → Good (ofShifted s room x)
+    by-case s (shifted g) = good-finish s room g
+    by-case s captured = tt
+
+good-free : (list row : List ℕ) (work room : ℕ) → Good (freeOutcome list row work room)
+unfolding freeOutcome
+good-free list row work room =
+    good-needs 15 (leb 16384 work) _ (good-form Either row _ (λ s f. good-list Pairs list _ (λ es. good-needs 4 (goodNames (map wordOf es)) _ (good-finish s room (substitute es f)))))
+
+good-bind : (names row : List ℕ) (room : ℕ) → Good (bindOutcome names row room)
+unfolding bindOutcome
+good-bind names row room =
+    good-form Either row _ (λ s f. good-needs 1 (leb (length names) 8192) _ (good-needs 4 (goodNames names) _ (good-finish s room (bind names f))))
+
+good-quantified : (go : ℕ → List ℕ → Form → Outcome) (n : ℕ) (x : Quantified) → ((t : ℕ) (ns : List ℕ) (f : Form) → Good (go t ns f)) → Good (ofQuantified go n x)
+good-quantified go n (quantifier t ns f) h = h t ns f
+good-quantified go n other h = tt
+
+good-fill : (list row : List ℕ) (work room : ℕ) → Good (fillOutcome list row work room)
+unfolding fillOutcome
+good-fill list row work room =
+    good-needs 15 (leb 16384 work) _
+    (good-form Predicate row _ (λ s f. good-list Places list _ (λ es. good-quantified _ 3 (quantified f) (λ t ns b. good-needs 5 (eqb (length es) (length ns)) _ (good-finish pred room (fill t ns (map placeOf es) b))))))
+
+good-prune : (row : List ℕ) (room : ℕ) → Good (pruneOutcome row room)
+unfolding pruneOutcome
+good-prune row room =
+    good-form Predicate row _ (λ s f. good-quantified _ 3 (quantified f) (λ t ns b. good-needs 9 (not (eqb (keptCount (usedPlaces ns b)) (length ns))) _ (good-finish pred room (prune t ns b))))
+
+good-gate : (g : Outcome → Outcome) → Gate g → (o : Outcome) → Good o → Good (g o)
+good-gate g (passes h) o k = rw (h o) k
+good-gate g (refuses n h) o k = rw (h o) tt
+
+good-command : (h : Head) (z : ℤ) (listText list text row : List ℕ) (work room : ℕ) → Good (commandOutcome h z listText list text row work room)
+good-command Shift z listText list text row work room = good-gate _ (form-tests Either text row .gate) _ (good-shift row z room)
+good-command Free z listText list text row work room = good-gate _ (form-tests Either text row .gate) _ (good-gate _ (list-tests Pairs listText list .gate) _ (good-free list row work room))
+good-command Bind z listText list text row work room = good-gate _ (form-tests Either text row .gate) _ (good-gate _ (names-tests listText list .gate) _ (good-bind list row room))
+good-command Fill z listText list text row work room = good-gate _ (form-tests Predicate text row .gate) _ (good-gate _ (list-tests Places listText list .gate) _ (good-fill list row work room))
+good-command Prune z listText list text row work room = good-gate _ (form-tests Predicate text row .gate) _ (good-prune row room)
+good-command Point z listText list text row work room = tt
+good-command Member z listText list text row work room = tt
+
+pub good-line : (line : List ℕ) (list form work room : ℕ) → Good (lineOutcome line list form work room)
+unfolding lineOutcome
+good-line line list form work room = good-needs 15 (enoughRows list form work) _ (by-case (readLine line))
+  where
+    by-case : (x : Formed) → Good (ofLine line work room x)
+    by-case (formed (Command p) ws) = good-command (p .head) (p .offset) _ _ _ ws work room
+    by-case (formed Misspelled ws) = tt
+
+-- a row that is one form is found
+either-found : (row : List ℕ) (s : Sort) (f : Form) → rowForm s row ≡ one f → (t : Sort) × (g : Form) × (formOf Either row ≡ found t g)
+unfolding formOf
+either-found row expr f e = (expr, f, rw e)
+either-found row pred f e = by-case (rowForm expr row) refl
+  where
+    by-case : (x : Whole) → rowForm expr row ≡ x → (t : Sort) × (g : Form) × (formOf Either row ≡ found t g)
+    by-case (one g) h = (expr, g, rw h)
+    by-case not-one h = (pred, f, rw (h, e))
+
+no-few : (k : ℕ) → length (spellNo k) ≤ 15
+unfolding spellNo decimal
+no-few k = let h = digits-few 10 k in rw (length-append (digits 10 k) (93 ∷ [])) (omega arith)
+
+-- what holds of every spelling holds of the answer
+module _ (P : List ℕ → Type 0) (forms : (f : Form) → P (spell f)) (refusals : (k : ℕ) → P (spellNo k)) where
+  good-printed : (o : Outcome) (bytes : ℕ) → Good o → 106496 ≤ bytes → (bs : List ℕ) × (printed bytes o ≡ answer bs) × P bs
+  unfolding printOutcome printNo
+  good-printed (answer ws) bytes (s, f, e) h =
+      let (t, g, k) = either-found ws s f e in
+      let (short, is, ok) = row-one t ws g (found-exact Either ws t g k) in
+      let n : length (encode g) ≤ 8192 = rw (← is) short in
+      let m = spell-few g in
+      (spell g, rw (le-leb (length ws) 8192 short, k, le-leb (length (spell g)) bytes (omega arith)), forms g)
+  good-printed (refusal k) bytes g h = let m = no-few k in (spellNo k, rw (le-leb (length (spellNo k)) bytes (omega arith)), refusals k)
+
+  pub reply-answers : (line : List ℕ) (list form work room bytes : ℕ) → 106496 ≤ bytes → (bs : List ℕ) × (replyOutcome line list form work room bytes ≡ answer bs) × P bs
+  unfolding replyOutcome
+  reply-answers line list form work room bytes h = good-printed (lineOutcome line list form work room) bytes (good-line line list form work room) h

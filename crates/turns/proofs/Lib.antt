@@ -1,0 +1,6 @@
+pub mod OutputLaws
+pub mod PlainLaws
+pub mod PutLaws
+pub mod RunLaws
+pub mod StillLaws
+pub mod TurnLaws

@@ -1,0 +1,4 @@
+pub mod Output
+pub mod Turn
+pub mod Run
+pub mod Internal
