@@ -39,7 +39,7 @@ fn copy_in(base: &[u32], depth: u32, marks: &mut [u32], work: &mut [u32]) -> Mad
 }
 
 // Makes the copy, where one is needed and can be had, at the start of the work row.
-fn make_copy(base: &[u32], depth: u32, work: &mut [u32]) -> Made
+pub fn make_copy(base: &[u32], depth: u32, work: &mut [u32]) -> Made
     ensures { λ r. ⌜ r ≡ madeOf (liftPart (now (base .entry)) depth (length (now (work .entry)))) ⌝ }
     ensures { λ _. ⌜ now (work .exit) ≡ workAfter (liftPart (now (base .entry)) depth (length (now (work .entry)))) (now (work .entry)) ⌝ }
 {

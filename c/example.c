@@ -1,0 +1,33 @@
+/* Shifts one form by -1 and by -2, and offers one equality to a set of places. Its output is example.out. */
+#include <stdio.h>
+
+#include "sogbayile.h"
+
+static void show(const char *what, uint64_t answer, const uint32_t *out)
+{
+    printf("%s:", what);
+    if (sgb_number(answer) != 0)
+        printf(" refused by %u", sgb_number(answer));
+    for (uint32_t i = 0; i < sgb_length(answer); i++)
+        printf(" %u", out[i]);
+    printf("\n");
+}
+
+int main(void)
+{
+    /* there is a v9 with: index 0 equals index 2, which dangles as 1 */
+    const uint32_t row[] = {852, 1, 9, 101, 2, 0, 2, 2};
+    static uint32_t out[SGB_MAX_WORDS];
+    size_t n = sizeof row / sizeof *row;
+
+    show("shift -1", sgb_shift(row, n, -1, out, SGB_MAX_WORDS), out);
+    show("shift -2", sgb_shift(row, n, -2, out, SGB_MAX_WORDS), out);
+
+    const uint32_t equality[] = {101, 2, 0, 1, 7};
+    size_t starts[SGB_PLACES], ends[SGB_PLACES];
+    show("places", sgb_places(2, starts, ends), out);
+    show("offer", sgb_offer(2, starts, ends, equality, 5), out);
+    printf("place 1: words %zu to %zu\n", starts[1], ends[1]);
+    show("again", sgb_offer(2, starts, ends, equality, 5), out);
+    return 0;
+}

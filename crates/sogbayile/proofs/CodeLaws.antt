@@ -1,0 +1,56 @@
+-- The codes: no answer is longer than 8,192 words, and number and length can be read off the code. Assumes nothing.
+use mathlib.Core.Path.{_≡_, refl}
+use mathlib.Core.Bool.{Bool, true, false, _||_}
+use mathlib.Core.List.{List}
+use Prim.Native.Nat.{ℕ, _≤_}
+use native.Mathlib.Omega.{arith}
+use borrow.Author.Tests.{le-leb}
+use lib.Dec.{leb, eqb}
+use lib.ListN.{length}
+use Rattle.form.specs.Form.{Form, pick, encode}
+use Rattle.form.specs.Tag.{Sort}
+use Rattle.form.specs.Decode.{Whole, one, not-one, rowForm, Found, found, missing, formOf}
+use Rattle.form.specs.Answer.{Outcome, answer, refusal, told, lengthOf, needs, isOne, finish}
+use Rattle.form.specs.declared.answer.Kind.the-variants.{Either}
+use Rattle.form.specs.declared.answer.Answer.the-variants.{Done}
+use Rattle.form.proofs.RowLaws.{row-short}
+use Rattle.subst.specs.Walk.{lift}
+use Rattle.subst.specs.Dangling.{closed}
+use Rattle.subst.specs.Lift.{Part, base, copy, empty, ofCopy, liftFound, liftPart}
+use Rattle.subst.specs.Internal.Lifting.{madeOf}
+use Rattle.sogbayile.specs.Code.{codeOf, partCode}
+use Rattle.sogbayile.specs.Internal.{partLength, madeCode}
+
+pub code-done : (n : ℕ) → codeOf (Done n) ≡ n
+code-done n = omega arith
+
+pub finish-short : (s : Sort) (room : ℕ) (g : Form) → lengthOf (told (finish s room g)) ≤ 8192
+unfolding finish
+finish-short s room g = go (rowForm s (encode g)) refl (leb (length (encode g)) room)
+  where
+    go : (w : Whole) → rowForm s (encode g) ≡ w → (b : Bool) → lengthOf (told (needs 7 (isOne (rowForm s (encode g))) (needs 14 b (answer (encode g))))) ≤ 8192
+    go (one f) e true = rw e (row-short s (encode g) f e)
+    go (one f) e false = rw e (omega arith)
+    go not-one e b = rw e (omega arith)
+
+-- lift
+copy-short : (n : ℕ) (o : Outcome) → lengthOf (told o) ≤ 8192 → partLength n (madeOf (ofCopy o)) ≤ 8192
+copy-short n (answer ws) h = h
+copy-short n (refusal k) h = omega arith
+
+pub part-short : (row : List ℕ) (depth work : ℕ) → length row ≤ 8192 → partLength (length row) (madeOf (liftPart row depth work)) ≤ 8192
+unfolding liftPart
+part-short row depth work h = rw (le-leb (length row) 8192 h) (go (formOf Either row))
+  where
+    by : (s : Sort) (f : Form) (b : Bool) → partLength (length row) (madeOf (pick b base (ofCopy (finish s work (lift depth f))))) ≤ 8192
+    by s f true = h
+    by s f false = copy-short (length row) (finish s work (lift depth f)) (finish-short s work (lift depth f))
+
+    go : (o : Found) → partLength (length row) (madeOf (liftFound depth work o)) ≤ 8192
+    go (found s f) = by s f (eqb depth 0 || closed f)
+    go missing = omega arith
+
+pub made-code : (row : List ℕ) (p : Part) → madeCode (length row) (madeOf p) ≡ partCode row p
+made-code row base = refl
+made-code row (copy ws) = refl
+made-code row empty = refl

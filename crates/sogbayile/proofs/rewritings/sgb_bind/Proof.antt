@@ -1,0 +1,25 @@
+-- `sogbayile::rewritings::sgb_bind` meets its contract. Assumes nothing.
+use mathlib.Core.Path.{ap, _∙_}
+use Rattle.sogbayile.specs.Code.{codeOf}
+use borrow.Author.Needs.{needs}
+use Rattle.sogbayile.proofs.rewritings.sgb_bind.Statement.{statement}
+use Rattle.sogbayile.proofs.rewritings.sgb_bind.Tie as tie
+use Rattle.sogbayile.proofs.rewritings.sgb_bind.Reads as reads
+use Rattle.sogbayile.proofs.rewritings.sgb_bind.Lts as lts
+use Rattle.sogbayile.proofs.code.code_of.Reads as code-of-reads
+use Rattle.subst.proofs.bind.bind_idents.Reads as bind-idents-reads
+
+bind-idents-requires : tie.Need-bind-idents-requires
+bind-idents-requires c κs = search needs
+
+code-of-requires : tie.Need-code-of-requires
+code-of-requires c κs = search needs
+
+same-length : tie.Need-same-length
+same-length c = search needs
+
+returns : tie.Need-returns
+returns c = (c .code-of .ensures ∙ ap codeOf (c .before .before .before .bind-idents .ensures .0), c .before .before .before .bind-idents .ensures .1)
+
+pub sgb-bind-spec : {M : Type 1} → statement M
+sgb-bind-spec = tie.close (tie.spec bind-idents-requires code-of-requires same-length returns)

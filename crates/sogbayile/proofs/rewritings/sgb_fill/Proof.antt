@@ -1,0 +1,29 @@
+-- `sogbayile::rewritings::sgb_fill` meets its contract. Assumes nothing.
+use mathlib.Core.Path.{ap, _∙_}
+use Rattle.sogbayile.specs.Code.{codeOf}
+use borrow.Author.Needs.{needs}
+use Rattle.sogbayile.proofs.rewritings.sgb_fill.Statement.{statement}
+use Rattle.sogbayile.proofs.rewritings.sgb_fill.Tie as tie
+use Rattle.sogbayile.proofs.rewritings.sgb_fill.Reads as reads
+use Rattle.sogbayile.proofs.rewritings.sgb_fill.Lts as lts
+use Rattle.replace.proofs.fill.instantiate.Reads as instantiate-reads
+use Rattle.sogbayile.proofs.code.code_of.Reads as code-of-reads
+
+instantiate-requires : tie.Need-instantiate-requires
+instantiate-requires c κs = search needs
+
+code-of-requires : tie.Need-code-of-requires
+code-of-requires c κs = search needs
+
+same-length : tie.Need-same-length
+same-length c = search needs
+
+same-length-2 : tie.Need-same-length-2
+same-length-2 c = search needs
+
+returns : tie.Need-returns
+returns c = (c .code-of .ensures ∙ ap codeOf (c .before .before .before .before .before .instantiate .ensures .0), c .before .before .before .before .before .instantiate .ensures .1)
+
+pub sgb-fill-spec : {M : Type 1} → statement M
+sgb-fill-spec =
+    tie.close (tie.spec instantiate-requires code-of-requires same-length same-length-2 returns)

@@ -1,0 +1,30 @@
+-- `sogbayile::rewritings::sgb_point` meets its contract. Assumes nothing.
+use mathlib.Core.Path.{ap, _∙_}
+use Rattle.sogbayile.specs.Code.{codeOf}
+use borrow.Author.Needs.{needs}
+use Rattle.sogbayile.proofs.rewritings.sgb_point.Statement.{statement}
+use Rattle.sogbayile.proofs.rewritings.sgb_point.Tie as tie
+use Rattle.sogbayile.proofs.rewritings.sgb_point.Reads as reads
+use Rattle.sogbayile.proofs.rewritings.sgb_point.Lts as lts
+use Rattle.one_point.proofs.one_point_inference.one_point_inference.Reads as one-point-inference-reads
+use Rattle.sogbayile.proofs.code.code_of.Reads as code-of-reads
+
+one-point-inference-requires : tie.Need-one-point-inference-requires
+one-point-inference-requires c κs = search needs
+
+code-of-requires : tie.Need-code-of-requires
+code-of-requires c κs = search needs
+
+same-length : tie.Need-same-length
+same-length c = search needs
+
+same-length-2 : tie.Need-same-length-2
+same-length-2 c = search needs
+
+returns : tie.Need-returns
+returns c = (c .code-of .ensures ∙ ap codeOf (c .before .before .before .before .before .one-point-inference .ensures .0), c .before .before .before .before .before .one-point-inference .ensures .1)
+
+pub sgb-point-spec : {M : Type 1} → statement M
+sgb-point-spec =
+    tie.close
+    (tie.spec one-point-inference-requires code-of-requires same-length same-length-2 returns)

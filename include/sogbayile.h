@@ -1,0 +1,115 @@
+/* Sogbayile: binder surgery on Event-B forms. The static library libsogbayile.a, for C on x86-64 Linux.
+ *
+ *   rt staticlib sogbayile        writes target/staticlib/libsogbayile.a
+ *
+ * ROWS. A form is a row of 32-bit words in prefix order; every row is passed as a pointer and its number of
+ * words. A pointer is never null, also where the number is 0, and is aligned for its words. A row that is
+ * written (out, work, starts, ends) overlaps no other row of the same call.
+ *
+ * ANSWERS. Each call answers one number of 64 bits. The upper 32 bits are 0 for an answer and the number of
+ * the refusal else; the lower 32 bits are the length of what was written, 0 for a refusal, a check and an offer.
+ * An answer stands at the start of out; the words of out past its length are as they were. After a refusal all
+ * of out is as it was. sgb_lift alone reads its upper 32 bits otherwise.
+ *
+ * OWNERSHIP. All rows are the caller's. The library allocates nothing and keeps no pointer, has no state, and
+ * may be called from several threads with rows of their own. A work row may hold anything before and after.
+ *
+ * REFUSALS, in the order in which they are tested: 15, then 1 and 2 for each row (the form first, then the
+ * list), 3, 4, 5, 6, 9, 7, 14; for offers 1, 2, 5, 10, 11, 12, 13.
+ *
+ * Nothing checks these declarations against the library; rust/ and c/ call each of them in their tests. */
+#ifndef SOGBAYILE_H
+#define SOGBAYILE_H
+
+#include <stddef.h>
+#include <stdint.h>
+
+#ifdef __cplusplus
+extern "C" {
+#endif
+
+enum {
+    SGB_TOO_LONG = 1,         /* a row longer than 8,192 words */
+    SGB_NOT_A_FORM = 2,       /* a row that is not exactly one form, or list, within the limits; or no predicate where one is needed */
+    SGB_NOT_QUANTIFIED = 3,   /* fill or prune of what is not 851 or 852 */
+    SGB_BAD_NAMES = 4,        /* a name listed twice, a name over 65,535, over 32 names */
+    SGB_BAD_COUNT = 5,        /* another number of places than of declarations; a set for over 32 declarations */
+    SGB_CAPTURE = 6,          /* a dangling index would come below its depth */
+    SGB_OUTSIDE_LIMITS = 7,   /* a result outside the row limits */
+    SGB_NOTHING_TO_DO = 9,    /* nothing to rewrite */
+    SGB_NO_EQUALITY = 10,     /* an offer that is not 101 with a bound side */
+    SGB_NO_TARGET = 11,       /* a target not below the number of declarations */
+    SGB_USES_TARGET = 12,     /* a replacement with a dangling index not above its target */
+    SGB_PLACE_FILLED = 13,    /* the place is filled */
+    SGB_OUT_SHORT = 14,       /* the output row is shorter than the result */
+    SGB_WORK_SHORT = 15       /* the work row is under 16,384 words */
+};
+
+#define SGB_MAX_WORDS 8192    /* of a row; an output row of this length is never too short, but for sgb_dangling */
+#define SGB_MAX_DANGLING 65536 /* words that sgb_dangling can write */
+#define SGB_WORK_WORDS 16384  /* of a work row of free, fill and point */
+#define SGB_PLACES 32         /* of a set of places */
+
+/* The number of the refusal, or 0; and the length. */
+static inline uint32_t sgb_number(uint64_t answer) { return (uint32_t)(answer >> 32); }
+static inline uint32_t sgb_length(uint64_t answer) { return (uint32_t)answer; }
+
+/* Whether a row is exactly one form (of either kind, an expression, a predicate) within the limits. 1, 2. */
+uint64_t sgb_check(const uint32_t *row, size_t row_len);
+uint64_t sgb_check_expression(const uint32_t *row, size_t row_len);
+uint64_t sgb_check_predicate(const uint32_t *row, size_t row_len);
+
+/* Whether a row is a list: of names (1, 4); of a name and an expression in turn (1, 2, 4); of 0, or 1 and an
+ * expression, for each of n declarations (1, 2, 5). */
+uint64_t sgb_check_names(const uint32_t *row, size_t row_len);
+uint64_t sgb_check_pairs(const uint32_t *row, size_t row_len);
+uint64_t sgb_check_places(const uint32_t *row, size_t row_len, uint32_t n);
+
+/* Writes the indices that dangle in the form, each once, in rising order. 1, 2, 14. */
+uint64_t sgb_dangling(const uint32_t *row, size_t row_len, uint32_t *out, size_t out_len);
+
+/* Adds the offset to each dangling index. 1, 2, 6, 7, 14. */
+uint64_t sgb_shift(const uint32_t *row, size_t row_len, int32_t offset, uint32_t *out, size_t out_len);
+
+/* The form shifted up by the depth. The upper 32 bits of the answer say where it is: SGB_LIFT_BASE, all of base,
+ * where the depth is 0 or nothing dangles; SGB_LIFT_WORK, at the start of work; SGB_LIFT_NONE, where shift would
+ * refuse the base by 1 or 2, or the copy by 7 or 14 with work as its output. The lower 32 bits are the length.
+ * The work row is as it was, but for the copy. */
+enum { SGB_LIFT_NONE = 0, SGB_LIFT_BASE = 1, SGB_LIFT_WORK = 2 };
+uint64_t sgb_lift(const uint32_t *base, size_t base_len, uint32_t depth, uint32_t *work, size_t work_len);
+
+/* Puts the expressions of the list (name, expression, name, expression ..), lifted by the depth, for the free
+ * names of the list. 15, 1, 2, 4, 7, 14. */
+uint64_t sgb_free(const uint32_t *list, size_t list_len, const uint32_t *row, size_t row_len,
+                  uint32_t *work, size_t work_len, uint32_t *out, size_t out_len);
+
+/* Makes the names indices that dangle, the last name index 0. 1, 2, 4, 7, 14. */
+uint64_t sgb_bind(const uint32_t *names, size_t names_len, const uint32_t *row, size_t row_len,
+                  uint32_t *out, size_t out_len);
+
+/* For each declaration of the quantified predicate the list has 0 (it is kept), or 1 and the expression that is
+ * put for it. 15, 1, 2, 3, 5, 7, 14. */
+uint64_t sgb_fill(const uint32_t *list, size_t list_len, const uint32_t *row, size_t row_len,
+                  uint32_t *work, size_t work_len, uint32_t *out, size_t out_len);
+
+/* Drops the declarations that the body never uses. 1, 2, 3, 9, 7, 14. */
+uint64_t sgb_prune(const uint32_t *row, size_t row_len, uint32_t *out, size_t out_len);
+
+/* Reduces a quantified predicate by the first equality that its body offers. 15, 1, 2, 9, 7, 14. */
+uint64_t sgb_point(const uint32_t *row, size_t row_len, uint32_t *work, size_t work_len,
+                   uint32_t *out, size_t out_len);
+
+/* A set of places for n declarations: for each, the first declaration's first, where its replacement starts and
+ * ends in the row that was offered. An end of 0 is a free place. n and the two arrays are the whole set.
+ * sgb_places empties the arrays; over 32 declarations are refused by 5. */
+uint64_t sgb_places(size_t n, size_t starts[SGB_PLACES], size_t ends[SGB_PLACES]);
+
+/* Offers a predicate row to the set. A refusal (1, 2, 5, 10, 11, 12, 13) leaves the set as it was. */
+uint64_t sgb_offer(size_t n, size_t starts[SGB_PLACES], size_t ends[SGB_PLACES],
+                   const uint32_t *row, size_t row_len);
+
+#ifdef __cplusplus
+}
+#endif
+
+#endif

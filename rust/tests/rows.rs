@@ -1,0 +1,99 @@
+//! What no command line can reach: short rows, rows lent longer than needed, lift's parts, the dangling set, the
+//! set of places.
+
+use sogbayile::{Places, Refusal, MAX_DANGLING, MAX_WORDS, WORK_WORDS};
+
+const OLD: u32 = 77;
+const EXISTS: [u32; 8] = [852, 1, 9, 101, 2, 0, 2, 2];
+
+#[test]
+fn an_answer_and_a_refusal_leave_the_rest() {
+    let mut out = [OLD; 10];
+    assert_eq!(sogbayile::shift(&EXISTS, -1, &mut out), Ok(8));
+    assert_eq!(out, [852, 1, 9, 101, 2, 0, 2, 1, OLD, OLD]);
+    let mut out = [OLD; 7];
+    assert_eq!(sogbayile::shift(&EXISTS, -1, &mut out), Err(Refusal::OutShort));
+    assert_eq!(sogbayile::shift(&EXISTS, -2, &mut out), Err(Refusal::Capture));
+    assert_eq!(sogbayile::shift(&[], 0, &mut out), Err(Refusal::NotAForm));
+    assert_eq!(sogbayile::shift(&[0; MAX_WORDS + 1], 0, &mut out), Err(Refusal::TooLong));
+    assert_eq!(sogbayile::prune(&[610], &mut out), Err(Refusal::NotQuantified));
+    assert_eq!(sogbayile::bind(&[4, 4], &EXISTS, &mut out), Err(Refusal::BadNames));
+    assert_eq!(out, [OLD; 7]);
+}
+
+#[test]
+fn work_rows() {
+    let (mut work, mut out) = (vec![OLD; WORK_WORDS], [OLD; 8]);
+    let short = WORK_WORDS - 1;
+    assert_eq!(sogbayile::point(&EXISTS, &mut work[..short], &mut out), Err(Refusal::WorkShort));
+    assert_eq!(sogbayile::point(&EXISTS, &mut work, &mut out), Ok(1));
+    assert_eq!(out, [610, OLD, OLD, OLD, OLD, OLD, OLD, OLD]);
+    assert_eq!(sogbayile::free(&[], &EXISTS, &mut work[..short], &mut out), Err(Refusal::WorkShort));
+    assert_eq!(sogbayile::free(&[], &EXISTS, &mut work, &mut out), Ok(8));
+    assert_eq!(out, EXISTS);
+    assert_eq!(sogbayile::fill(&[0], &EXISTS, &mut work[..short], &mut out), Err(Refusal::WorkShort));
+    assert_eq!(sogbayile::fill(&[0, 0], &EXISTS, &mut work, &mut out), Err(Refusal::BadCount));
+    assert_eq!(sogbayile::fill(&[1, 1, 7], &EXISTS, &mut work, &mut out), Ok(5));
+    assert_eq!(out[..5], [101, 1, 7, 2, 1]);
+}
+
+#[test]
+fn the_parts_of_lift() {
+    let closed = [1, 7];
+    let mut work = [OLD; 9];
+    assert_eq!(sogbayile::lift(&EXISTS, 0, &mut work).as_ptr(), EXISTS.as_ptr());
+    assert_eq!(sogbayile::lift(&closed, 5, &mut work).as_ptr(), closed.as_ptr());
+    let start = work.as_ptr();
+    let part = sogbayile::lift(&EXISTS, 3, &mut work);
+    assert_eq!((part.as_ptr(), part), (start, &[852, 1, 9, 101, 2, 0, 2, 5][..]));
+    assert_eq!(work[8], OLD);
+    assert_eq!(sogbayile::lift(&EXISTS, 3, &mut [OLD; 7]), &[]);
+    assert_eq!(sogbayile::lift(&EXISTS, 65534, &mut work), &[]);
+    assert_eq!(sogbayile::lift(&EXISTS, u32::MAX, &mut work), &[]);
+    assert_eq!(sogbayile::lift(&[852], 0, &mut work), &[]);
+    assert_eq!(sogbayile::lift(&[0; MAX_WORDS + 1], 0, &mut work), &[]);
+}
+
+#[test]
+fn the_dangling_set() {
+    let mut out = vec![OLD; MAX_DANGLING];
+    assert_eq!(sogbayile::dangling(&EXISTS, &mut out), Ok(1));
+    assert_eq!(out[..2], [1, OLD]);
+    assert_eq!(sogbayile::dangling(&[101, 2, 65535, 2, 4], &mut out), Ok(2));
+    assert_eq!(out[..3], [4, 65535, OLD]);
+    assert_eq!(sogbayile::dangling(&EXISTS, &mut []), Err(Refusal::OutShort));
+}
+
+#[test]
+fn checks() {
+    assert_eq!(sogbayile::check_expression(&[1, 7]), Ok(()));
+    assert_eq!(sogbayile::check_predicate(&[1, 7]), Err(Refusal::NotAForm));
+    assert_eq!(sogbayile::check_expression(&EXISTS), Err(Refusal::NotAForm));
+    assert_eq!(sogbayile::check_predicate(&EXISTS), Ok(()));
+    assert_eq!(sogbayile::check(&EXISTS), Ok(()));
+    assert_eq!(sogbayile::check_names(&[4, 5]), Ok(()));
+    assert_eq!(sogbayile::check_names(&[4, 65536]), Err(Refusal::BadNames));
+    assert_eq!(sogbayile::check_pairs(&[4, 1, 7]), Ok(()));
+    assert_eq!(sogbayile::check_pairs(&[4]), Err(Refusal::NotAForm));
+    assert_eq!(sogbayile::check_places(&[0, 1, 1, 7], 2), Ok(()));
+    assert_eq!(sogbayile::check_places(&[0, 1, 1, 7], 3), Err(Refusal::BadCount));
+}
+
+#[test]
+fn a_set_of_places() {
+    assert_eq!(Places::new(33), Err(Refusal::BadCount));
+    let mut places = Places::new(2).unwrap();
+    let equality = [101, 2, 0, 1, 7];
+    assert_eq!(places.offer(&[610]), Err(Refusal::NoEquality));
+    assert_eq!(places.offer(&[101, 2, 2, 1, 7]), Err(Refusal::NoTarget));
+    assert_eq!(places.offer(&[101, 2, 1, 2, 1]), Err(Refusal::UsesTarget));
+    assert_eq!(places.offer(&[1, 7]), Err(Refusal::NotAForm));
+    assert_eq!(places, Places::new(2).unwrap());
+    assert_eq!(places.offer(&equality), Ok(()));
+    assert_eq!((places.get(0), places.get(1), places.get(2)), (None, Some(3..5), None));
+    let before = places.clone();
+    assert_eq!(places.offer(&equality), Err(Refusal::PlaceFilled));
+    assert_eq!(places, before);
+    assert_eq!(places.offer(&[101, 2, 1, 3, 5]), Ok(()));
+    assert_eq!(places.get(0), Some(3..5));
+}
