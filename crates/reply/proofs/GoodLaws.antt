@@ -1,19 +1,19 @@
 -- Every answer to a line is the row of one form, so a line is always answered where there is room for 106,496 bytes. Assumes nothing.
-use mathlib.Core.Path.{_≡_, refl, ap, sym, _∙_}
+use mathlib.Core.Path.{_≡_, refl}
 use mathlib.Core.Bool.{Bool, true, false, not}
-use mathlib.Core.List.{List, [], _∷_, _++_, map}
+use mathlib.Core.List.{List, [], _∷_, map}
 use mathlib.Core.Option.{Option, none as absent, some}
-use Prim.Native.Nat.{ℕ, _+_, _*_, _≤_}
+use Prim.Native.Nat.{ℕ, _≤_}
 use native.Mathlib.Omega.{arith}
 use borrow.Author.Tests.{le-leb}
 use lib.Dec.{leb, eqb}
 use lib.IntN.{ℤ}
 use lib.ListN.{length, length-append}
-use Rattle.form.specs.Form.{Form, pick, encode}
+use Rattle.form.specs.Form.{Form, encode}
 use Rattle.form.specs.Tag.{Sort, expr, pred}
 use Rattle.form.specs.Decode.{Whole, one, not-one, rowForm, Found, found, missing, formOf}
 use Rattle.form.specs.Lists.{Entry, wordOf, placeOf, listOf, goodNames}
-use Rattle.form.specs.Answer.{Outcome, answer, refusal, within, withForm, ofFound, withList, ofList, withWork, needs, isOne, finish}
+use Rattle.form.specs.Answer.{Outcome, answer, refusal, withForm, ofFound, withList, ofList, needs, isOne, finish}
 use Rattle.form.specs.declared.answer.Kind.{Kind}
 use Rattle.form.specs.declared.answer.Kind.the-variants.{Predicate, Either}
 use Rattle.form.specs.declared.lists.ListKind.{ListKind}

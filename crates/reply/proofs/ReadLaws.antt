@@ -1,8 +1,8 @@
 -- Where the groups of a line lie in it, and how many words they have. Assumes nothing.
-use mathlib.Core.Path.{_≡_, refl, ap, sym, _∙_}
+use mathlib.Core.Path.{_≡_, refl}
 use mathlib.Core.Bool.{Bool, true, false}
-use mathlib.Core.List.{List, [], _∷_, _++_}
-use Prim.Native.Nat.{ℕ, zero, suc, _+_, _-_, _≤_, _<_}
+use mathlib.Core.List.{List, [], _∷_}
+use Prim.Native.Nat.{ℕ, zero, suc, _+_, _-_, _≤_}
 use native.Mathlib.Omega.{arith}
 use lib.Dec.{leb, eqb}
 use lib.IntN.{ℤ, pos}
@@ -22,7 +22,6 @@ use Rattle.line.specs.declared.head.Head.the-variants.{Shift, Free, Bind, Fill,
 use Rattle.line.specs.declared.head.Start.{Start}
 use Rattle.line.specs.declared.head.Start.the-variants.{At, Unknown}
 use Rattle.line.specs.declared.line.Part.{Part}
-use Rattle.line.specs.declared.line.Line.{Line}
 use Rattle.line.specs.declared.line.Line.the-variants.{Command, Misspelled}
 
 -- a group has no more bytes than there are

@@ -1,33 +1,26 @@
 -- The answer of a line from its parts. Assumes nothing.
 use mathlib.Core.Path.{_≡_, refl, ap, sym, _∙_}
 use mathlib.Core.Bool.{Bool, true, false, _&&_}
-use mathlib.Core.List.{List, [], _∷_, _++_}
-use mathlib.Core.Logic.{⊎-elim}
+use mathlib.Core.List.{List}
 use Prim.Native.Nat.{ℕ, _-_, _≤_, _<_}
 use native.Mathlib.Omega.{arith}
 use borrow.Author.Tests.{le-leb, lt-leb, leb-true}
 use lib.Dec.{leb}
-use lib.IntN.{ℤ}
 use lib.ListN.{length, take, drop, length-append}
 use lib.Seq.{take-append-seam}
-use Rattle.form.specs.Form.{pick}
-use Rattle.form.specs.Answer.{Outcome, answer, refusal, told, written, needs}
-use Rattle.form.specs.declared.answer.Kind.the-variants.{Either}
+use Rattle.form.specs.Answer.{Outcome, answer, refusal, told, written}
 use Rattle.form.specs.declared.answer.Answer.{Answer}
 use Rattle.form.specs.declared.answer.Answer.the-variants.{Done, No}
 use Rattle.form.proofs.DecodeLaws.{clash}
-use Rattle.form.proofs.Ranges.{split}
-use Rattle.subst.specs.Shift.{shiftOutcome}
 use Rattle.line.specs.Put.{put}
 use Rattle.line.specs.Line.{Formed, formed, readLine, listRow, lineOf, formRow}
 use Rattle.line.proofs.AnswerLaws.{put-front}
 use Rattle.line.specs.declared.head.Head.{Head}
-use Rattle.line.specs.declared.head.Head.the-variants.{Shift, Free, Bind, Fill, Prune, Point, Member}
 use Rattle.line.specs.declared.line.Part.{Part}
 use Rattle.line.specs.declared.line.Parts.{Parts}
 use Rattle.line.specs.declared.line.Line.{Line}
 use Rattle.line.specs.declared.line.Line.the-variants.{Command, Misspelled}
-use Rattle.reply.specs.Reply.{ofLine, enoughRows, lineOutcome, printed, replyOutcome}
+use Rattle.reply.specs.Reply.{ofLine, enoughRows, lineOutcome, printed}
 use Rattle.reply.specs.Internal.Parts.{Held, formWords, partsOutcome}
 use Rattle.reply.proofs.LateLaws.{Said, said-no, said-same}
 use Rattle.reply.proofs.ReadLaws.{Lies, Inside, line-inside}

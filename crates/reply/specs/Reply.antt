@@ -1,8 +1,7 @@
 -- What a line is answered: 8 where it is misspelled; then each row's 1 and 2, and 8 where its brackets do not hold its nodes; then the
 -- command's own answer, printed.
-use mathlib.Core.Bool.{Bool, true, false, _&&_}
-use mathlib.Core.List.{List, []}
-use mathlib.Core.Path.{_≡_}
+use mathlib.Core.Bool.{Bool, _&&_}
+use mathlib.Core.List.{List}
 use Prim.Native.Nat.{ℕ, _-_}
 use lib.Dec.{leb}
 use lib.IntN.{ℤ}
@@ -23,7 +22,6 @@ use Rattle.line.specs.Line.{Formed, formed, readLine, listRow}
 use Rattle.line.specs.declared.head.Head.{Head}
 use Rattle.line.specs.declared.head.Head.the-variants.{Shift, Free, Bind, Fill, Prune, Point, Member}
 use Rattle.line.specs.declared.line.Part.{Part}
-use Rattle.line.specs.declared.line.Line.{Line}
 use Rattle.line.specs.declared.line.Line.the-variants.{Command, Misspelled}
 
 -- the bytes of a group

@@ -1,5 +1,5 @@
 -- Lines in the bytes of standard input: a line ends before a newline (10); one of over 65,535 bytes is answered once and then skipped.
-use mathlib.Core.Bool.{Bool, true, false}
+use mathlib.Core.Bool.{Bool}
 use mathlib.Core.List.{List, [], _∷_}
 use Prim.Native.Nat.{ℕ, suc}
 use lib.Dec.{ltb, eqb}

@@ -1,4 +1,5 @@
 pub mod OutputLaws
+pub mod PieceLaws
 pub mod PlainLaws
 pub mod PutLaws
 pub mod RunLaws

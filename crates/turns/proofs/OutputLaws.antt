@@ -1,33 +1,22 @@
 -- What is printed for an input, line by line: the next line is answered, then the rest of the input. Assumes nothing.
-use mathlib.Core.Path.{_≡_, refl, ap, sym, _∙_}
-use mathlib.Core.Bool.{Bool, true, false, _&&_}
+use mathlib.Core.Path.{_≡_, refl, sym, _∙_}
+use mathlib.Core.Bool.{Bool, true, false}
 use mathlib.Core.List.{List, [], _∷_, _++_, append-assoc, append-nil}
-use Prim.Native.Nat.{ℕ, zero, suc, _+_, _-_, _≤_, _<_}
+use Prim.Native.Nat.{ℕ, suc, _+_, _-_, _≤_, _<_}
 use native.Mathlib.Omega.{arith}
-use borrow.Author.Tests.{le-leb, lt-leb, ltb-true, ltb-false, leb-true, leb-false}
-use lib.Dec.{leb, ltb, eqb}
+use borrow.Author.Tests.{lt-leb}
+use lib.Dec.{eqb}
 use lib.ListN.{length, take, drop, length-append}
 use lib.Seq.{drop-length}
 use Rattle.form.specs.Form.{pick}
-use Rattle.form.specs.Answer.{Outcome, answer, refusal}
 use Rattle.form.proofs.DecodeLaws.{clash}
 use Rattle.line.specs.Spell.{printNo}
 use Rattle.line.specs.Line.{readLine}
-use Rattle.reply.specs.Reply.{lineOutcome, replyOutcome, printed}
-use Rattle.reply.specs.Split.{newlineIn, nextOf}
-use Rattle.reply.specs.declared.split.Next.{Next}
-use Rattle.reply.specs.declared.split.Next.the-variants.{Line, Skipped, Long, More}
-use Rattle.turns.specs.Output.{withNewline, answerTo, atEnd, outputAfter, outputPast, outputOf}
-use Rattle.turns.specs.Turn.{Piece, piece, none, ofNext}
-
-pub newline-le : (bs : List ℕ) → newlineIn bs ≤ length bs
-unfolding newlineIn
-newline-le [] = omega arith
-newline-le (b ∷ bs) = go (eqb b 10) (newline-le bs)
-  where
-    go : (z : Bool) → newlineIn bs ≤ length bs → pick z 0 (suc (newlineIn bs)) ≤ suc (length bs)
-    go true h = omega arith
-    go false h = omega arith
+use Rattle.reply.specs.Reply.{lineOutcome, replyOutcome}
+use Rattle.reply.specs.Split.{newlineIn}
+use Rattle.turns.specs.Output.{withNewline, answerTo, outputAfter, outputPast, outputOf}
+use Rattle.turns.specs.Turn.{Piece, piece, none}
+use Rattle.turns.proofs.PieceLaws.{Case, is-line, is-skipped, is-long, is-dropped, is-last, is-empty, is-unread}
 
 -- up to the first newline, and past it
 pub after-line : (acc bs more : List ℕ) → newlineIn bs < length bs
@@ -105,44 +94,27 @@ module _ (bs more : List ℕ) where
   last-keeps [] h l e = absurd (omega arith)
   last-keeps (b ∷ bs) h l e = rw (e, drop-length (b ∷ bs), append-nil (answerTo (b ∷ bs))) (sym (after-none [] (b ∷ bs) [] h))
 
-  rest-keeps : (s e : Bool) → length bs ≤ newlineIn bs → (e ≡ true → more ≡ []) → (z : Bool) → leb 1 (length bs) ≡ z → Keeps s bs more (ofNext s e bs More)
-  rest-keeps true e h k true q = rw (q, drop-length bs) (sym (past-none bs more h))
-  rest-keeps true e h k false q = rw q tt
-  rest-keeps false true h k true q = rw q (last-keeps bs h (leb-true 1 (length bs) q) (k refl))
-  rest-keeps false true h k false q = rw q tt
-  rest-keeps false false h k z q = tt
-
-  long-keeps : length bs ≤ newlineIn bs → 65535 < newlineIn bs → answerTo bs ++ outputPast (drop (length bs) bs ++ more) ≡ outputAfter [] (bs ++ more)
-  long-keeps h l = rw (drop-length bs) (sym (after-none [] bs more h ∙ after-long bs more (let n = newline-le bs in omega arith)))
-
-  pub piece-keeps : (s e : Bool) → (e ≡ true → more ≡ []) → Keeps s bs more (ofNext s e bs (nextOf s bs))
-  unfolding nextOf
-  piece-keeps s e k = go s (ltb (newlineIn bs) (length bs)) refl (ltb 65535 (newlineIn bs)) refl
-    where
-      go : (s b : Bool) → ltb (newlineIn bs) (length bs) ≡ b → (c : Bool) → ltb 65535 (newlineIn bs) ≡ c
-          → Keeps s bs more (ofNext s e bs (pick b (pick s (Skipped (newlineIn bs)) (Line (newlineIn bs))) (pick s More (pick c Long More))))
-      go true true p c q = sym (past-line bs more (ltb-true (newlineIn bs) (length bs) p))
-      go false true p c q = sym (after-line [] bs more (ltb-true (newlineIn bs) (length bs) p))
-      go true false p c q = rest-keeps true e (ltb-false (newlineIn bs) (length bs) p) k (leb 1 (length bs)) refl
-      go false false p true q = long-keeps (ltb-false (newlineIn bs) (length bs) p) (ltb-true 65535 (newlineIn bs) q)
-      go false false p false q = rest-keeps false e (ltb-false (newlineIn bs) (length bs) p) k (leb 1 (length bs)) refl
+  pub piece-keeps : {s e : Bool} {p : Piece} → Case bs s e p → (e ≡ true → more ≡ []) → Keeps s bs more p
+  piece-keeps (is-line h) k = sym (after-line [] bs more h)
+  piece-keeps (is-skipped h) k = sym (past-line bs more h)
+  piece-keeps (is-long h l) k = rw (drop-length bs) (sym (after-none [] bs more h ∙ after-long bs more l))
+  piece-keeps (is-dropped h) k = rw (drop-length bs) (sym (past-none bs more h))
+  piece-keeps (is-last h l) k = last-keeps bs h l (k refl)
+  piece-keeps (is-empty h) k = tt
+  piece-keeps (is-unread h) k = tt
 
 -- where nothing is left to answer and the input has ended, nothing more is printed
-pub none-left : (s : Bool) (bs : List ℕ) → ofNext s true bs (nextOf s bs) ≡ none → outputOf s bs ≡ []
-unfolding nextOf outputAfter outputPast
-none-left s [] e = go s
-  where
-    go : (s : Bool) → outputOf s [] ≡ []
-    go true = refl
-    go false = refl
-none-left s (b ∷ bs) e = absurd (go s (ltb (newlineIn (b ∷ bs)) (length (b ∷ bs))) (ltb 65535 (newlineIn (b ∷ bs))) e)
-  where
-    some-piece : (out : List ℕ) (n : ℕ) (t : Bool) → piece out n t ≡ none → ⊥
-    some-piece out n t e = clash cc
+nothing-printed : (s : Bool) (bs : List ℕ) → length bs ≡ 0 → outputOf s bs ≡ []
+unfolding outputAfter outputPast
+nothing-printed true [] h = refl
+nothing-printed false [] h = refl
+nothing-printed s (b ∷ bs) h = absurd (omega arith)
 
-    go : (s p c : Bool) → ofNext s true (b ∷ bs) (pick p (pick s (Skipped (newlineIn (b ∷ bs))) (Line (newlineIn (b ∷ bs)))) (pick s More (pick c Long More))) ≡ none → ⊥
-    go true true c e = some-piece _ _ _ e
-    go false true c e = some-piece _ _ _ e
-    go true false c e = some-piece _ _ _ (rw (le-leb 1 (suc (length bs)) (omega arith)) at e)
-    go false false true e = some-piece _ _ _ e
-    go false false false e = some-piece _ _ _ (rw (le-leb 1 (suc (length bs)) (omega arith)) at e)
+pub none-left : {bs : List ℕ} {s e : Bool} {p : Piece} → Case bs s e p → e ≡ true → p ≡ none → outputOf s bs ≡ []
+none-left (is-line h) k q = absurd (clash cc)
+none-left (is-skipped h) k q = absurd (clash cc)
+none-left (is-long h l) k q = absurd (clash cc)
+none-left (is-dropped h) k q = absurd (clash cc)
+none-left (is-last h l) k q = absurd (clash cc)
+none-left {bs} {s} (is-empty h) k q = nothing-printed s bs h
+none-left (is-unread h) k q = absurd (clash cc)

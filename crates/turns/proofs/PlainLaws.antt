@@ -1,16 +1,14 @@
 -- Each answer is one line: its only newline is its last byte. Assumes nothing.
-use mathlib.Core.Path.{_≡_, refl, ap, sym, _∙_}
+use mathlib.Core.Path.{_≡_, refl, ap}
 use mathlib.Core.Bool.{Bool, true, false}
 use mathlib.Core.List.{List, [], _∷_, _++_}
-use Prim.Native.Nat.{ℕ, zero, suc, _+_, _≤_, _<_, _/_, _%_}
+use Prim.Native.Nat.{ℕ, zero, suc, _+_, _≤_, _/_, _%_}
 use native.Mathlib.Omega.{arith}
 use borrow.Author.Tests.{ne-eqb}
-use lib.Dec.{ltb, eqb}
+use lib.Dec.{ltb}
 use lib.ListN.{length, length-append}
 use Rattle.form.specs.Form.{Leaf, free, bound, Form, leaf, node, Forms, none, more, pick}
-use Rattle.form.specs.Answer.{answer}
 use Rattle.line.specs.Spell.{digits, decimal, spaced, bracket, spellLeaf, spell, spellAll, spellNo}
-use Rattle.reply.specs.Reply.{replyOutcome}
 use Rattle.reply.specs.Split.{newlineIn}
 use Rattle.reply.proofs.GoodLaws.{reply-answers}
 use Rattle.turns.specs.Output.{answerTo}

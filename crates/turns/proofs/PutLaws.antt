@@ -1,10 +1,10 @@
 -- Bytes stored into a lent buffer. Assumes nothing.
 use mathlib.Core.Path.{_≡_, refl, ap, sym, _∙_}
 use mathlib.Core.List.{List, [], _∷_, _++_, append-assoc}
-use Prim.Native.Nat.{ℕ, zero, suc, _+_, _-_, _≤_, _<_}
+use Prim.Native.Nat.{ℕ, suc, _+_, _-_, _≤_, _<_}
 use native.Mathlib.Omega.{arith}
-use lib.ListN.{length, getD, take, drop, set, length-append, length-drop, take-append-drop}
-use lib.Seq.{sets, sets-eq, length-take-le, take-append-le, drop-append-le, drop-drop, getD-append-add, getD-drop, take-suc, take-at}
+use lib.ListN.{length, getD, take, drop, set, length-drop, take-append-drop}
+use lib.Seq.{sets, sets-eq, length-take-le, drop-append-le, drop-drop, getD-append-add, getD-drop, take-suc}
 use Rattle.line.specs.Put.{put}
 use Rattle.line.proofs.WriteLaws.{put-append, put-length}
 use Rattle.line.proofs.AnswerLaws.{put-front}

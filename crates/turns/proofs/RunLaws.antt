@@ -1,28 +1,22 @@
 -- Every run of the program writes what is printed for the bytes that it reads, whatever each read gives. Assumes nothing.
 use mathlib.Core.Path.{_≡_, refl, ap, sym, _∙_}
 use mathlib.Core.Bool.{Bool, true, false, _&&_}
-use mathlib.Core.List.{List, [], _∷_, _++_, append-nil}
-use Prim.Native.Nat.{ℕ, zero, suc, _+_, _-_, _≤_, _<_}
+use mathlib.Core.List.{List, [], _++_}
+use Prim.Native.Nat.{ℕ, _+_, _-_, _≤_}
 use native.Mathlib.Omega.{arith}
-use borrow.Author.Tests.{le-leb, lt-leb, leb-true, leb-false, ltb-true, ltb-false}
-use lib.Dec.{leb, ltb, eqb}
-use lib.ListN.{length, take, drop}
-use Rattle.form.specs.Form.{pick}
+use borrow.Author.Tests.{le-leb, leb-true}
+use lib.ListN.{length, take}
 use Rattle.form.proofs.DecodeLaws.{clash}
 use Rattle.line.specs.Put.{put}
 use Rattle.line.proofs.WriteLaws.{put-length}
-use Rattle.reply.specs.Split.{newlineIn, nextOf}
-use Rattle.reply.specs.declared.split.Next.{Next}
-use Rattle.reply.specs.declared.split.Next.the-variants.{Line, Skipped, Long, More}
-use Rattle.turns.specs.Output.{answerTo, outputOf}
-use Rattle.turns.specs.Turn.{pendingOf, Piece, piece, none, ofNext, pieceOf, printedOf, passed, fits, hasRoom, turnOf, printedBy, writtenState, movable, movedState, movedBytes, ending, readState, stillOf}
+use Rattle.turns.specs.Output.{outputOf}
+use Rattle.turns.specs.Turn.{pendingOf, piece, pieceOf, passed, fits, hasRoom, turnOf, printedBy, movable, movedState, movedBytes, readState, stillOf}
 use Rattle.turns.specs.Run.{Run, stops, goes-on, writes, reads, ends}
 use Rattle.turns.specs.declared.state.State.{State}
-use Rattle.turns.specs.declared.turn.Turn.{Turn}
-use Rattle.turns.specs.declared.turn.Turn.the-variants.{On, Write, Read, Stop}
-use Rattle.turns.proofs.OutputLaws.{newline-le}
-use Rattle.turns.proofs.StillLaws.{few-next, on-piece, turn-keeps, write-keeps, move-keeps, read-keeps, reads-are, stop-keeps}
-use Rattle.turns.proofs.TurnLaws.{fits-are, pending-long, read-none}
+use Rattle.turns.specs.declared.turn.Turn.the-variants.{On, Read}
+use Rattle.turns.proofs.PieceLaws.{case-of, case-passes, case-short}
+use Rattle.turns.proofs.StillLaws.{case-few, on-piece, turn-keeps, write-keeps, move-keeps, read-keeps, reads-are, stop-keeps}
+use Rattle.turns.proofs.TurnLaws.{pending-long, read-none}
 
 abbrev pub beginning : State
 beginning = record { start = 0; end = 0; used = 0; skipping = false; ended = false }
@@ -34,29 +28,6 @@ Fits st input output = (st .start ≤ st .end) × (st .end ≤ input) × (st .us
 fits-by : (st : State) (input output : ℕ) → Fits st input output → fits st input output ≡ true
 fits-by st input output (a, b, c) = rw (le-leb (st .start) (st .end) a, le-leb (st .end) input b, le-leb (st .used) output c)
 
--- a piece passes no more bytes than there are
-abbrev Passes : List ℕ → Piece → Type 0
-Passes bs (piece out n s) = n ≤ length bs
-Passes bs none = Unit {0}
-
-next-passes : (s e : Bool) (bs : List ℕ) → Passes bs (ofNext s e bs (nextOf s bs))
-unfolding nextOf
-next-passes s e bs = go s e (ltb (newlineIn bs) (length bs)) refl (ltb 65535 (newlineIn bs))
-  where
-    rest : (s e z : Bool) → leb 1 (length bs) ≡ z → Passes bs (ofNext s e bs More)
-    rest true e true q = rw q (omega arith)
-    rest true e false q = rw q tt
-    rest false true true q = rw q (omega arith)
-    rest false true false q = rw q tt
-    rest false false z q = tt
-
-    go : (s e p : Bool) → ltb (newlineIn bs) (length bs) ≡ p → (c : Bool) → Passes bs (ofNext s e bs (pick p (pick s (Skipped (newlineIn bs)) (Line (newlineIn bs))) (pick s More (pick c Long More))))
-    go true e true q c = let h = ltb-true (newlineIn bs) (length bs) q in omega arith
-    go false e true q c = let h = ltb-true (newlineIn bs) (length bs) q in omega arith
-    go true e false q c = rest true e (leb 1 (length bs)) refl
-    go false e false q true = omega arith
-    go false e false q false = rest false e (leb 1 (length bs)) refl
-
 -- each step keeps a fitting state
 module _ (st : State) (input output : List ℕ) (f : Fits st (length input) (length output)) where
   module _ (next : State) where
@@ -66,8 +37,8 @@ module _ (st : State) (input output : List ℕ) (f : Fits st (length input) (len
         let (x, y, z) = f in
         let h = leb-true 131073 (length output - st .used) b in
         let l = pending-long st input y (omega arith) in
-        let m : length out ≤ 131073 = rw p at (few-next (st .skipping) (st .ended) (pendingOf st input)) in
-        let k : n ≤ length (pendingOf st input) = rw p at (next-passes (st .skipping) (st .ended) (pendingOf st input)) in
+        let m : length out ≤ 131073 = rw p at (case-few (case-of (pendingOf st input) (st .skipping) (st .ended))) in
+        let k : n ≤ length (pendingOf st input) = case-passes (pendingOf st input) (case-of (pendingOf st input) (st .skipping) (st .ended)) out n s p in
         rw q (omega arith, omega arith, omega arith)
 
     on-fits : turnOf true st input (length output) ≡ On next → Fits next (length input) (length output)
@@ -130,28 +101,9 @@ pub run-prints : (input output bytes out : List ℕ) → 131073 ≤ length outpu
 run-prints input output bytes out l r = run-still r (omega arith, omega arith, omega arith) l ∙ refl
 
 -- where more is to be read, at most 65,535 bytes are kept: an input buffer of more bytes always has room
-short-rest : (s e : Bool) (bs : List ℕ) → ofNext s e bs (nextOf s bs) ≡ none → length bs ≤ 65535
-unfolding nextOf
-short-rest s e bs q = go s (ltb (newlineIn bs) (length bs)) refl (ltb 65535 (newlineIn bs)) refl q
-  where
-    some-piece : (out : List ℕ) (n : ℕ) (t : Bool) → piece out n t ≡ none → ⊥
-    some-piece out n t e = clash cc
-
-    empty : (z : Bool) → leb 1 (length bs) ≡ z → pick z (piece [] (length bs) true) none ≡ none → length bs ≤ 65535
-    empty true h e = absurd (some-piece _ _ _ e)
-    empty false h e = let l = leb-false 1 (length bs) h in omega arith
-
-    go : (s p : Bool) → ltb (newlineIn bs) (length bs) ≡ p → (c : Bool) → ltb 65535 (newlineIn bs) ≡ c
-        → ofNext s e bs (pick p (pick s (Skipped (newlineIn bs)) (Line (newlineIn bs))) (pick s More (pick c Long More))) ≡ none → length bs ≤ 65535
-    go true true p c h q = absurd (some-piece _ _ _ q)
-    go false true p c h q = absurd (some-piece _ _ _ q)
-    go true false p c h q = empty (leb 1 (length bs)) refl q
-    go false false p true h q = absurd (some-piece _ _ _ q)
-    go false false p false h q = let a = ltb-false (newlineIn bs) (length bs) p in let b = ltb-false 65535 (newlineIn bs) h in omega arith
-
 pub read-room : (st : State) (input output : List ℕ) → Fits st (length input) (length output) → turnOf true st input (length output) ≡ Read → movedState st (length input) .end ≤ 65535
 unfolding movedState pieceOf
 read-room st input output f e =
-    let h = short-rest (st .skipping) (st .ended) (pendingOf st input) (reads-are st input output true e .0) in
+    let h = case-short (pendingOf st input) (case-of (pendingOf st input) (st .skipping) (st .ended)) (reads-are st input output true e .0) in
     let l = pending-long st input (f .1) (let x = f .0 in omega arith) in
     rw (moves st input output f) (omega arith)

@@ -4,14 +4,14 @@ use mathlib.Core.Path.{_≡_, refl, ap, sym, _∙_}
 use mathlib.Core.Bool.{Bool, true, false, _&&_}
 use mathlib.Core.List.{List, [], _∷_, _++_, append-assoc, append-nil}
 use mathlib.Core.Logic.{_⊎_, inl, inr}
-use Prim.Native.Nat.{ℕ, zero, suc, _+_, _-_, _≤_, _<_}
+use Prim.Native.Nat.{ℕ, zero, suc, _+_, _-_, _≤_}
 use native.Mathlib.Omega.{arith}
-use borrow.Author.Tests.{le-leb, lt-leb, leb-true, eqb-true}
-use lib.Dec.{leb, ltb, eqb}
-use lib.ListN.{length, take, drop, length-append, length-drop}
-use lib.Seq.{length-take-le, take-nil, drop-nil, drop-drop, take-add, take-append-seam, take-at, drop-append-le}
+use borrow.Author.Tests.{le-leb, leb-true, eqb-true}
+use lib.Dec.{leb, eqb}
+use lib.ListN.{length, take, drop, length-append}
+use lib.Seq.{length-take-le, take-nil, drop-drop, take-append-seam, take-at, drop-append-le}
 use Rattle.form.specs.Form.{pick}
-use Rattle.form.specs.Answer.{Outcome, answer, refusal, withForm, ofFound, needs}
+use Rattle.form.specs.Answer.{Outcome, answer, refusal, ofFound, needs}
 use Rattle.form.specs.Decode.{Found, found, missing, formOf}
 use Rattle.form.specs.declared.answer.Kind.the-variants.{Either}
 use Rattle.form.proofs.DecodeLaws.{clash}
@@ -19,16 +19,16 @@ use Rattle.line.specs.Put.{put}
 use Rattle.line.specs.Spell.{spell, spellNo, printOutcome, printNo}
 use Rattle.line.proofs.AnswerLaws.{put-front}
 use Rattle.reply.specs.Reply.{lineOutcome, replyOutcome, printed}
-use Rattle.reply.specs.Split.{newlineIn, nextOf}
-use Rattle.reply.specs.declared.split.Next.the-variants.{Line, Skipped, Long, More}
+use Rattle.reply.specs.Split.{newlineIn}
 use Rattle.turns.specs.Output.{withNewline, answerTo, outputOf}
-use Rattle.turns.specs.Turn.{pendingOf, Piece, piece, none, ofNext, pieceOf, printedOf, passed, waiting, ofPiece, fits, hasRoom, turnOf, printedBy, writtenState, movable, movedState, movedBytes, ending, readState, stillOf}
+use Rattle.turns.specs.Turn.{pendingOf, Piece, piece, none, pieceOf, printedOf, passed, waiting, ofPiece, fits, hasRoom, turnOf, printedBy, writtenState, movable, movedState, movedBytes, readState, stillOf}
 use Rattle.turns.specs.declared.state.State.{State}
 use Rattle.turns.specs.declared.turn.Turn.{Turn}
 use Rattle.turns.specs.declared.turn.Turn.the-variants.{On, Write, Read, Stop}
 use Rattle.turns.proofs.OutputLaws.{Keeps, piece-keeps, none-left}
+use Rattle.turns.proofs.PieceLaws.{Case, is-line, is-skipped, is-long, is-dropped, is-last, is-empty, is-unread, case-of}
 use Rattle.turns.proofs.PutLaws.{put-none, put-eq}
-use Rattle.turns.proofs.TurnLaws.{fits-are, moved-are, pending-long}
+use Rattle.turns.proofs.TurnLaws.{moved-are, pending-long}
 
 -- an answer with its newline has at most 131,073 bytes
 abbrev Few : Outcome → Type 0
@@ -52,23 +52,14 @@ answer-few : (line : List ℕ) → length (answerTo line) ≤ 131073
 unfolding answerTo replyOutcome
 answer-few line = few-printed (lineOutcome line 8192 8192 16384 8192)
 
-pub few-next : (s e : Bool) (bs : List ℕ) → length (printedOf (ofNext s e bs (nextOf s bs))) ≤ 131073
-unfolding nextOf
-few-next s e bs = go s e (ltb (newlineIn bs) (length bs)) (ltb 65535 (newlineIn bs)) (leb 1 (length bs))
-  where
-    rest : (s e z : Bool) → leb 1 (length bs) ≡ z → length (printedOf (ofNext s e bs More)) ≤ 131073
-    rest true e true q = rw q (omega arith)
-    rest true e false q = rw q (omega arith)
-    rest false true true q = rw q (answer-few bs)
-    rest false true false q = rw q (omega arith)
-    rest false false z q = omega arith
-
-    go : (s e p c z : Bool) → length (printedOf (ofNext s e bs (pick p (pick s (Skipped (newlineIn bs)) (Line (newlineIn bs))) (pick s More (pick c Long More))))) ≤ 131073
-    go true e true c z = omega arith
-    go false e true c z = answer-few (take (newlineIn bs) bs)
-    go true e false c z = rest true e (leb 1 (length bs)) refl
-    go false e false true z = answer-few bs
-    go false e false false z = rest false e (leb 1 (length bs)) refl
+pub case-few : {bs : List ℕ} {s e : Bool} {p : Piece} → Case bs s e p → length (printedOf p) ≤ 131073
+case-few {bs} (is-line h) = answer-few (take (newlineIn bs) bs)
+case-few (is-skipped h) = omega arith
+case-few {bs} (is-long h l) = answer-few bs
+case-few (is-dropped h) = omega arith
+case-few {bs} (is-last h l) = answer-few bs
+case-few (is-empty h) = omega arith
+case-few (is-unread h) = omega arith
 
 -- parts of the buffers
 drop-take : (n k : ℕ) (l : List ℕ) → drop n (take k l) ≡ take (k - n) (drop n l)
@@ -123,8 +114,8 @@ module _ (rows : Bool) (st : State) (input output : List ℕ) where
       unfolding printedBy pieceOf
       keeps-by out n s a b p q =
           let h = leb-true 131073 (length output - st .used) b in
-          let f : length out ≤ 131073 = rw p at (few-next (st .skipping) (st .ended) (pendingOf st input)) in
-          let w : Keeps (st .skipping) (pendingOf st input) more (piece out n s) = rw p at (piece-keeps (pendingOf st input) more (st .skipping) (st .ended) k) in
+          let f : length out ≤ 131073 = rw p at (case-few (case-of (pendingOf st input) (st .skipping) (st .ended))) in
+          let w : Keeps (st .skipping) (pendingOf st input) more (piece out n s) = rw p at (piece-keeps (pendingOf st input) more (case-of (pendingOf st input) (st .skipping) (st .ended)) k) in
           rw (a, b, p, q, put-end output (st .used) out (omega arith), pending-passed st input out n s) (append-assoc (take (st .used) output) out _ ∙ ap (λ x. take (st .used) output ++ x) w)
 
       pub turn-keeps : turnOf rows st input (length output) ≡ On st′ → stillOf st′ input After more ≡ stillOf st input output more
@@ -198,8 +189,7 @@ module _ (st : State) where
     stops-by l true none h p e =
         let (u, t) = waits (pick (st .ended) Stop Read) (eqb (st .used) 0) e in
         let z = eqb-true (st .used) 0 u in
-        let q = rw (ended-stops (st .ended) t) at p in
-        rw (z, append-nil (pendingOf st input)) (none-left (st .skipping) (pendingOf st input) q)
+        rw (z, append-nil (pendingOf st input)) (none-left (case-of (pendingOf st input) (st .skipping) (st .ended)) (ended-stops (st .ended) t) p)
     stops-by l false p h q e =
         let (u, t) = waits Stop (eqb (st .used) 0) e in
         let z = eqb-true (st .used) 0 u in

@@ -6,26 +6,29 @@ use Prim.Native.Nat.{ℕ, zero, suc, _+_, _-_, _≤_, _<_}
 use native.Mathlib.Omega.{arith}
 use borrow.Author.Tests.{le-leb, lt-leb, eq-eqb, ne-eqb, leb-true, eqb-true, ltb-true}
 use lib.Dec.{leb, ltb, eqb}
-use lib.ListN.{length, getD, take, drop, set, length-append, length-drop}
-use lib.Seq.{length-take-le, take-all, take-take, getD-append-add, getD-drop, take-suc}
+use lib.ListN.{length, take, drop, set, length-append, length-drop}
+use lib.Seq.{length-take-le, take-all, take-take}
 use Rattle.form.specs.Form.{pick}
 use Rattle.form.specs.Answer.{Outcome, answer, refusal, told, written}
 use Rattle.form.specs.declared.answer.Answer.{Answer}
 use Rattle.form.specs.declared.answer.Answer.the-variants.{Done, No}
 use Rattle.form.proofs.DecodeLaws.{clash}
 use Rattle.line.specs.Put.{put}
-use Rattle.line.proofs.AnswerLaws.{put-front}
 use Rattle.reply.specs.Reply.{replyOutcome}
 use Rattle.reply.specs.Split.{newlineIn, nextOf}
 use Rattle.reply.specs.declared.split.Next.{Next}
 use Rattle.reply.specs.declared.split.Next.the-variants.{Line, Skipped, Long, More}
 use Rattle.turns.specs.Output.{withNewline, answerTo}
-use Rattle.turns.specs.Turn.{pendingOf, Piece, piece, none, ofNext, pieceOf, printedOf, passed, waiting, ofPiece, fits, rowsFit, hasRoom, turnOf, printedBy, movable, movedState, movedBytes, ending, readState}
+use Rattle.turns.specs.Turn.{pendingOf, Piece, piece, none, ofNext, pieceOf, printedOf, passed, waiting, ofPiece, fits, rowsFit, turnOf, printedBy, movable, movedState, movedBytes, ending, readState}
 use Rattle.turns.specs.Internal.Ready.{Rows, Ready}
 use Rattle.turns.specs.declared.state.State.{State}
 use Rattle.turns.specs.declared.turn.Turn.{Turn}
-use Rattle.turns.specs.declared.turn.Turn.the-variants.{On, Write, Read, Stop}
-use Rattle.turns.proofs.PutLaws.{put-none, put-more, put-part, copied}
+use Rattle.turns.specs.declared.turn.Turn.the-variants.{On, Stop}
+use Rattle.turns.proofs.PutLaws.{put-none, put-more, put-part}
+
+positive : (n : ℕ) → (n ≡ 0 → ⊥) → 1 ≤ n
+positive zero h = absurd (h refl)
+positive (suc n) h = omega arith
 
 and-both : (p q : Bool) → (p && q) ≡ true → (p ≡ true) × (q ≡ true)
 and-both true true e = (refl, refl)
@@ -134,10 +137,6 @@ module _ (st : State) (input : List ℕ) (inside : st .end ≤ length input) (be
   module _ (n : ℕ) (e : n ≡ st .end - st .start) (some : n ≡ 0 → ⊥) where
     more-one : 1 ≤ length (pendingOf st input)
     more-one = let l = pending-long in rw (l, ← e) (positive n some)
-      where
-        positive : (n : ℕ) → (n ≡ 0 → ⊥) → 1 ≤ n
-        positive zero h = absurd (h refl)
-        positive (suc n) h = omega arith
 
     pub rest-skipped : st .skipping ≡ true → piece [] n true ≡ ofNext (st .skipping) (st .ended) (pendingOf st input) More
     rest-skipped k = let l = pending-long in let z : n ≡ length (pendingOf st input) = omega arith in rw (k, le-leb 1 (length (pendingOf st input)) more-one, z)
@@ -284,14 +283,6 @@ module _ (st : State) (input got : ℕ) where
       → record { start = st .start; end = st .end + got; used = st .used; skipping = st .skipping; ended = st .ended } ≡ readState st input got
   unfolding readState
   read-more n h = rw (le-leb got (input - st .end) h, le-leb 1 got (positive got n))
-    where
-      positive : (n : ℕ) → (n ≡ 0 → ⊥) → 1 ≤ n
-      positive zero h = absurd (h refl)
-      positive (suc n) h = omega arith
 
   pub read-past : (got ≡ 0 → ⊥) → input < st .end → ending st ≡ readState st input got
-  read-past n h = read-over (go got n)
-    where
-      go : (got : ℕ) → (got ≡ 0 → ⊥) → input - st .end < got
-      go zero n = absurd (n refl)
-      go (suc g) n = omega arith
+  read-past n h = let p = positive got n in read-over (omega arith)

@@ -1,8 +1,8 @@
 -- The runs of the program, as its main goes from turn to turn: with the input and output buffers, what is read from here on, and what is
 -- written. What a read gives is free, but for the bytes that it adds behind the others.
 use mathlib.Core.Path.{_≡_}
-use mathlib.Core.Bool.{Bool, true}
-use mathlib.Core.List.{List, [], _∷_, _++_}
+use mathlib.Core.Bool.{true}
+use mathlib.Core.List.{List, [], _++_}
 use Prim.Native.Nat.{ℕ, _+_, _-_, _≤_}
 use lib.ListN.{length, take}
 use Rattle.line.specs.Put.{put}

@@ -1,6 +1,6 @@
 -- The program's turns: the next line is answered behind what is not written yet, or the program is told to write, to read or to stop.
 use mathlib.Core.Bool.{Bool, true, false, _&&_}
-use mathlib.Core.List.{List, [], _∷_, _++_}
+use mathlib.Core.List.{List, [], _++_}
 use Prim.Native.Nat.{ℕ, _+_, _-_}
 use lib.Dec.{leb, eqb}
 use lib.ListN.{length, take, drop}

@@ -1,8 +1,5 @@
 -- `reply::commands::bind_part` meets its contract. Assumes nothing.
-use mathlib.Core.Path.{refl, sym, _∙_}
-use mathlib.Core.Bool.{true, false}
-use native.Mathlib.Omega.{arith}
-use borrow.Author.Tests.{not-true, not-false}
+use mathlib.Core.Path.{sym}
 use lib.Seq.{length-take-le}
 use Rattle.reply.proofs.LateLaws.{form-tests, names-tests, test-refused, test-passed, test-short, held-fits, held-row}
 use borrow.Author.Needs.{needs}

@@ -1,8 +1,6 @@
 -- `reply::late::check_form_part` meets its contract. Assumes nothing.
-use mathlib.Core.Path.{refl, sym, _∙_}
-use mathlib.Core.Bool.{true, false}
+use mathlib.Core.Path.{sym}
 use native.Mathlib.Omega.{arith}
-use borrow.Author.Tests.{not-true, not-false}
 use lib.Seq.{length-take-le}
 use Rattle.reply.proofs.LateLaws.{told-long, form-tests, held-long, held-fits, held-row}
 use borrow.Author.Needs.{needs}

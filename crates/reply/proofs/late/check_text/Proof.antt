@@ -1,9 +1,7 @@
 -- `reply::late::check_text` meets its contract. Assumes nothing.
-use mathlib.Core.Path.{refl, sym, _∙_}
+use mathlib.Core.Path.{sym, _∙_}
 use mathlib.Core.Bool.{true, false}
-use native.Mathlib.Omega.{arith}
 use borrow.Author.Tests.{not-true, not-false}
-use lib.Seq.{length-take-le}
 use Rattle.reply.proofs.LateLaws.{late-refused, late-told}
 use borrow.Author.Needs.{needs}
 use Rattle.reply.proofs.late.check_text.Statement.{statement}

@@ -1,6 +1,5 @@
 -- `reply::reply::answer_line` meets its contract. Assumes nothing.
 use mathlib.Core.Path.{refl, sym, _∙_}
-use native.Mathlib.Omega.{arith}
 use borrow.Author.Tests.{not-true, not-false}
 use lib.ListN.{length}
 use Rattle.subst.proofs.SignedLaws.{back}

@@ -1,9 +1,4 @@
 -- `reply::reply::are_enough` meets its contract. Assumes nothing.
-use mathlib.Core.Path.{refl, sym, _∙_}
-use mathlib.Core.Bool.{true, false}
-use native.Mathlib.Omega.{arith}
-use borrow.Author.Tests.{not-true, not-false}
-use lib.Seq.{length-take-le}
 use Rattle.reply.proofs.ReplyLaws.{few-list, few-form, work-left}
 use Rattle.reply.proofs.reply.are_enough.Statement.{statement}
 use Rattle.reply.proofs.reply.are_enough.Tie as tie

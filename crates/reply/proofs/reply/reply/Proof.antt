@@ -1,6 +1,5 @@
 -- `reply::reply::reply` meets its contract. Assumes nothing.
-use mathlib.Core.Path.{refl, sym, _∙_}
-use native.Mathlib.Omega.{arith}
+use mathlib.Core.Path.{sym}
 use lib.Seq.{length-take-le}
 use lib.ListN.{length}
 use Rattle.reply.specs.Reply.{lineOutcome, replyOutcome}

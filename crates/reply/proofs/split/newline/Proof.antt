@@ -1,10 +1,9 @@
 -- `reply::split::newline` meets its contract. Assumes nothing.
-use mathlib.Core.Path.{_≡_, refl, sym, _∙_}
+use mathlib.Core.Path.{_≡_, sym, _∙_}
 use native.Mathlib.Omega.{arith}
 use native.Mathlib.Nat.{zero-add}
 use Prim.Native.Nat.{_+_, _-_}
 use lib.ListN.{length, drop}
-use borrow.Author.Needs.{needs}
 use Rattle.reply.specs.Split.{newlineIn}
 use Rattle.reply.proofs.SplitLaws.{newline-here, newline-on, newline-end}
 use Rattle.reply.proofs.split.newline.Statement.{statement}

@@ -1,7 +1,6 @@
 -- `turns::state::after_read` meets its contract. Assumes nothing.
-use Prim.Native.Nat.{_+_, _-_}
-use mathlib.Core.Path.{_≡_, refl, sym, ap, _∙_}
-use native.Mathlib.Omega.{arith}
+use Prim.Native.Nat.{_-_}
+use mathlib.Core.Path.{_∙_}
 use Rattle.turns.proofs.TurnLaws.{read-none, read-over, read-past, read-more}
 use borrow.Author.Needs.{needs}
 use Rattle.turns.proofs.state.after_read.Statement.{statement}

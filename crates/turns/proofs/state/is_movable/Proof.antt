@@ -1,7 +1,5 @@
 -- `turns::state::is_movable` meets its contract. Assumes nothing.
-use Prim.Native.Nat.{_+_, _-_}
-use mathlib.Core.Path.{_≡_, refl, sym, ap, _∙_}
-use native.Mathlib.Omega.{arith}
+use Prim.Native.Nat.{_-_}
 use Rattle.turns.proofs.TurnLaws.{move-order, move-end}
 use Rattle.turns.proofs.state.is_movable.Statement.{statement}
 use Rattle.turns.proofs.state.is_movable.Tie as tie

@@ -1,5 +1,5 @@
 -- `turns::state::move_down` meets its contract. Assumes nothing.
-use mathlib.Core.Path.{_≡_, refl, sym, ap, _∙_}
+use mathlib.Core.Path.{sym, _∙_}
 use native.Mathlib.Omega.{arith}
 use borrow.Author.Tests.{not-true, not-false}
 use Rattle.turns.proofs.TurnLaws.{moved-are, moved-not, moved-done}

@@ -1,6 +1,5 @@
 -- `turns::turn::answer` meets its contract. Assumes nothing.
 use Prim.Native.Nat.{_+_, _-_}
-use mathlib.Core.Path.{_≡_, refl, sym, ap, _∙_}
 use native.Mathlib.Omega.{arith}
 use Rattle.turns.proofs.TurnLaws.{line-no, line-few, line-yes}
 use borrow.Author.Needs.{needs}

@@ -1,7 +1,5 @@
 -- `turns::turn::answered` meets its contract. Assumes nothing.
-use Prim.Native.Nat.{_+_, _-_}
-use mathlib.Core.Path.{_≡_, refl, sym, ap, _∙_}
-use native.Mathlib.Omega.{arith}
+use Prim.Native.Nat.{_-_}
 use Rattle.turns.proofs.TurnLaws.{did-answer}
 use borrow.Author.Needs.{needs}
 use Rattle.turns.proofs.turn.answered.Statement.{statement}

@@ -1,7 +1,5 @@
 -- `turns::turn::are_rows` meets its contract. Assumes nothing.
-use Prim.Native.Nat.{_+_, _-_}
-use mathlib.Core.Path.{_≡_, refl, sym, ap, _∙_}
-use native.Mathlib.Omega.{arith}
+use Prim.Native.Nat.{_-_}
 use Rattle.turns.proofs.TurnLaws.{rows-list, rows-form, rows-work, rows-result}
 use Rattle.turns.proofs.turn.are_rows.Statement.{statement}
 use Rattle.turns.proofs.turn.are_rows.Tie as tie

@@ -1,7 +1,5 @@
 -- `turns::turn::is_fit` meets its contract. Assumes nothing.
-use Prim.Native.Nat.{_+_, _-_}
-use mathlib.Core.Path.{_≡_, refl, sym, ap, _∙_}
-use native.Mathlib.Omega.{arith}
+use Prim.Native.Nat.{_-_}
 use Rattle.turns.proofs.TurnLaws.{fits-order, fits-input, fits-output}
 use Rattle.turns.proofs.turn.is_fit.Statement.{statement}
 use Rattle.turns.proofs.turn.is_fit.Tie as tie

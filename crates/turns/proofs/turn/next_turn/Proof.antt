@@ -1,6 +1,6 @@
 -- `turns::turn::next_turn` meets its contract. Assumes nothing.
-use Prim.Native.Nat.{_+_, _-_}
-use mathlib.Core.Path.{_≡_, refl, sym, ap, _∙_}
+use Prim.Native.Nat.{_-_}
+use mathlib.Core.Path.{refl, _∙_}
 use native.Mathlib.Omega.{arith}
 use Rattle.turns.proofs.TurnLaws.{did-same, did-pass, next-is, all-taken, line-inside, skipped-inside, pending-long}
 use borrow.Author.Needs.{needs}

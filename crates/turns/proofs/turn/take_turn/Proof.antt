@@ -1,6 +1,6 @@
 -- `turns::turn::take_turn` meets its contract. Assumes nothing.
-use Prim.Native.Nat.{_+_, _-_}
-use mathlib.Core.Path.{_≡_, refl, sym, ap, _∙_}
+use Prim.Native.Nat.{_-_}
+use mathlib.Core.Path.{sym, _∙_}
 use native.Mathlib.Omega.{arith}
 use borrow.Author.Tests.{not-true, not-false}
 use Rattle.turns.proofs.TurnLaws.{took-rows, took-unfit, took-full, took-piece, fits-are, ready-by}

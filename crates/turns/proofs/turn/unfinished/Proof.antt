@@ -1,7 +1,6 @@
 -- `turns::turn::unfinished` meets its contract. Assumes nothing.
-use Prim.Native.Nat.{_+_, _-_}
-use mathlib.Core.Path.{_≡_, refl, sym, ap, _∙_}
-use native.Mathlib.Omega.{arith}
+use Prim.Native.Nat.{_-_}
+use mathlib.Core.Path.{refl}
 use Rattle.turns.proofs.TurnLaws.{did-same, did-none, did-pass, rest-none, rest-skipped, rest-last, rest-unread}
 use borrow.Author.Needs.{needs}
 use Rattle.turns.proofs.turn.unfinished.Statement.{statement}
