@@ -25,6 +25,7 @@ use Rattle.subst.proofs.CheckedLaws.{row-one}
 use Rattle.replace.specs.Free.{substitute, freeOutcome}
 use Rattle.replace.specs.Fill.{Quantified, quantifier, other, quantified, ofQuantified, keptCount, fill, fillOutcome}
 use Rattle.replace.specs.Prune.{usedPlaces, prune, pruneOutcome}
+use Rattle.one_point.specs.Point.{onePoint, ofResult, pointOutcome}
 use Rattle.line.specs.Spell.{digits, decimal, spell, spellNo, printOutcome, printNo}
 use Rattle.line.specs.Line.{Formed, formed, readLine}
 use Rattle.line.proofs.PrintLaws.{spell-few}
@@ -101,6 +102,14 @@ unfolding pruneOutcome
 good-prune row room =
     good-form Predicate row _ (λ s f. good-quantified _ 3 (quantified f) (λ t ns b. good-needs 9 (not (eqb (keptCount (usedPlaces ns b)) (length ns))) _ (good-finish pred room (prune t ns b))))
 
+good-result : (room : ℕ) (x : Option Form) → Good (ofResult room x)
+good-result room (some g) = good-finish pred room g
+good-result room absent = tt
+
+good-point : (row : List ℕ) (work room : ℕ) → Good (pointOutcome row work room)
+unfolding pointOutcome
+good-point row work room = good-needs 15 (leb 16384 work) _ (good-form Predicate row _ (λ s f. good-result room (onePoint f)))
+
 good-gate : (g : Outcome → Outcome) → Gate g → (o : Outcome) → Good o → Good (g o)
 good-gate g (passes h) o k = rw (h o) k
 good-gate g (refuses n h) o k = rw (h o) tt
@@ -111,7 +120,7 @@ good-command Free z listText list text row work room = good-gate _ (form-tests E
 good-command Bind z listText list text row work room = good-gate _ (form-tests Either text row .gate) _ (good-gate _ (names-tests listText list .gate) _ (good-bind list row room))
 good-command Fill z listText list text row work room = good-gate _ (form-tests Predicate text row .gate) _ (good-gate _ (list-tests Places listText list .gate) _ (good-fill list row work room))
 good-command Prune z listText list text row work room = good-gate _ (form-tests Predicate text row .gate) _ (good-prune row room)
-good-command Point z listText list text row work room = tt
+good-command Point z listText list text row work room = good-gate _ (form-tests Predicate text row .gate) _ (good-point row work room)
 good-command Member z listText list text row work room = tt
 
 pub good-line : (line : List ℕ) (list form work room : ℕ) → Good (lineOutcome line list form work room)
