@@ -2,7 +2,7 @@
 use mathlib.Core.Path.{_≡_, refl, ap, sym, _∙_}
 use mathlib.Core.Bool.{Bool, true, false}
 use mathlib.Core.List.{List, [], _∷_, _++_, append-assoc}
-use Prim.Native.Nat.{ℕ, suc, _+_, _≤_, _<_}
+use Prim.Native.Nat.{ℕ, suc, _+_, _*_, _≤_, _<_}
 use native.Mathlib.Omega.{arith}
 use borrow.Author.Tests.{le-leb, lt-leb, eq-eqb, ne-eqb}
 use lib.Dec.{eqb}
@@ -10,23 +10,24 @@ use lib.ListN.{length, getD, take, drop, set, replicate, length-append, length-r
 use lib.Seq.{set-append-seam, take-at}
 use Rattle.form.specs.Form.{Form, pick, encode}
 use Rattle.form.specs.Tag.{Sort, expr, pred}
-use Rattle.form.specs.Decode.{got, decode, Whole, one, not-one, whole, rowForm, Found, found, missing, asSort, either, formOf}
+use Rattle.form.specs.Decode.{got, decode, Whole, one, not-one, whole, rowForm, Found, found, missing, asSort, formOf}
 use Rattle.form.specs.Answer.{told, written}
+use Rattle.form.specs.Internal.Reads.{asExpr}
 use Rattle.form.specs.declared.answer.Kind.the-variants.{Either}
 use Rattle.form.specs.declared.answer.Answer.the-variants.{Done, No}
 use Rattle.form.proofs.DecodeLaws.{clash, decode-sound}
 use Rattle.form.proofs.HeadLaws.{gone, here}
+use Rattle.form.proofs.CheckLaws.{form-of}
+use Rattle.form.proofs.RowLaws.{row-exact, found-exact}
 use Rattle.line.specs.Put.{put}
-use Rattle.line.specs.Spell.{decimal, spell, spellNo, printOutcome, printNo, sameBytes, spells, fitsForm}
-use Rattle.line.specs.Internal.Writes.{Wrote, Printed, PrintedRow, sizedOf}
+use Rattle.line.specs.Spell.{decimal, spell, spellNo, printOutcome, printNo, sameBytes}
+use Rattle.line.specs.Internal.Writes.{Wrote, Printed, PrintedRow, PrintedForm}
 use Rattle.line.specs.declared.print.Ends.{Ends}
 use Rattle.line.specs.declared.print.Ends.the-variants.{End, Bad}
 use Rattle.line.specs.declared.whole.Spelled.{Spelled}
 use Rattle.line.specs.declared.whole.Spelled.the-variants.{Bytes, NotOne}
-use Rattle.line.specs.declared.whole.Sized.{Sized}
-use Rattle.line.specs.declared.whole.Sized.the-variants.{Is, Neither}
-use Rattle.line.proofs.WriteLaws.{wrote-both, wrote-next, wrote-end}
-use Rattle.line.proofs.PrintLaws.{printed-end, printed-bad}
+use Rattle.line.proofs.WriteLaws.{put-length, wrote-both, wrote-next, wrote-end}
+use Rattle.line.proofs.PrintLaws.{spell-few, printed-end, printed-bad}
 
 -- a row that is one form of a sort
 module _ (s : Sort) (row : List ℕ) (h : length row ≤ 8192) (a b : List ℕ) (r : Ends) (t : Printed 0 0 (decode 64 s row) a b r) where
@@ -63,50 +64,27 @@ module _ (s : Sort) (row : List ℕ) (h : length row ≤ 8192) (a b : List ℕ) 
         let n = ap length w ∙ length-append (encode f) x in
         rw (as-whole not-one (part-is f x g (λ z. q (omega arith)))) refl
 
+-- the form of either sort that was printed
+as-form : (s : Sort) (w : Whole) (a b : List ℕ) (r : Spelled) → PrintedRow w a b r → PrintedForm (asSort s w) a b r
+unfolding PrintedRow PrintedForm
+as-form s (one f) a b r t = t
+as-form s not-one a b r t = t
+
+pub printed-form : (row : List ℕ) (x : Bool) → x ≡ asExpr Either row → (a b : List ℕ) (r : Spelled) → PrintedRow (rowForm (pick x expr pred) row) a b r
+    → PrintedForm (formOf Either row) a b r
+printed-form row x k a b r t = rw (form-of Either row x k) (as-form (pick x expr pred) (rowForm (pick x expr pred) row) a b r t)
+
 -- its answer taken apart
-row-bytes : (w : Whole) (a b : List ℕ) (r : Spelled) (n : ℕ) → PrintedRow w a b r → r ≡ Bytes n → (f : Form) × (w ≡ one f) × (n ≡ length (spell f)) × (b ≡ put a 0 (spell f))
-unfolding PrintedRow
-row-bytes (one f) a b r n t e = (f, refl, cc (t .0), t .1)
-row-bytes not-one a b r n t e = absurd (clash cc)
+pub form-bytes : (o : Found) (a b : List ℕ) (r : Spelled) (n : ℕ) → PrintedForm o a b r → r ≡ Bytes n
+    → (s : Sort) × (f : Form) × (o ≡ found s f) × (n ≡ length (spell f)) × (b ≡ put a 0 (spell f))
+unfolding PrintedForm
+form-bytes (found s f) a b r n t e = (s, f, refl, cc (t .0), t .1)
+form-bytes missing a b r n t e = absurd (clash cc)
 
-row-none : (w : Whole) (a b : List ℕ) (r : Spelled) → PrintedRow w a b r → r ≡ NotOne → w ≡ not-one
-unfolding PrintedRow
-row-none (one f) a b r t e = let z = t .0 in absurd (clash cc)
-row-none not-one a b r t e = refl
-
-module _ (row a b : List ℕ) (r : Spelled) (t : PrintedRow (rowForm expr row) a b r) where
-  pub sized-expr : (n : ℕ) → r ≡ Bytes n → Is true n ≡ sizedOf (formOf Either row)
-  unfolding formOf sizedOf
-  sized-expr n e = let (f, w, m, v) = row-bytes (rowForm expr row) a b r n t e in rw w (ap (λ k. Is true k) m)
-
-  module _ (e : r ≡ NotOne) (c d : List ℕ) (r′ : Spelled) (t′ : PrintedRow (rowForm pred row) c d r′) where
-    pub sized-pred : (n : ℕ) → r′ ≡ Bytes n → Is false n ≡ sizedOf (formOf Either row)
-    unfolding formOf sizedOf
-    sized-pred n q = let (f, w, m, v) = row-bytes (rowForm pred row) c d r′ n t′ q in rw (row-none (rowForm expr row) a b r t e, w) (ap (λ k. Is false k) m)
-
-    pub sized-none : r′ ≡ NotOne → Neither ≡ sizedOf (formOf Either row)
-    unfolding formOf sizedOf
-    sized-none q = rw (row-none (rowForm expr row) a b r t e, row-none (rowForm pred row) c d r′ t′ q)
-
--- the form of either sort that was measured
-abbrev Measured : List ℕ → Found → Bool → ℕ → Type 0
-Measured row o b n = (f : Form) × (o ≡ found (pick b expr pred) f) × (rowForm (pick b expr pred) row ≡ one f) × (n ≡ length (spell f))
-
-measured-as : (row : List ℕ) (x y : Whole) (b : Bool) (n : ℕ) → rowForm expr row ≡ x → rowForm pred row ≡ y
-    → sizedOf (either (asSort expr x) (asSort pred y)) ≡ Is b n → Measured row (either (asSort expr x) (asSort pred y)) b n
-unfolding sizedOf
-measured-as row (one f) y b n p q e = let z : true ≡ b = cc in rw (← z) (f, refl, p, cc)
-measured-as row not-one (one f) b n p q e = let z : false ≡ b = cc in rw (← z) (f, refl, q, cc)
-measured-as row not-one not-one b n p q e = absurd (clash cc)
-
-measured : (row : List ℕ) (b : Bool) (n : ℕ) → sizedOf (formOf Either row) ≡ Is b n → Measured row (formOf Either row) b n
-unfolding formOf
-measured row b n e = measured-as row (rowForm expr row) (rowForm pred row) b n refl refl e
-
-sized-missing : (o : Found) → sizedOf o ≡ Neither → o ≡ missing
-unfolding sizedOf
-sized-missing (found s f) e = absurd (clash cc)
-sized-missing missing e = refl
+pub form-missing : (o : Found) (a b : List ℕ) (r : Spelled) → PrintedForm o a b r → r ≡ NotOne → o ≡ missing
+unfolding PrintedForm
+form-missing (found s f) a b r t e = let z = t .0 in absurd (clash cc)
+form-missing missing a b r t e = refl
 
 -- bytes at the front of a buffer
 put-after : (u l bs : List ℕ) → length bs ≤ length l → put (u ++ l) (length u) bs ≡ u ++ (bs ++ drop (length bs) l)
@@ -130,25 +108,47 @@ module _ (row out : List ℕ) where
   unfolding printOutcome
   form-long h = rw (lt-leb (length row) 8192 h) (refl, refl)
 
-  module _ (h : length row ≤ 8192) {t : Sized} (q : t ≡ sizedOf (formOf Either row)) where
-    pub form-none : t ≡ Neither → (No 2 ≡ told (printOutcome row (length out))) × (out ≡ written (printOutcome row (length out)) out)
+  module _ (h : length row ≤ 8192) (a b : List ℕ) (r : Spelled) (t : PrintedForm (formOf Either row) a b r) where
+    pub form-none : r ≡ NotOne → (No 2 ≡ told (printOutcome row (length out))) × (out ≡ written (printOutcome row (length out)) out)
     unfolding printOutcome
-    form-none e = rw (le-leb (length row) 8192 h, sized-missing (formOf Either row) (sym q ∙ e)) (refl, refl)
+    form-none e = rw (le-leb (length row) 8192 h, form-missing (formOf Either row) a b r t e) (refl, refl)
 
-    module _ (b : Bool) (n : ℕ) (e : t ≡ Is b n) where
+    module _ (n : ℕ) (e : r ≡ Bytes n) where
       pub form-room : length out < n → (No 14 ≡ told (printOutcome row (length out))) × (out ≡ written (printOutcome row (length out)) out)
       unfolding printOutcome
       form-room l =
-          let (f, o, w, m) = measured row b n (sym q ∙ e) in
+          let (s, f, o, m, v) = form-bytes (formOf Either row) a b r n t e in
           rw (le-leb (length row) 8192 h, o, lt-leb (length (spell f)) (length out) (omega arith)) (refl, refl)
 
-      pub form-done : n ≤ length out → (out′ : List ℕ) (r : Spelled) → PrintedRow (rowForm (pick b expr pred) row) out out′ r
-          → (Done n ≡ told (printOutcome row (length out))) × (out′ ≡ written (printOutcome row (length out)) out)
-      unfolding printOutcome PrintedRow
-      form-done l out′ r p =
-          let (f, o, w, m) = measured row b n (sym q ∙ e) in
-          let k : out′ ≡ put out 0 (spell f) = (rw w at p) .1 in
-          rw (le-leb (length row) 8192 h, o, le-leb (length (spell f)) (length out) (omega arith)) (ap Done m, k ∙ put-front out (spell f) (omega arith))
+      module _ (l : 13 * length row ≤ length a) where
+        pub form-within : (n ≤ length a) × (n ≤ length b)
+        form-within =
+            let (s, f, o, m, v) = form-bytes (formOf Either row) a b r n t e in
+            let w = ap length (row-exact s row f (found-exact Either row s f o) .0) in
+            let k = spell-few f in
+            let x : length b ≡ length a = ap length v ∙ put-length a 0 (spell f) in
+            (omega arith, omega arith)
+
+        pub form-done : n ≤ length out → (out′ : List ℕ) → out′ ≡ put out 0 (take n b)
+            → (Done n ≡ told (printOutcome row (length out))) × (out′ ≡ written (printOutcome row (length out)) out)
+        unfolding printOutcome
+        form-done g out′ p =
+            let (s, f, o, m, v) = form-bytes (formOf Either row) a b r n t e in
+            let w = form-within .0 in
+            let u : b ≡ spell f ++ drop (length (spell f)) a = v ∙ put-front a (spell f) (omega arith) in
+            let y : take n b ≡ spell f = ap (λ x. take n x) u ∙ take-at (spell f) (drop (length (spell f)) a) n (sym m) in
+            let z : out′ ≡ put out 0 (spell f) = p ∙ ap (λ x. put out 0 x) y in
+            rw (le-leb (length row) 8192 h, o, le-leb (length (spell f)) (length out) (omega arith)) (ap Done m, z ∙ put-front out (spell f) (omega arith))
+
+-- copying bytes
+module _ (bs l : List ℕ) (i : ℕ) where
+  pub copy-more : (l′ : List ℕ) → i < length bs → l′ ≡ set l i (getD bs i 0) → put l i (drop i bs) ≡ put l′ (i + 1) (drop (i + 1) bs)
+  unfolding put
+  copy-more l′ h e = rw (here bs i h, e)
+
+  pub copy-none : length bs ≤ i → put l i (drop i bs) ≡ l
+  unfolding put
+  copy-none h = rw (gone bs i h)
 
 -- comparing bytes
 module _ (text bytes : List ℕ) (i : ℕ) where
@@ -175,37 +175,6 @@ same-lengths (x ∷ a) (y ∷ b) n = go (same-lengths a b (λ e. n (ap suc e))) 
     go : sameBytes a b ≡ false → (z : Bool) → pick z (sameBytes a b) false ≡ false
     go k true = k
     go k false = refl
-
-module _ (text row : List ℕ) where
-  pub fits-text : 65535 < length text → false ≡ fitsForm text row
-  unfolding fitsForm
-  fits-text h = rw (lt-leb (length text) 65535 h)
-
-  module _ (l : length text ≤ 65535) where
-    short : fitsForm text row ≡ spells text (formOf Either row)
-    unfolding fitsForm
-    short = rw (le-leb (length text) 65535 l)
-
-    pub fits-row : 8192 < length row → false ≡ fitsForm text row
-    unfolding formOf rowForm
-    fits-row h = rw (short, lt-leb (length row) 8192 h)
-
-    module _ {t : Sized} (q : t ≡ sizedOf (formOf Either row)) where
-      pub fits-none : t ≡ Neither → false ≡ fitsForm text row
-      fits-none e = rw (short, sized-missing (formOf Either row) (sym q ∙ e))
-
-      module _ (b : Bool) (n : ℕ) (e : t ≡ Is b n) where
-        pub fits-other : (n ≡ length text → ⊥) → false ≡ fitsForm text row
-        fits-other k =
-            let (f, o, w, m) = measured row b n (sym q ∙ e) in
-            rw (short, o) (sym (same-lengths text (spell f) (λ z. k (omega arith))))
-
-        pub fits-same : n ≡ length text → (a c : List ℕ) (r : Spelled) → length a ≡ 65535 → PrintedRow (rowForm (pick b expr pred) row) a c r → sameBytes text (take (length text) c) ≡ fitsForm text row
-        unfolding PrintedRow
-        fits-same k a c r g p =
-            let (f, o, w, m) = measured row b n (sym q ∙ e) in
-            let v : c ≡ spell f ++ drop (length (spell f)) a = (rw w at p) .1 ∙ put-front a (spell f) (omega arith) in
-            rw (short, o, v) (ap (λ z. sameBytes text z) (take-at (spell f) (drop (length (spell f)) a) (length text) (omega arith)))
 
 pub zeros : (n : ℕ) → length (replicate {A = ℕ} n 0) ≡ n
 zeros n = length-replicate n 0

@@ -85,6 +85,23 @@ pub wrote-decimal : (o n r : ℕ) (a b : List ℕ) → Wrote o (digits 10 n) a b
 unfolding decimal
 wrote-decimal o n r a b w = w
 
+-- words of one, two and three digits
+module _ (o n : ℕ) (a b : List ℕ) where
+  pub one-digit : (r : ℕ) → n < 10 → Wrote o ((48 + n) ∷ []) a b r → Wrote o (decimal n) a b r
+  unfolding decimal
+  one-digit r h w = last-digit o 10 n r a b (λ z. omega arith) h w
+
+  pub two-digits : (p r : ℕ) (c : List ℕ) → 10 ≤ n → n < 100 → Wrote o ((48 + n / 10) ∷ []) a b p → Wrote p ((48 + n % 10) ∷ []) b c r → Wrote o (decimal n) a c r
+  unfolding decimal
+  two-digits p r c h l w v = more-digits o p 10 n r a b c (λ z. omega arith) h (last-digit o 9 (n / 10) p a b (λ z. omega arith) (omega arith) w) v
+
+  pub three-digits : (p q r : ℕ) (c d : List ℕ) → 100 ≤ n → n < 1000 → Wrote o ((48 + n / 10 / 10) ∷ []) a b p → Wrote p ((48 + n / 10 % 10) ∷ []) b c q
+      → Wrote q ((48 + n % 10) ∷ []) c d r → Wrote o (decimal n) a d r
+  unfolding decimal
+  three-digits p q r c d h l w v u =
+      more-digits o q 10 n r a c d (λ z. omega arith) (omega arith)
+      (more-digits o p 9 (n / 10) q a b c (λ z. omega arith) (omega arith) (last-digit o 8 (n / 10 / 10) p a b (λ z. omega arith) (omega arith) w) v) u
+
 -- words, each after a space
 pub spaced-more : (row : List ℕ) (end p q k j : ℕ) (a x y : List ℕ) → p < end → end ≤ length row → Wrote q (32 ∷ []) a x k → Wrote k (decimal (getD row p 0)) x y j
     → (b : List ℕ) (r : ℕ) → Wrote j (spaced (take (end - (p + 1)) (drop (p + 1) row))) y b r → Wrote q (spaced (take (end - p) (drop p row))) a b r

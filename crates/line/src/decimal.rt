@@ -32,10 +32,24 @@ fn put_digits(out: &mut [u8], o: usize, n: u32, places: u32) -> usize
     put_byte(out, p, 48 + ((n % 10) as u8))
 }
 
+// A word: up to three digits at once, more by recursion.
 pub(crate) fn put_decimal(out: &mut [u8], o: usize, n: u32) -> usize
     requires { ⌜ o + 10 < 2 ^ 64 ⌝ }
     ensures { λ r. ⌜ Wrote o (decimal n) (now (out .entry)) (now (out .exit)) r ⌝ }
 {
+    if n < 10 {
+        return put_byte(out, o, 48 + (n as u8));
+    }
+    let tens = n / 10;
+    if n < 100 {
+        let p = put_byte(out, o, 48 + (tens as u8));
+        return put_byte(out, p, 48 + ((n % 10) as u8));
+    }
+    if n < 1000 {
+        let p = put_byte(out, o, 48 + ((tens / 10) as u8));
+        let q = put_byte(out, p, 48 + ((tens % 10) as u8));
+        return put_byte(out, q, 48 + ((n % 10) as u8));
+    }
     put_digits(out, o, n, 10)
 }
 

@@ -1,7 +1,8 @@
-// A whole row: its sort, and its spelling printed as that sort.
+// A whole row, printed as the sort that it is.
 use crate::print::Ends;
 use crate::print::print_expr;
 use crate::print::print_pred;
+use form::answer::Kind;
 ghost use mathlib.Core.Path.{_≡_};
 ghost use Prim.Native.Nat.{_≤_};
 ghost use lib.ListN.{length};
@@ -9,18 +10,12 @@ ghost use Rattle.form.specs.Form.{pick};
 ghost use Rattle.form.specs.Tag.{expr, pred};
 ghost use Rattle.form.specs.Decode.{decode, rowForm, formOf};
 ghost use Rattle.form.specs.declared.answer.Kind.the-variants.{Either};
-ghost use Rattle.line.specs.Internal.Writes.{Printed, PrintedRow, sizedOf};
+ghost use Rattle.line.specs.Internal.Writes.{Printed, PrintedRow, PrintedForm};
 
 // The number of bytes of a row's spelling, or that it is not one form of the sort.
 pub enum Spelled {
     Bytes(usize),
     NotOne,
-}
-
-// Whether a row is an expression, and the number of bytes of its spelling.
-pub enum Sized {
-    Is(bool, usize),
-    Neither,
 }
 
 fn print_first(row: &[u32], out: &mut [u8], expression: bool) -> Ends
@@ -46,17 +41,11 @@ pub(crate) fn print_sort(row: &[u32], out: &mut [u8], expression: bool) -> Spell
     Spelled::NotOne
 }
 
-// The sort of a row and the length of its spelling, printed to nowhere.
-pub(crate) fn measured(row: &[u32]) -> Sized
+// The spelling of a row as the sort that its first tag says.
+pub(crate) fn print_row(row: &[u32], out: &mut [u8]) -> Spelled
     requires { ⌜ length (now row) ≤ 8192 ⌝ }
-    ensures { λ r. ⌜ r ≡ sizedOf (formOf Either (now (row .entry))) ⌝ }
+    ensures { λ r. ⌜ PrintedForm (formOf Either (now (row .entry))) (now (out .entry)) (now (out .exit)) r ⌝ }
 {
-    let mut none = [0u8; 1];
-    match print_sort(row, &mut none, true) {
-        Spelled::Bytes(n) => Sized::Is(true, n),
-        Spelled::NotOne => match print_sort(row, &mut none, false) {
-            Spelled::Bytes(n) => Sized::Is(false, n),
-            Spelled::NotOne => Sized::Neither,
-        },
-    }
+    let expression = form::check::is_expr(row, Kind::Either);
+    print_sort(row, out, expression)
 }

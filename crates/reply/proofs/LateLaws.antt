@@ -1,7 +1,7 @@
 -- A row's refusals before its command: 1, 2 and the 8 of its brackets. Assumes nothing.
 use mathlib.Core.Path.{_≡_, refl, ap, sym, _∙_}
-use mathlib.Core.Bool.{Bool, true, false}
-use mathlib.Core.List.{List, []}
+use mathlib.Core.Bool.{Bool, true, false, not, Bool·beq}
+use mathlib.Core.List.{List, [], _∷_, _++_}
 use mathlib.Core.Logic.{⊎-elim}
 use mathlib.Core.Option.{Option, none as absent, some}
 use Prim.Native.Nat.{ℕ, _≤_, _<_}
@@ -12,17 +12,20 @@ use lib.ListN.{length, take}
 use Rattle.form.specs.Form.{pick}
 use Rattle.form.specs.Decode.{Found, found, missing, formOf}
 use Rattle.form.specs.Lists.{Entry, listOf}
-use Rattle.form.specs.Answer.{Outcome, answer, refusal, told, written, within, ofFound, ofList, withForm, needs, checkOutcome}
-use Rattle.form.specs.Internal.Reads.{Listing}
+use Rattle.form.specs.Answer.{Outcome, answer, refusal, told, written, within, ofFound, ofList, withForm, withList, needs, checkOutcome}
+use Rattle.form.specs.Internal.Reads.{asExpr, Listing}
 use Rattle.form.specs.declared.answer.Kind.{Kind}
+use Rattle.form.specs.declared.answer.Kind.the-variants.{Either}
 use Rattle.form.specs.declared.answer.Answer.{Answer}
 use Rattle.form.specs.declared.answer.Answer.the-variants.{Done, No}
 use Rattle.form.specs.declared.lists.ListKind.{ListKind}
 use Rattle.form.specs.declared.lists.Listed.{Listed}
 use Rattle.form.proofs.DecodeLaws.{clash}
+use Rattle.form.proofs.CheckLaws.{form-of}
+use Rattle.form.proofs.RowLaws.{row-short, found-exact}
 use Rattle.form.proofs.Ranges.{split}
 use Rattle.form.proofs.TableLaws.{listing-no, listing-yes}
-use Rattle.line.specs.Spell.{fitsForm, fitsList, fitsNames}
+use Rattle.line.specs.Spell.{spells, fitsForm, fitsList, fitsNames}
 use Rattle.line.specs.declared.line.Part.{Part}
 use Rattle.reply.specs.Reply.{spelledForm, spelledList, spelledNames}
 use Rattle.reply.specs.Internal.Parts.{Held}
@@ -84,14 +87,41 @@ pub told-long : (row : List ℕ) (g : Outcome → Outcome) → Tests row g → 8
 told-long row g t l o = ap told (sym (t .long l o))
 
 -- a form's check, then its 8
-module _ (kind : Kind) (text row : List ℕ) (r : Answer) (n : ℕ) (e : r ≡ told (checkOutcome kind row)) where
-  pub late-refused : r ≡ No n → r ≡ told (spelledForm kind text row (answer []))
-  unfolding checkOutcome spelledForm
-  late-refused q = q ∙ sym (ap told (gate-refused _ r n e (check-tests kind row .gate) q (needs 8 (fitsForm text row) (answer []))))
+module _ (kind : Kind) (row : List ℕ) (b : Bool) (r : Answer) (n : ℕ) (e : r ≡ told (checkOutcome kind row)) where
+  pub late-refused : r ≡ No n → r ≡ told (withForm kind row (λ s f. needs 8 b (answer [])))
+  unfolding checkOutcome
+  late-refused q = q ∙ sym (ap told (gate-refused _ r n e (check-tests kind row .gate) q (needs 8 b (answer []))))
 
-  pub late-told : r ≡ Done n → (b : Bool) → b ≡ fitsForm text row → told (needs 8 b (answer [])) ≡ told (spelledForm kind text row (answer []))
-  unfolding checkOutcome spelledForm
-  late-told q b t = rw t (sym (ap told (gate-done _ r n e (check-tests kind row .gate) q (needs 8 (fitsForm text row) (answer [])))))
+  pub late-told : r ≡ Done n → (x : Bool) → x ≡ b → told (needs 8 x (answer [])) ≡ told (withForm kind row (λ s f. needs 8 b (answer [])))
+  unfolding checkOutcome
+  late-told q x t = rw t (sym (ap told (gate-done _ r n e (check-tests kind row .gate) q (needs 8 b (answer [])))))
+
+not-other : (x y : Bool) → not (Bool·beq x y) ≡ false → x ≡ y
+not-other true true e = refl
+not-other true false e = absurd (clash cc)
+not-other false true e = absurd (clash cc)
+not-other false false e = refl
+
+fits-found : (x : Bool) (text : List ℕ) (o : Found) → pick x (spells text o) false ≡ true → (s : Sort) × (f : Form) × (o ≡ found s f)
+fits-found x text (found s f) e = (s, f, refl)
+fits-found true text missing e = absurd (clash cc)
+fits-found false text missing e = absurd (clash cc)
+
+module _ (kind : Kind) (text row : List ℕ) where
+  pub late-row : (b : Bool) → b ≡ fitsForm text row → told (withForm kind row (λ s f. needs 8 b (answer []))) ≡ told (spelledForm kind text row (answer []))
+  unfolding spelledForm
+  late-row b t = rw t
+
+  form-there : true ≡ fitsForm text row → (s : Sort) × (f : Form) × (formOf Either row ≡ found s f)
+  unfolding fitsForm
+  form-there t = fits-found (leb (length text) 65535) text (formOf Either row) (sym t)
+
+  pub late-fits : true ≡ fitsForm text row → (x y : Bool) → x ≡ asExpr kind row → y ≡ asExpr Either row → not (Bool·beq x y) ≡ false → Done 0 ≡ told (spelledForm kind text row (answer []))
+  unfolding spelledForm
+  late-fits t x y h k e =
+      let (s, f, o) = form-there t in
+      let same : formOf kind row ≡ formOf Either row = form-of kind row x h ∙ rw (not-other x y e) (sym (form-of Either row y k)) in
+      rw (le-leb (length row) 8192 (row-short s row f (found-exact Either row s f o)), same ∙ o, sym t) refl
 
 -- a list's
 module _ (kind : ListKind) (text row : List ℕ) (short : length row ≤ 8192) (a b : List ℕ) (l : Listed) (t : Listing (listOf kind row) a b l) where

@@ -2,26 +2,42 @@
 use form::answer::Answer;
 use form::answer::Kind;
 use form::answer::Limit;
+use form::check::is_expr;
 use form::lists::ListKind;
 use form::lists::mark_list;
 use line::line::Part;
 ghost use mathlib.Core.Path.{_≡_};
 ghost use mathlib.Core.List.{[]};
-ghost use Rattle.form.specs.Answer.{told, answer};
+ghost use Rattle.form.specs.Answer.{told, answer, withForm, needs};
 ghost use Rattle.line.specs.Line.{listRow};
 ghost use Rattle.reply.specs.Reply.{textOf, spelledForm, spelledList, spelledNames};
 ghost use Rattle.reply.specs.Internal.Parts.{Held, formWords};
 
-// Whether the row is one form of the kind and the text its spelling.
-pub fn check_text(text: &[u8], row: &[u32], kind: Kind) -> Answer
-    ensures { λ r. ⌜ r ≡ told (spelledForm kind (now (text .entry)) (now (row .entry)) (answer [])) ⌝ }
+// A row's check, where it is known whether the text is the spelling of a form.
+fn check_row(row: &[u32], kind: Kind, fits: bool) -> Answer
+    ensures { λ r. ⌜ r ≡ told (withForm kind (now (row .entry)) (λ s f. needs 8 fits (answer []))) ⌝ }
 {
     let checked = form::check::check(row, kind);
     let Answer::Done(m) = checked else {
         return checked;
     };
-    if !line::fits::fits_form(text, row) {
+    if !fits {
         return Answer::No(8);
+    }
+    Answer::Done(0)
+}
+
+// Whether the row is one form of the kind and the text its spelling. A row whose text is its spelling is a form of the sort of its first tag.
+pub fn check_text(text: &[u8], row: &[u32], kind: Kind) -> Answer
+    ensures { λ r. ⌜ r ≡ told (spelledForm kind (now (text .entry)) (now (row .entry)) (answer [])) ⌝ }
+{
+    if !line::fits::fits_form(text, row) {
+        return check_row(row, kind, false);
+    }
+    let expression = is_expr(row, kind);
+    let first = is_expr(row, Kind::Either);
+    if expression != first {
+        return check_row(row, kind, true);
     }
     Answer::Done(0)
 }

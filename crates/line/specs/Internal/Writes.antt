@@ -1,17 +1,13 @@
 -- Bytes written at a position, and what a printer answers, by what is decoded at its position of the row.
 use mathlib.Core.Path.{_≡_}
-use mathlib.Core.Bool.{Bool, true, false}
 use mathlib.Core.List.{List}
 use Prim.Native.Nat.{ℕ, _+_, _≤_}
 use lib.ListN.{length}
 use Rattle.form.specs.Form.{encode, encodeAll}
 use Rattle.form.specs.Decode.{Got, got, no-form, Gots, gots, no-forms, Whole, one, not-one, Found, found, missing}
-use Rattle.form.specs.Tag.{Sort, expr, pred}
 use Rattle.line.specs.Put.{put}
 use Rattle.line.specs.declared.whole.Spelled.{Spelled}
 use Rattle.line.specs.declared.whole.Spelled.the-variants.{Bytes, NotOne}
-use Rattle.line.specs.declared.whole.Sized.{Sized}
-use Rattle.line.specs.declared.whole.Sized.the-variants.{Is, Neither}
 use Rattle.line.specs.Spell.{spell, spellAll, spellEntry, entriesAfter, spellList}
 use mathlib.Core.Option.{Option, none as absent, some}
 use Rattle.form.specs.Lists.{Entry, entryWords}
@@ -36,13 +32,9 @@ unfoldable pub PrintedRow : Whole → List ℕ → List ℕ → Spelled → Type
 PrintedRow (one f) a b r = (r ≡ Bytes (length (spell f))) × (b ≡ put a 0 (spell f))
 PrintedRow not-one a b r = r ≡ NotOne
 
-abbrev pub isExpr : Sort → Bool
-isExpr expr = true
-isExpr pred = false
-
-unfoldable pub sizedOf : Found → Sized
-sizedOf (found s f) = Is (isExpr s) (length (spell f))
-sizedOf missing = Neither
+unfoldable pub PrintedForm : Found → List ℕ → List ℕ → Spelled → Type 0
+PrintedForm (found s f) a b r = (r ≡ Bytes (length (spell f))) × (b ≡ put a 0 (spell f))
+PrintedForm missing a b r = r ≡ NotOne
 
 -- a printer of an entry, and of entries to the end of the row, the first after the byte b
 unfoldable pub PrintedEntry : ListKind → ℕ → ℕ → Option (Entry × List ℕ) → List ℕ → List ℕ → Ends → Type 0

@@ -1,47 +1,63 @@
 -- `line::answer::print_form` meets its contract. Assumes nothing.
-use borrow.Author.Needs.{needs}
-use Rattle.line.proofs.AnswerLaws.{form-long, form-none, form-room, form-done}
+use native.Mathlib.Omega.{arith}
+use Rattle.line.proofs.AnswerLaws.{zeros, form-long}
 use borrow.Author.Needs.{needs}
 use Rattle.line.proofs.answer.print_form.Statement.{statement}
 use Rattle.line.proofs.answer.print_form.Tie as tie
 
-returns : tie.Need-returns
-returns c = form-long _ _ (c .if1 .taken)
+slice-aggregate-print-form-in : tie.Need-slice-aggregate-print-form-in
+slice-aggregate-print-form-in c = search needs
 
-measured-requires : tie.Need-measured-requires
-measured-requires c κs = search needs
-
-enum-known-expression : tie.Need-enum-known-expression
-enum-known-expression c = search needs
-
-enum-told : tie.Need-enum-told
-enum-told c = search needs
-
-returns-2 : tie.Need-returns-2
-returns-2 c = form-none _ _ (c .before .before .before .if1 .left) (c .before .before .measured .ensures) (c .enum-told .given .1)
-
-returns-3 : tie.Need-returns-3
-returns-3 c = form-room _ _ (c .before .before .before .before .before .if1 .left) (c .before .before .before .before .measured .ensures) _ _ (c .before .before .expression .given .1) (c .if2 .taken)
-
-print-sort-requires : tie.Need-print-sort-requires
-print-sort-requires c κs = search needs
+print-form-in-requires : tie.Need-print-form-in-requires
+print-form-in-requires c κs = let z = zeros 832 in (omega arith, omega arith)
 
 same-length : tie.Need-same-length
-same-length c = c .before .before .print-sort .kept .1 .0
+same-length c = search needs
+
+returns : tie.Need-returns
+returns c = c .before .before .before .print-form-in .ensures
+
+slice-aggregate-print-form-in-2 : tie.Need-slice-aggregate-print-form-in-2
+slice-aggregate-print-form-in-2 c = search needs
+
+print-form-in-requires-2 : tie.Need-print-form-in-requires-2
+print-form-in-requires-2 c κs = let z = zeros 6656 in (omega arith, omega arith)
+
+same-length-2 : tie.Need-same-length-2
+same-length-2 c = search needs
+
+returns-2 : tie.Need-returns-2
+returns-2 c = c .before .before .before .print-form-in2 .ensures
+
+returns-3 : tie.Need-returns-3
+returns-3 c = form-long _ _ (c .if3 .taken)
+
+slice-aggregate-print-form-in-3 : tie.Need-slice-aggregate-print-form-in-3
+slice-aggregate-print-form-in-3 c = search needs
+
+print-form-in-requires-3 : tie.Need-print-form-in-requires-3
+print-form-in-requires-3 c κs = let z = zeros 106496 in (omega arith, omega arith)
+
+same-length-3 : tie.Need-same-length-3
+same-length-3 c = search needs
 
 returns-4 : tie.Need-returns-4
-returns-4 c = form-done _ _ (c .before .before .before .before .before .before .before .before .before .if1 .left) (c .before .before .before .before .before .before .before .before .measured .ensures) _ _ (c .before .before .before .before .before .before .expression .given .1) (c .before .before .before .before .if2 .left) _ _ (c .before .before .print-sort .ensures)
+returns-4 c = c .before .before .before .print-form-in3 .ensures
 
 pub print-form-spec : {M : Type 1} → statement M
 print-form-spec =
     tie.close
     (tie.spec
+    slice-aggregate-print-form-in
+    print-form-in-requires
+    same-length
     returns
-    measured-requires
-    enum-known-expression
-    enum-told
+    slice-aggregate-print-form-in-2
+    print-form-in-requires-2
+    same-length-2
     returns-2
     returns-3
-    print-sort-requires
-    same-length
+    slice-aggregate-print-form-in-3
+    print-form-in-requires-3
+    same-length-3
     returns-4)

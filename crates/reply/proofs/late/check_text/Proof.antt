@@ -2,44 +2,49 @@
 use mathlib.Core.Path.{sym, _∙_}
 use mathlib.Core.Bool.{true, false}
 use borrow.Author.Tests.{not-true, not-false}
-use Rattle.reply.proofs.LateLaws.{late-refused, late-told}
+use Rattle.reply.proofs.LateLaws.{late-row, late-fits}
 use borrow.Author.Needs.{needs}
 use Rattle.reply.proofs.late.check_text.Statement.{statement}
 use Rattle.reply.proofs.late.check_text.Tie as tie
 use Rattle.reply.proofs.late.check_text.Reads as reads
 use Rattle.reply.proofs.late.check_text.Lts as lts
-use Rattle.form.proofs.check.check.Reads as check-reads
+use Rattle.form.proofs.check.is_expr.Reads as is-expr-reads
 use Rattle.line.proofs.fits.fits_form.Reads as fits-form-reads
-
-check-requires : tie.Need-check-requires
-check-requires c κs = search needs
-
-enum-known-checked : tie.Need-enum-known-checked
-enum-known-checked c = search needs
-
-enum-told : tie.Need-enum-told
-enum-told c = search needs
-
-returns : tie.Need-returns
-returns c = late-refused _ _ _ _ _ (c .before .before .check .ensures) (c .enum-told .given .1)
+use Rattle.reply.proofs.late.check_row.Reads as check-row-reads
 
 fits-form-requires : tie.Need-fits-form-requires
 fits-form-requires c κs = search needs
 
+check-row-requires : tie.Need-check-row-requires
+check-row-requires c κs = search needs
+
+returns : tie.Need-returns
+returns c = c .check-row .ensures ∙ late-row _ _ _ false (sym (not-true _ (c .before .if1 .taken)) ∙ c .before .before .fits-form .ensures)
+
+is-expr-requires : tie.Need-is-expr-requires
+is-expr-requires c κs = search needs
+
+is-expr-requires-2 : tie.Need-is-expr-requires-2
+is-expr-requires-2 c κs = search needs
+
+check-row-requires-2 : tie.Need-check-row-requires-2
+check-row-requires-2 c κs = search needs
+
 returns-2 : tie.Need-returns-2
-returns-2 c = late-told _ _ _ _ _ (c .before .before .before .before .before .check .ensures) (c .before .before .before .checked .given .1) false (sym (not-true _ (c .if1 .taken)) ∙ c .before .fits-form .ensures)
+returns-2 c = c .check-row2 .ensures ∙ late-row _ _ _ true (sym (not-false _ (c .before .before .before .before .if1 .left)) ∙ c .before .before .before .before .before .fits-form .ensures)
 
 returns-3 : tie.Need-returns-3
-returns-3 c = late-told _ _ _ _ _ (c .before .before .before .before .before .check .ensures) (c .before .before .before .checked .given .1) true (sym (not-false _ (c .if1 .left)) ∙ c .before .fits-form .ensures)
+returns-3 c = late-fits _ _ _ (sym (not-false _ (c .before .before .before .if1 .left)) ∙ c .before .before .before .before .fits-form .ensures) _ _ (c .before .before .is-expr .ensures) (c .before .is-expr2 .ensures) (c .if2 .left)
 
 pub check-text-spec : {M : Type 1} → statement M
 check-text-spec =
     tie.close
     (tie.spec
-    check-requires
-    enum-known-checked
-    enum-told
-    returns
     fits-form-requires
+    check-row-requires
+    returns
+    is-expr-requires
+    is-expr-requires-2
+    check-row-requires-2
     returns-2
     returns-3)
