@@ -20,7 +20,7 @@ cp "$here"/driver/*.rs "$D/src/"
 cp "$OUT/oracle/harness/src/one_point.rs" "$D/src/one_point.rs"
 cp -r "$OUT/oracle/harness/src/one_point" "$D/src/one_point"
 cp "$OUT/oracle/.cargo/config.toml" "$D/.cargo/config.toml"
-$CC -std=c11 -O3 -c -o "$OUT/plain.o" "$here/plain.c"
+$CC -std=gnu11 -O3 -c -o "$OUT/plain.o" "$here/plain.c"
 ar rcs "$OUT/libplain.a" "$OUT/plain.o"
 cat >"$D/Cargo.toml" <<T
 [package]

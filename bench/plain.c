@@ -6,7 +6,7 @@
 
 typedef uint32_t u32;
 
-enum { WORDS = 8192, DEPTH = 64, NAME = 65535, DECLS = 32, WORK = 16384 };
+enum { WORDS = 8192, DEPTH = 64, NAME = 65535, DECLS = 32, WORK = 16384, SORT = 1024 };
 
 enum kind { CHECK, SHIFT, BIND, FREE, FILL, PRUNE, POINT };
 
@@ -94,70 +94,61 @@ static void seen(struct op *op, u32 tag, u32 v, u32 depth, u32 under)
 /* Checks the form at `at` and measures it; 0 where it is none. */
 static int form(struct op *op, const u32 *row, size_t n, size_t *at, int expr, u32 depth, u32 under)
 {
-    if (depth > DEPTH || *at >= n)
+    if (depth > DEPTH || *at >= n || row[*at] >= SORT)
         return 0;
     u32 tag = row[(*at)++], preds = 0, exprs = 0, bound = 0;
     if (depth > op->deepest)
         op->deepest = depth;
-    if (expr) {
-        if (tag == 1 || tag == 2) {
-            if (*at >= n || row[*at] > NAME)
-                return 0;
-            seen(op, tag, row[(*at)++], depth, under);
-            return 1;
-        }
-        if (tag == 3)
-            return (*at)++ < n;
-        if (401 <= tag && tag <= 412)
-            return 1;
-        if (tag == 4 || (301 <= tag && tag <= 307)) {
-            if (*at >= n || (tag != 4 && row[*at] < 2))
-                return 0;
-            exprs = row[(*at)++];
-        } else if (tag == 5) {
-            preds = 1;
-        } else if (tag == 6 || (201 <= tag && tag <= 227)) {
-            exprs = 2;
-        } else if ((751 <= tag && tag <= 757) || (761 <= tag && tag <= 764)) {
-            exprs = 1;
-        } else if (801 <= tag && tag <= 803) {
-            if (*at >= n || row[(*at)++] > 3)
-                return 0;
-            bound = preds = exprs = 1;
-        } else {
+    switch (expr ? tag : tag + SORT) {
+    case 1: case 2:
+        if (*at >= n || row[*at] > NAME)
             return 0;
-        }
-    } else {
-        if (tag == 610 || tag == 611)
-            return 1;
-        if (tag == 7)
-            return *at < n && row[(*at)++] <= NAME;
-        if (tag == 8) {
-            preds = 1;
-        } else if (tag == 9) {
-            exprs = 1;
-        } else if (tag == 10) {
-            if (*at >= n || row[*at] < 1)
-                return 0;
-            exprs = row[(*at)++];
-        } else if (tag == 11) {
-            if (*at + 1 >= n || row[*at] > NAME)
-                return 0;
-            exprs = row[*at + 1];
-            *at += 2;
-        } else if (101 <= tag && tag <= 112) {
-            exprs = 2;
-        } else if (tag == 251 || tag == 252) {
-            preds = 2;
-        } else if (tag == 351 || tag == 352) {
-            if (*at >= n || row[*at] < 2)
-                return 0;
-            preds = row[(*at)++];
-        } else if (tag == 851 || tag == 852) {
-            bound = preds = 1;
-        } else {
+        seen(op, tag, row[(*at)++], depth, under);
+        return 1;
+    case 3:
+        return (*at)++ < n;
+    case 401 ... 412: case SORT + 610: case SORT + 611:
+        return 1;
+    case 4: case 301 ... 307: case SORT + 10:
+        if (*at >= n || row[*at] < (tag == 4 ? 0u : tag == 10 ? 1u : 2u))
             return 0;
-        }
+        exprs = row[(*at)++];
+        break;
+    case 5: case SORT + 8:
+        preds = 1;
+        break;
+    case 6: case 201 ... 227: case SORT + 101 ... SORT + 112:
+        exprs = 2;
+        break;
+    case 751 ... 757: case 761 ... 764: case SORT + 9:
+        exprs = 1;
+        break;
+    case 801 ... 803:
+        if (*at >= n || row[(*at)++] > 3)
+            return 0;
+        bound = preds = exprs = 1;
+        break;
+    case SORT + 7:
+        return *at < n && row[(*at)++] <= NAME;
+    case SORT + 11:
+        if (*at + 1 >= n || row[*at] > NAME)
+            return 0;
+        exprs = row[*at + 1];
+        *at += 2;
+        break;
+    case SORT + 251: case SORT + 252:
+        preds = 2;
+        break;
+    case SORT + 351: case SORT + 352:
+        if (*at >= n || row[*at] < 2)
+            return 0;
+        preds = row[(*at)++];
+        break;
+    case SORT + 851: case SORT + 852:
+        bound = preds = 1;
+        break;
+    default:
+        return 0;
     }
     if (bound) {
         if (*at >= n || row[*at] < 1 || row[*at] > DECLS)

@@ -1,6 +1,6 @@
 //! Measures each rewriting, row to row, through the static library, against a plain C function, the published Rust
 //! (row to row, and tree to tree) and a copy of the row. Prints a line of comma-separated values for each kind of
-//! rows: nanoseconds for a row, the least of all rounds. Usage: driver [ROUNDS]
+//! rows: nanoseconds for a row, the least of all rounds. Usage: driver [ROUNDS [OP..]]
 
 mod one_point;
 mod rows;
@@ -265,7 +265,11 @@ fn run() {
     let trees = Trees::new();
     let mut r = Rows { work: vec![0; sogbayile::WORK_WORDS], out: vec![0; sogbayile::MAX_WORDS] };
     println!("op,words,depth,binders,mean words,library,C,Rust rows,Rust trees,copy");
+    let asked: Vec<String> = std::env::args().skip(2).collect();
     for (op, name) in OPS {
+        if !asked.is_empty() && !asked.iter().any(|a| a == name) {
+            continue;
+        }
         for words in [20, 200, 2000, 7900] {
             for deep in [false, true] {
                 for many in [false, true] {
