@@ -45,8 +45,7 @@ enum {
     SGB_WORK_SHORT = 15       /* the work row is under 16,384 words */
 };
 
-#define SGB_MAX_WORDS 8192    /* of a row; an output row of this length is never too short, but for sgb_dangling */
-#define SGB_MAX_DANGLING 65536 /* words that sgb_dangling can write */
+#define SGB_MAX_WORDS 8192    /* of a row; an output row of this length is never too short */
 #define SGB_WORK_WORDS 16384  /* of a work row of free, fill and point */
 #define SGB_PLACES 32         /* of a set of places */
 

@@ -8,10 +8,8 @@ use std::ops::Range;
 
 pub mod text;
 
-/// The limit of words of a row: an `out` of this length is long enough for all but [`dangling`].
+/// The limit of words of a row: an `out` of this length is never too short.
 pub const MAX_WORDS: usize = 8192;
-/// The most words that [`dangling`] writes.
-pub const MAX_DANGLING: usize = 65536;
 /// The words that [`free`], [`fill`] and [`point`] need of `work`.
 pub const WORK_WORDS: usize = 16384;
 /// The limit of declarations of one quantifier, and of places of a set.

@@ -1,7 +1,7 @@
 //! What no command line can reach: short rows, rows lent longer than needed, lift's parts, the dangling set, the
 //! set of places.
 
-use sogbayile::{Places, Refusal, MAX_DANGLING, MAX_WORDS, WORK_WORDS};
+use sogbayile::{Places, Refusal, MAX_WORDS, WORK_WORDS};
 
 const OLD: u32 = 77;
 const EXISTS: [u32; 8] = [852, 1, 9, 101, 2, 0, 2, 2];
@@ -56,7 +56,7 @@ fn the_parts_of_lift() {
 
 #[test]
 fn the_dangling_set() {
-    let mut out = vec![OLD; MAX_DANGLING];
+    let mut out = vec![OLD; MAX_WORDS];
     assert_eq!(sogbayile::dangling(&EXISTS, &mut out), Ok(1));
     assert_eq!(out[..2], [1, OLD]);
     assert_eq!(sogbayile::dangling(&[101, 2, 65535, 2, 4], &mut out), Ok(2));

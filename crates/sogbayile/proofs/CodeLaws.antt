@@ -1,4 +1,4 @@
--- The codes: no answer is longer than 8,192 words, and number and length can be read off the code. Assumes nothing.
+-- The code of an answer, and of the part that lift answers. Assumes nothing.
 use mathlib.Core.Path.{_≡_, refl}
 use mathlib.Core.Bool.{Bool, true, false, _||_}
 use mathlib.Core.List.{List}

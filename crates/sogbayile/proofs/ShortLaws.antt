@@ -1,0 +1,149 @@
+-- No exported rewriting answers over 8,192 words, so number and length can be read off its code. Assumes nothing.
+use mathlib.Core.Path.{_≡_, refl}
+use mathlib.Core.Bool.{Bool, true, false}
+use mathlib.Core.List.{List, [], _∷_, _++_}
+use mathlib.Core.Option.{Option, none as absent, some}
+use Prim.Native.Nat.{ℕ, _+_, _≤_, _/_, _%_, _^_}
+use native.Mathlib.Omega.{arith}
+use borrow.Author.Tests.{leb-true}
+use lib.Dec.{leb, ltb, eqb}
+use lib.IntN.{ℤ}
+use lib.ListN.{length, length-append}
+use Rattle.form.specs.Form.{free, bound, Form, leaf, node, Forms, none, more, pick, encode, encodeAll}
+use Rattle.form.specs.Tag.{Sort, pred}
+use Rattle.form.specs.Decode.{Found, found, missing, formOf}
+use Rattle.form.specs.Lists.{Entry, listOf}
+use Rattle.form.specs.Answer.{Outcome, answer, refusal, told, number, lengthOf, ofFound, ofList, withForm, withList, needs}
+use Rattle.form.specs.declared.answer.Kind.{Kind}
+use Rattle.form.specs.declared.answer.Kind.the-variants.{Either, Predicate}
+use Rattle.form.specs.declared.lists.ListKind.{ListKind}
+use Rattle.form.specs.declared.lists.ListKind.the-variants.{Pairs, Places}
+use Rattle.form.proofs.RowLaws.{found-exact, row-exact}
+use Rattle.subst.specs.Walk.{Binding, inside, outside, binding, collectIndex, collect, collectAll}
+use Rattle.subst.specs.Dangling.{indexOf, insert, insertAll, danglingSet, danglingOutcome}
+use Rattle.subst.specs.Shift.{Shifted, shifted, captured, shift, ofShifted, shiftOutcome}
+use Rattle.subst.specs.Bind.{bindOutcome}
+use Rattle.replace.specs.Free.{freeOutcome}
+use Rattle.replace.specs.Fill.{Quantified, quantifier, other, quantified, ofQuantified, fillOutcome}
+use Rattle.replace.specs.Prune.{pruneOutcome}
+use Rattle.one_point.specs.Point.{ofResult, onePoint, pointOutcome}
+use Rattle.sogbayile.specs.Code.{codeOf}
+use Rattle.sogbayile.proofs.CodeLaws.{finish-short}
+
+abbrev pub Short : Outcome → Type 0
+Short o = lengthOf (told o) ≤ 8192
+
+-- the upper 32 bits are the number, the lower ones the length
+pub code-read : (o : Outcome) → Short o → (codeOf (told o) / 2 ^ 32 ≡ number (told o)) × (codeOf (told o) % 2 ^ 32 ≡ lengthOf (told o))
+code-read (answer ws) h = (omega (arith, h), omega (arith, h))
+code-read (refusal k) h = (omega arith, omega arith)
+
+-- the parts of the definitions
+pick-short : (k : ℕ) (b : Bool) (o : Outcome) → Short o → Short (pick b o (refusal k))
+pick-short k true o h = h
+pick-short k false o h = omega arith
+
+form-short : (kind : Kind) (row : List ℕ) (go : Sort → Form → Outcome) → ((s : Sort) (f : Form) → Short (go s f)) → Short (withForm kind row go)
+form-short kind row go h = pick-short 1 (leb (length row) 8192) (ofFound go (formOf kind row)) (by (formOf kind row))
+  where
+    by : (o : Found) → Short (ofFound go o)
+    by (found s f) = h s f
+    by missing = omega arith
+
+list-short : (kind : ListKind) (row : List ℕ) (go : List Entry → Outcome) → ((es : List Entry) → Short (go es)) → Short (withList kind row go)
+list-short kind row go h = pick-short 1 (leb (length row) 8192) (ofList go (listOf kind row)) (by (listOf kind row))
+  where
+    by : (o : Option (List Entry)) → Short (ofList go o)
+    by (some es) = h es
+    by absent = omega arith
+
+quantified-short : (go : ℕ → List ℕ → Form → Outcome) (k : ℕ) (q : Quantified) → ((t : ℕ) (ns : List ℕ) (b : Form) → Short (go t ns b)) → Short (ofQuantified go k q)
+quantified-short go k (quantifier t ns b) h = h t ns b
+quantified-short go k other h = omega arith
+
+-- the rewritings
+pub shift-short : (row : List ℕ) (offset : ℤ) (room : ℕ) → Short (shiftOutcome row offset room)
+unfolding shiftOutcome
+shift-short row offset room = form-short Either row (λ s f. ofShifted s room (shift offset f)) (λ s f. by s (shift offset f))
+  where
+    by : (s : Sort) (g : Shifted) → Short (ofShifted s room g)
+    by s (shifted g) = finish-short s room g
+    by s captured = omega arith
+
+pub bind-short : (names row : List ℕ) (room : ℕ) → Short (bindOutcome names row room)
+unfolding bindOutcome
+bind-short names row room = form-short Either row _ (λ s f. pick-short 1 _ _ (pick-short 4 _ _ (finish-short s room _)))
+
+pub free-short : (list row : List ℕ) (work room : ℕ) → Short (freeOutcome list row work room)
+unfolding freeOutcome
+free-short list row work room = pick-short 15 _ _ (form-short Either row _ (λ s f. list-short Pairs list _ (λ es. pick-short 4 _ _ (finish-short s room _))))
+
+pub fill-short : (list row : List ℕ) (work room : ℕ) → Short (fillOutcome list row work room)
+unfolding fillOutcome
+fill-short list row work room =
+    pick-short 15 _ _ (form-short Predicate row _ (λ s f. list-short Places list _ (λ es. quantified-short _ 3 (quantified f) (λ t ns b. pick-short 5 _ _ (finish-short pred room _)))))
+
+pub prune-short : (row : List ℕ) (room : ℕ) → Short (pruneOutcome row room)
+unfolding pruneOutcome
+prune-short row room = form-short Predicate row _ (λ s f. quantified-short _ 3 (quantified f) (λ t ns b. pick-short 9 _ _ (finish-short pred room _)))
+
+pub point-short : (row : List ℕ) (work room : ℕ) → Short (pointOutcome row work room)
+unfolding pointOutcome
+point-short row work room = pick-short 15 _ _ (form-short Predicate row _ (λ s f. by (onePoint f)))
+  where
+    by : (o : Option Form) → Short (ofResult room o)
+    by (some g) = finish-short pred room g
+    by absent = omega arith
+
+-- the dangling set: an index of it stands in the row
+insert-length : (i : ℕ) (js : List ℕ) → length (insert i js) ≤ 1 + length js
+insert-length i [] = omega arith
+insert-length i (j ∷ js) = by (insert-length i js) (ltb i j) (eqb i j)
+  where
+    by : length (insert i js) ≤ 1 + length js → (b c : Bool) → length (pick b (i ∷ j ∷ js) (pick c (j ∷ js) (j ∷ insert i js))) ≤ 1 + length (j ∷ js)
+    by h true c = omega arith
+    by h false true = omega arith
+    by h false false = omega (arith, h)
+
+insertAll-length : (js is : List ℕ) → length (insertAll js is) ≤ length js + length is
+insertAll-length js [] = omega arith
+insertAll-length js (i ∷ is) = let h = insertAll-length (insert i js) is in let l = insert-length i js in omega (arith, h, l)
+
+index-length : (k : ℕ) (z : Binding) → length (collectIndex [] indexOf k z) ≤ 2
+index-length k inside = omega arith
+index-length k (outside j) = omega arith
+
+mutual
+  unfolding collect encode
+
+  collect-length : (k : ℕ) (f : Form) → length (collect [] _++_ indexOf k f) ≤ length (encode f)
+  collect-length k (leaf (free n)) = omega arith
+  collect-length k (leaf (bound i)) = index-length k (binding k i)
+  collect-length k (node t o ds ks) = let h = collectAll-length (length ds + k) ks in rw (length-append, length-append) (omega (arith, h))
+
+  collectAll-length : (k : ℕ) (fs : Forms) → length (collectAll [] _++_ indexOf k fs) ≤ length (encodeAll fs)
+  collectAll-length k none = omega arith
+  collectAll-length k (more f fs) =
+      let h = collect-length k f in
+      let l = collectAll-length k fs in
+      rw (length-append, length-append) (omega (arith, h, l))
+
+pub dangling-short : (row : List ℕ) (room : ℕ) → Short (danglingOutcome row room)
+unfolding danglingOutcome danglingSet
+dangling-short row room = go (leb (length row) 8192) refl
+  where
+    set : (s : Sort) (f : Form) → formOf Either row ≡ found s f → length row ≤ 8192 → length (danglingSet f) ≤ 8192
+    set s f e h =
+        let w = row-exact s row f (found-exact Either row s f e) .0 in
+        let l = rw w at h in
+        let c = collect-length 0 f in
+        let i = insertAll-length [] (collect [] _++_ indexOf 0 f) in
+        omega (arith, l, c, i)
+
+    by : (o : Found) → formOf Either row ≡ o → length row ≤ 8192 → Short (ofFound (λ s f. needs 14 (leb (length (danglingSet f)) room) (answer (danglingSet f))) o)
+    by (found s f) e h = pick-short 14 (leb (length (danglingSet f)) room) (answer (danglingSet f)) (set s f e h)
+    by missing e h = omega arith
+
+    go : (b : Bool) → leb (length row) 8192 ≡ b → Short (pick b (ofFound (λ s f. needs 14 (leb (length (danglingSet f)) room) (answer (danglingSet f))) (formOf Either row)) (refusal 1))
+    go true e = by (formOf Either row) refl (leb-true (length row) 8192 e)
+    go false e = omega arith
