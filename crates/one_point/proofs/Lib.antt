@@ -20,3 +20,10 @@ pub mod ReduceLaws
 pub mod RestLaws
 pub mod PlaceLaws
 pub mod PointLaws
+pub mod MemberTree
+pub mod ShareLaws
+pub mod FillingLaws
+pub mod BodyLaws
+pub mod SetLaws
+pub mod FillBodyLaws
+pub mod MemberLaws

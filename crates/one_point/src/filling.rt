@@ -14,7 +14,7 @@ ghost use Rattle.form.specs.Answer.{told, written, finish};
 ghost use Rattle.replace.specs.Internal.Pieces.{keptWords};
 ghost use Rattle.one_point.specs.Internal.Rest.{innerEnd};
 ghost use Rattle.one_point.specs.Internal.Reduce.{Inner};
-ghost use Rattle.one_point.specs.Internal.Member.{Filling, filledBody, zerosBefore, innerFrom};
+ghost use Rattle.one_point.specs.Internal.Member.{Filling, filledBody, zerosBefore, innerFrom, keptRow};
 
 // How many words stand before the first that is not 0.
 fn zeros_before(words: &[u32]) -> usize
@@ -62,6 +62,34 @@ fn inner_from(filled: bool, front: &[u32], stay: &[u32], body: &[u32]) -> usize
     inner_end(Tag::EXISTS, front, stay, body)
 }
 
+// The kept names round the body, of which j stand before the outermost filled place, with the places of the table filled by parts of the
+// row.
+fn fill_kept(
+    row: &[u32],
+    row_marks: &[u32],
+    kept: &[u32],
+    j: usize,
+    table: Table,
+    body: &[u32],
+    marks: &[u32],
+    out: &mut [u32],
+) -> Answer
+    requires { ⌜ Inner 852 (now body) × (j ≤ length (now kept)) × (length (now kept) ≤ 32) ⌝ }
+    ensures { λ r. ⌜ r ≡ told (keptRow (now (row .entry)) (now («row_marks» .entry)) (now (kept .entry)) j table (now (body .entry)) (now (marks .entry)) (length (now (out .entry)))) ⌝ }
+    ensures { λ _. ⌜ now (out .exit) ≡ written (keptRow (now (row .entry)) (now («row_marks» .entry)) (now (kept .entry)) j table (now (body .entry)) (now (marks .entry)) (length (now (out .entry)))) (now (out .entry)) ⌝ }
+{
+    let from = inner_from(j < table.n, &kept[..j], &kept[j..], body);
+    let mut head = [0u32; 72];
+    let h = write_head(
+        Tag::EXISTS,
+        &kept[..j],
+        &kept[j..],
+        &body[inner_start(from)..from],
+        &mut head,
+    );
+    fill_places(&head[..h], table, 0, row, row_marks, body, marks, from, out)
+}
+
 // The names round the body, with the places of the table filled by parts of the row.
 pub fn fill_body(
     row: &[u32],
@@ -81,14 +109,5 @@ pub fn fill_body(
     let mut stays = [0u32; 32];
     let k = keep_names(&words[..n], names, &mut stays);
     let j = zeros_before(&words[..n]);
-    let from = inner_from(j < n, &stays[..j], &stays[j..k], body);
-    let mut head = [0u32; 72];
-    let h = write_head(
-        Tag::EXISTS,
-        &stays[..j],
-        &stays[j..k],
-        &body[inner_start(from)..from],
-        &mut head,
-    );
-    fill_places(&head[..h], table, 0, row, row_marks, body, marks, from, out)
+    fill_kept(row, row_marks, &stays[..k], j, table, body, marks, out)
 }

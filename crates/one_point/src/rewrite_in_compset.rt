@@ -30,7 +30,7 @@ fn rewrite_body(
     work: &mut [u32],
     out: &mut [u32],
 ) -> Answer
-    requires { ⌜ Membering (now row) (now «row_marks») set (length (now work)) × Unshifted (now row) set end (now work) × Cleared (take end (now work)) (now marks) ⌝ }
+    requires { ⌜ Membering (now row) (now «row_marks») set (length (now work)) × Unshifted (now row) set end (now work) × Cleared (take end (now work)) (now marks) × (end ≤ length (now work)) ⌝ }
     ensures { λ r. ⌜ ((x : SetIn (now (row .entry)) set) → r ≡ told (finish pred (length (now (out .entry))) (memberOf (x .element) (x .names) (x .guard) (x .value)))) ⌝ }
     ensures { λ _. ⌜ ((x : SetIn (now (row .entry)) set) → now (out .exit) ≡ written (finish pred (length (now (out .entry))) (memberOf (x .element) (x .names) (x .guard) (x .value))) (now (out .entry))) ⌝ }
 {
@@ -39,6 +39,7 @@ fn rewrite_body(
         return Answer::No(2);
     };
     let body = write_body(row, row_marks, set, n, work);
+    let table = body.table;
     let stop = body.end;
     let from = set.at + 3;
     let to = set.guard;
@@ -46,7 +47,7 @@ fn rewrite_body(
         row,
         row_marks,
         &row[from..to],
-        body.table,
+        table,
         &work[..stop],
         marks,
         out,

@@ -154,8 +154,9 @@ pub fn write_body(row: &[u32], marks: &[u32], set: Comprehension, up: u32, out: 
     let from = copy_part(row, set.guard, set.value, out, 2);
     let o = offer_parts(row, marks, set.value, 1, set.n as usize, up, out, from);
     let l = finish_junction(out, 0, o.end, Tag::AND, o.count + 1);
+    let table = o.table;
     Body {
-        table: o.table,
+        table: table,
         end: l.end,
     }
 }

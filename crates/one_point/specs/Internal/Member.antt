@@ -11,18 +11,20 @@ use Rattle.form.specs.Form.{Form, node, Forms, none, more, pick, count, encode,
 use Rattle.form.specs.Tag.{expr, pred}
 use Rattle.form.specs.Decode.{got, gots, decode}
 use Rattle.form.specs.Lists.{Place, kept, filled}
-use Rattle.form.specs.Internal.Reads.{mark, markAll}
+use Rattle.form.specs.Answer.{Outcome}
+use Rattle.form.specs.Internal.Reads.{mark}
 use Rattle.form.specs.declared.lists.Table.{Table}
 use Rattle.subst.specs.Walk.{lift, each}
 use Rattle.subst.specs.Internal.Items.{items, rewritten, movedWords}
 use Rattle.replace.specs.Fill.{quantify}
-use Rattle.replace.specs.Internal.Pieces.{part}
+use Rattle.replace.specs.Internal.Pieces.{part, headWords, placedRow}
 use Rattle.one_point.specs.Replacement.{indexOf}
 use Rattle.one_point.specs.Split.{equal, parts}
 use Rattle.one_point.specs.Partial.{noPlaces, instantiatePartial}
 use Rattle.one_point.specs.Member.{isFree, anyFilled, withGuard, memberOf, membership}
 use Rattle.one_point.specs.Internal.Parts.{readAll, Beside}
 use Rattle.one_point.specs.Internal.Rest.{innerEnd}
+use Rattle.one_point.specs.Internal.Reduce.{innerStart}
 use Rattle.one_point.specs.Internal.Writes.{Wrote}
 use Rattle.one_point.specs.declared.sides.Sides.{Sides}
 use Rattle.one_point.specs.declared.sides.Index.{Index}
@@ -55,14 +57,22 @@ abbrev pub equalities : ℕ → List (Form × Form) → Forms
 equalities u [] = none
 equalities u (p ∷ qs) = more (equal (p .0) (lift u (p .1))) (equalities u qs)
 
--- the expressions that stand at q are marked there
+-- the marks at q are those of forms that stand there one after another
+abbrev pub formMarks : Form → List ℕ
+formMarks f = mark f 0 0 (replicate (length (encode f)) 0)
+
+unfoldable pub MarksAre : List ℕ → ℕ → Forms → Type 0
+MarksAre lm q none = Unit {0}
+MarksAre lm q (more f fs) = (drop q lm ≡ formMarks f ++ drop (q + length (encode f)) lm) × MarksAre lm (q + length (encode f)) fs
+
+-- the n expressions that stand at q are marked there
 unfoldable pub MarkedAt : List ℕ → List ℕ → ℕ → ℕ → Type 0
-MarkedAt row lm q n = (fs : Forms) (x : List ℕ) → readAll n (drop q row) ≡ gots fs x → drop q lm ≡ markAll fs 0 0 (replicate (length (encodeAll fs)) 0) ++ drop (q + length (encodeAll fs)) lm
+MarkedAt row lm q n = (fs : Forms) (x : List ℕ) → readAll n (drop q row) ≡ gots fs x → MarksAre lm q fs
 
 -- the expression f stands from s to e, with its marks
 pub record PlacedAt (row lm : List ℕ) (s e : ℕ) (f : Form) : Type 0 where
   pub is : decode 64 expr (part s e row) ≡ got f []
-  pub marked : items (part s e row) (part s e lm) ≡ items (encode f) (mark f 0 0 (replicate (length (encode f)) 0))
+  pub marked : items (part s e row) (part s e lm) ≡ items (encode f) (formMarks f)
 
 abbrev pub PlaceIs : List ℕ → List ℕ → ℕ → ℕ → ℕ → Place → Type 0
 PlaceIs row lm w s e kept = w ≡ 0
@@ -123,6 +133,7 @@ pub record SetIn (row : List ℕ) (c : Comprehension) : Type 0 where
   pub is-element : decode 63 expr (encode element) ≡ got element []
   pub is-guard : decode 62 pred (encode guard) ≡ got guard []
   pub is-value : decode 62 expr (encode value) ≡ got value []
+  pub shape : (f : Form) → decode 64 pred row ≡ got f [] → (r : Form) × (f ≡ node 107 [] [] (more element (more r none)))
   pub is : (f : Form) → decode 64 pred row ≡ got f [] → membership f ≡ some (memberOf element names guard value)
 
 unfoldable pub SetTold : List ℕ → Membership → Type 0
@@ -177,6 +188,12 @@ zerosBefore (w ∷ ws) = pick (eqb w 0) (suc (zerosBefore ws)) 0
 
 abbrev pub innerFrom : Bool → List ℕ → List ℕ → List ℕ → ℕ
 innerFrom b front stay body = pick b (innerEnd 852 front stay body) 0
+
+-- kept names round the items of a body, of which j stand before the outermost filled place
+unfoldable pub keptRow : List ℕ → List ℕ → List ℕ → ℕ → Table → List ℕ → List ℕ → ℕ → Outcome
+keptRow row lm names j t body marks room =
+    let from = innerFrom (ltb j (t .n)) (take j names) (drop j names) body in
+    placedRow (headWords 852 (take j names ++ (drop j names ++ take (from - innerStart from) (drop (innerStart from) body)))) t 0 row lm (drop from body) (drop from marks) room
 
 -- the body with the element not shifted stands at the start of the work row
 abbrev pub leftParts : Shares → List (Form × Form)
