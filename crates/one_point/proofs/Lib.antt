@@ -21,3 +21,10 @@ pub mod PlaceLaws
 pub mod PointLaws
 pub mod ShapeLaws
 pub mod OutputLaws
+pub mod MemberTree
+pub mod ShareLaws
+pub mod FillingLaws
+pub mod BodyLaws
+pub mod SetLaws
+pub mod FillBodyLaws
+pub mod MemberLaws

@@ -60,8 +60,29 @@ join-same : (t : ℕ) (ns o ds : List ℕ) (f : Form) → (eqb t 851 || eqb t 85
 unfolding quantified
 join-same t ns o ds f e = rw (e, eq-eqb t t refl)
 
+-- a body whose own quantifier is known by its first word
+pub record Heads (t : ℕ) (g : Form) : Type 0 where
+  pub other : (ns : List ℕ) → eqb (getD (encode g) 0 0) t ≡ false → (ps : List Place) → joinWith t ns (subst (fillFor ps) g) (quantified (subst (fillFor ps) g)) ≡ quantify t ns (subst (fillFor ps) g)
+  pub same : getD (encode g) 0 0 ≡ t → Quant g
+
+node-other : (t u : ℕ) (o ds : List ℕ) (ks : Forms) (ns : List ℕ) → eqb u t ≡ false → (ps : List Place)
+    → joinWith t ns (subst (fillFor ps) (node u o ds ks)) (quantified (subst (fillFor ps) (node u o ds ks))) ≡ quantify t ns (subst (fillFor ps) (node u o ds ks))
+unfolding walk
+node-other t u o ds ks ns e ps = join-not t u ns o ds (walkAll (put (fillFor ps)) (length ds + 0) ks) e
+
+pred-heads : {d : ℕ} {g : Form} (t : ℕ) → (eqb t 851 || eqb t 852) ≡ true → d ≤ 64 → Ok d pred g → (q : Ok 64 pred g) → Heads t g
+unfolding encode
+pred-heads t which h (ok-node {t = u} {o = o} {ds = ds} {ks = ks} l r k) q = record { other = λ ns e ps. node-other t u o ds ks ns e ps; same = λ e. quant-by-tag q (rw e which) }
+
+pub ok-heads : {d : ℕ} {g : Form} (t : ℕ) → (eqb t 851 || eqb t 852) ≡ true → d ≤ 64 → Ok d pred g → Heads t g
+ok-heads t which h ok = pred-heads t which h ok (ok-deep ok 64 h)
+
+pub node-heads : (t u : ℕ) (o ds : List ℕ) (ks : Forms) → (u ≡ t → ⊥) → Heads t (node u o ds ks)
+unfolding encode
+node-heads t u o ds ks ne = record { other = λ ns e ps. node-other t u o ds ks ns e ps; same = λ e. absurd (ne e) }
+
 -- the body filled, by its row and marks from a word on
-module _ (t : ℕ) (which : (eqb t 851 || eqb t 852) ≡ true) (ps : List Place) (g : Form) (ok : Ok 63 pred g) (rest-from : ℕ → List ℕ) (whole : rest-from 0 ≡ encode (subst (fillFor ps) g))
+module _ (t : ℕ) (which : (eqb t 851 || eqb t 852) ≡ true) (ps : List Place) (g : Form) (shape : Heads t g) (rest-from : ℕ → List ℕ) (whole : rest-from 0 ≡ encode (subst (fillFor ps) g))
     (inner : (y : Quant g) → rest-from (2 + length (y .decls)) ≡ encode (walk (put (fillFor ps)) (length (y .decls)) (y .body))) where
   abbrev made : List ℕ → List ℕ → List ℕ
   made ns stay = headWords t (ns ++ (stay ++ innerNames t ns stay (encode g))) ++ rest-from (innerEnd t ns stay (encode g))
@@ -70,10 +91,6 @@ module _ (t : ℕ) (which : (eqb t 851 || eqb t 852) ≡ true) (ps : List Place)
   quantify-words ns = rw whole (encode-quantify t ns (subst (fillFor ps) g))
 
   -- where nothing stays and there is a front
-  other-tag : {d : ℕ} {f : Form} → Ok d pred f → (ns : List ℕ) → eqb (getD (encode f) 0 0) t ≡ false → joinWith t ns (subst (fillFor ps) f) (quantified (subst (fillFor ps) f)) ≡ quantify t ns (subst (fillFor ps) f)
-  unfolding walk encode
-  other-tag (ok-node {t = u} {o = o} {ds = ds} {ks = ks} l h k) ns e = join-not t u ns o ds (walkAll (put (fillFor ps)) (length ds + 0) ks) e
-
   same-tag : (y : Quant g) → y .tag ≡ t → (ns : List ℕ) → joinWith t ns (subst (fillFor ps) g) (quantified (subst (fillFor ps) g)) ≡ quantify t (ns ++ y .decls) (walk (put (fillFor ps)) (length (y .decls)) (y .body))
   unfolding walk
   same-tag y e ns =
@@ -89,10 +106,10 @@ module _ (t : ℕ) (which : (eqb t 851 || eqb t 852) ≡ true) (ps : List Place)
 
   none-stays : (n : ℕ) (ns : List ℕ) (b : Bool) → eqb (getD (encode g) 0 0) t ≡ b → made (n ∷ ns) [] ≡ encode (joinWith t (n ∷ ns) (subst (fillFor ps) g) (quantified (subst (fillFor ps) g)))
   unfolding joins innerEnd innerNames
-  none-stays n ns false e = rw (e, other-tag ok (n ∷ ns) e) (ap (λ z. headWords t (n ∷ z) ++ rest-from 0) (append-nil ns) ∙ quantify-words (n ∷ ns))
+  none-stays n ns false e = rw (e, shape .other (n ∷ ns) e ps) (ap (λ z. headWords t (n ∷ z) ++ rest-from 0) (append-nil ns) ∙ quantify-words (n ∷ ns))
   none-stays n ns true e =
       let q : getD (encode g) 0 0 ≡ t = eqb-true (getD (encode g) 0 0) t e in
-      let y = quant-by-tag (ok-deep ok 64 (omega arith)) (rw q which) in
+      let y = shape .same q in
       rw (e, same-tag y (sym (quant-tag g y) ∙ q) (n ∷ ns), inner-are y, quant-one y, inner y) (encode-quantify t ((n ∷ ns) ++ y .decls) (walk (put (fillFor ps)) (length (y .decls)) (y .body)))
 
   pub round-words : (ns stay : List ℕ) → made ns stay ≡ encode (putRound t ns (quantify t stay (subst (fillFor ps) g)))
@@ -139,7 +156,7 @@ module _ (t : ℕ) (which : (eqb t 851 || eqb t 852) ≡ true) (rest : List ℕ)
 
   pub partial-words : (ns : List ℕ) → partialWords t ns rest tb list lm (encode g) marks ≡ encode (putRound t ns (fill t rest (map (lowerPlace (length rest)) ps) g))
   unfolding partialWords fill
-  partial-words ns = rw stays (round-words t which lowered g ok restFrom whole-body inner-body ns (keptNames lowered rest))
+  partial-words ns = rw stays (round-words t which lowered g (ok-heads t which (omega arith) ok) restFrom whole-body inner-body ns (keptNames lowered rest))
 
   pub partial-row : (ns : List ℕ) (room : ℕ) → partialRow t ns rest tb list lm (encode g) marks room ≡ finish pred room (putRound t ns (fill t rest (map (lowerPlace (length rest)) ps) g))
   partial-row ns room = rw (partial-words ns) (emit-form pred room _)

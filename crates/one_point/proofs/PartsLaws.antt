@@ -9,13 +9,16 @@ use native.Mathlib.Omega.{arith}
 use borrow.Author.Tests.{eqb-true}
 use lib.Dec.{eqb}
 use lib.ListN.{length, getD, drop, replicate, length-append, length-drop}
-use lib.Seq.{drop-drop, drop-append-seam, getD-drop}
+use lib.Seq.{drop-drop, drop-append-seam, drop-at, getD-drop}
 use Rattle.form.specs.Form.{free, bound, Form, leaf, node, Forms, none, more, encode, encodeAll}
 use Rattle.form.specs.Tag.{Sort, expr, shapeOf, exprTags}
-use Rattle.form.specs.Decode.{Gots, gots}
-use Rattle.form.proofs.DecodeLaws.{clash, Ok, ok-free, ok-bound, ok-node, OkAll, ok-none, ok-more, decodeAll-encode, all-sound}
+use Rattle.form.specs.Decode.{got, Gots, gots, decode}
+use Rattle.form.proofs.DecodeLaws.{clash, Ok, ok-free, ok-bound, ok-node, OkAll, ok-none, ok-more, decode-encode, decodeAll-encode, all-sound}
+use Rattle.subst.proofs.RowLaws.{marksOf, marks-length}
+use Rattle.replace.proofs.MarkLaws.{only-mark}
 use Rattle.one_point.specs.Split.{isTwo, isNil, parts, partsAll}
 use Rattle.one_point.specs.Internal.Parts.{readAll, Beside, partsOf, partsAt, bothPairs}
+use Rattle.one_point.specs.Internal.Member.{formMarks, MarksAre, MarkedAt}
 use Rattle.one_point.proofs.ViewLaws.{ok-deep, plain-node, two-more}
 
 -- the first word of a form
@@ -263,3 +266,60 @@ beside-in {row} {p} {q} {n} b h =
 pub and-false : (b : Bool) → (b && false) ≡ false
 and-false true = refl
 and-false false = refl
+
+-- the marks of the expressions at q
+pub same-forms : {fs gs : Forms} {x y : List ℕ} → gots fs x ≡ gots gs y → fs ≡ gs
+same-forms e = cc
+
+same-form : {f g : Form} {x y : List ℕ} → got f x ≡ got g y → f ≡ g
+same-form e = cc
+
+pair-marks : (a b : Form) → formMarks (node 201 [] [] (more a (more b none))) ≡ 0 ∷ (formMarks a ++ formMarks b)
+unfolding marksOf
+pair-marks a b = rw (only-mark (node 201 [] [] (more a (more b none))), only-mark a, only-mark b, append-nil)
+
+pub marks-long : (f : Form) → length (formMarks f) ≡ length (encode f)
+marks-long f = rw (only-mark f) (marks-length 0 f)
+
+module _ (row lm : List ℕ) where
+  pair-opened : (q : ℕ) (a b : Form) (rest : Forms) → MarksAre lm q (more (node 201 [] [] (more a (more b none))) rest) → MarksAre lm (q + 1) (more a (more b rest))
+  unfolding MarksAre encode
+  pair-opened q a b rest (h, k) =
+      let n : q + length (encode (node 201 [] [] (more a (more b none)))) ≡ q + 1 + length (encode a) + length (encode b) = rw (append-nil, length-append (encode a)) (omega arith) in
+      let z = drop (q + 1 + length (encode a) + length (encode b)) lm in
+      let e : drop q lm ≡ 0 ∷ (formMarks a ++ (formMarks b ++ z)) = rw n at h ∙ (ap (λ l. l ++ z) (pair-marks a b) ∙ ap (λ l. 0 ∷ l) (append-assoc (formMarks a) (formMarks b) z)) in
+      let d : drop (q + 1) lm ≡ formMarks a ++ (formMarks b ++ z) = rw (← drop-drop 1 q lm, e) in
+      let c : drop (q + 1 + length (encode a)) lm ≡ formMarks b ++ z = rw (← drop-drop (length (encode a)) (q + 1) lm, d) (drop-at (formMarks a) (formMarks b ++ z) (length (encode a)) (marks-long a)) in
+      (rw c d, (c, rw n at k))
+
+  marked-opened : {p q w k words : ℕ} (m : ℕ) (b : Beside row p q (suc m) w k words) → bothPairs row p q ≡ true → MarkedAt row lm q (suc m) → MarkedAt row lm (q + 1) (suc (suc m))
+  unfolding bothPairs MarkedAt
+  marked-opened {p} {q} m b e h fs x r =
+      let g = first-of row m q (b .rights) (b .right-rest) (b .is-right) in
+      let (y, z) = and-yes (eqb (getD row p 0) 201) (eqb (getD row q 0) 201) e in
+      let u = pair-view (g .ok) (omega arith) (sym (tag-at row q (g .form) (encodeAll (g .rest) ++ b .right-rest) (g .words)) ∙ eqb-true (getD row q 0) 201 z) in
+      let eg : b .rights ≡ more (node 201 [] [] (more (u .fst) (more (u .snd) none))) (g .rest) = g .is ∙ ap (λ z. more z (g .rest)) (u .is) in
+      let s : more (u .fst) (more (u .snd) (g .rest)) ≡ fs = same-forms (sym (opened g u) ∙ r) in
+      rw (← s) (pair-opened q (u .fst) (u .snd) (g .rest) (rw eg at (h (b .rights) (b .right-rest) (b .is-right))))
+
+  pub marked-open : {p q w k words : ℕ} (n : ℕ) (b : Beside row p q n w k words) → 0 < n → bothPairs row p q ≡ true → MarkedAt row lm q n → MarkedAt row lm (q + 1) (n + 1)
+  marked-open zero b h e m = absurd (omega arith)
+  marked-open (suc n) b h e m =
+      let j : suc n + 1 ≡ suc (suc n) = omega arith in
+      rw j (marked-opened n b e m)
+
+  marked-first : {p q w k words : ℕ} (m : ℕ) (b : Beside row p q (suc m) w k words) → MarkedAt row lm q (suc m) → (x : PartIs row p q (suc m) w k words)
+      → (drop q lm ≡ formMarks (x .r) ++ drop (q + length (encode (x .r))) lm) × MarkedAt row lm (q + length (encode (x .r))) m
+  unfolding MarkedAt MarksAre
+  marked-first {p} {q} m b h x =
+      let g = first-of row m q (b .rights) (b .right-rest) (b .is-right) in
+      let a : decode 64 expr (drop q row) ≡ got (g .form) (encodeAll (g .rest) ++ b .right-rest) = rw (g .words) (decode-encode (g .ok) (encodeAll (g .rest) ++ b .right-rest)) in
+      let c : decode 64 expr (drop q row) ≡ got (x .r) (drop (q + length (encode (x .r))) row) = ap (λ l. decode 64 expr l) (x .words-r) ∙ decode-encode (x .ok-r) (drop (q + length (encode (x .r))) row) in
+      let s : g .form ≡ x .r = same-form (sym a ∙ c) in
+      let k = rw (g .is) at (h (b .rights) (b .right-rest) (b .is-right)) in
+      (rw s at (k .0), λ fs y r. let t : g .rest ≡ fs = same-forms (sym (rw s at (later g)) ∙ r) in rw (← t) (rw s at (k .1)))
+
+  pub marked-part : {p q w k words : ℕ} (n : ℕ) (b : Beside row p q n w k words) → 0 < n → MarkedAt row lm q n → (x : PartIs row p q n w k words)
+      → (drop q lm ≡ formMarks (x .r) ++ drop (q + length (encode (x .r))) lm) × MarkedAt row lm (q + length (encode (x .r))) (n - 1)
+  marked-part zero b h m x = absurd (omega arith)
+  marked-part (suc n) b h m x = rw sub-one (marked-first n b m x)

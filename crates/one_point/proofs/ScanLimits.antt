@@ -65,7 +65,7 @@ implies-ok : {d : ℕ} {l r : Form} → Ok d pred l → Ok d pred r → Ok (suc 
 unfolding own ownOf shapeOf predTags read
 implies-ok h k = ok-node {p = 2} {e = 0} refl (λ x. refl) (ok-more h (ok-more k ok-none))
 
-equal-ok : {d : ℕ} {l r : Form} → Ok d expr l → Ok d expr r → Ok (suc d) pred (equal l r)
+pub equal-ok : {d : ℕ} {l r : Form} → Ok d expr l → Ok d expr r → Ok (suc d) pred (equal l r)
 unfolding own ownOf shapeOf predTags read
 equal-ok h k = ok-node {p = 0} {e = 2} refl (λ x. refl) (ok-more h (ok-more k ok-none))
 
@@ -78,7 +78,7 @@ pub rest-ok : {d : ℕ} (b : Bool) (g : Option Form) → OkLeft (suc d) g → Ok
 rest-ok b (some f) h = h
 rest-ok {d} b absent h = constant-ok d b
 
-counted-ok : {d t : ℕ} {ks : Forms} → isLeaf t ≡ false → shapeOf pred t ≡ Preds 2 → OkAll d (replicate (count ks) pred) ks → 2 ≤ count ks → count ks ≤ 4294967295 → Ok (suc d) pred (node t (count ks ∷ []) [] ks)
+pub counted-ok : {d t : ℕ} {ks : Forms} → isLeaf t ≡ false → shapeOf pred t ≡ Preds 2 → OkAll d (replicate (count ks) pred) ks → 2 ≤ count ks → count ks ≤ 4294967295 → Ok (suc d) pred (node t (count ks ∷ []) [] ks)
 unfolding own ownOf read
 counted-ok {d} {t} {ks} l q k lo hi =
     let r : (x : List ℕ) → read (own pred t) (count ks ∷ x) ≡ head (count ks ∷ []) [] (count ks) 0 x = λ x. rw (q, between-in 2 4294967295 (count ks) lo hi) in
@@ -152,7 +152,7 @@ accept-ok n {d} l r h k = go (offered l r)
     go no-offer = tt
 
 -- the parts of an equality
-abbrev OkParts : ℕ → List (Form × Form) → Type 0
+abbrev pub OkParts : ℕ → List (Form × Form) → Type 0
 OkParts d [] = Unit {0}
 OkParts d (p ∷ ps) = (Ok d expr (p .0) × Ok d expr (p .1)) × OkParts d ps
 
@@ -190,7 +190,7 @@ module _ (t : ℕ) (o ds : List ℕ) (ks : Forms) (u : ℕ) (p es : List ℕ) (j
 mutual
   unfolding parts
 
-  parts-ok : {d : ℕ} (l r : Form) → Ok d expr l → Ok d expr r → OkParts d (parts l r)
+  pub parts-ok : {d : ℕ} (l r : Form) → Ok d expr l → Ok d expr r → OkParts d (parts l r)
   parts-ok (leaf x) r h k = ((h, k), tt)
   parts-ok (node t o ds ks) (leaf y) h k = ((h, k), tt)
   parts-ok (node t o ds ks) (node u p es js) (ok-node {d = d} a b c) (ok-node a′ b′ c′) =
@@ -213,7 +213,7 @@ kids-few t o ds ks = kids-words t o ds ks
 mutual
   unfolding parts encode
 
-  parts-few : (l r : Form) → length (parts l r) ≤ length (encode l)
+  pub parts-few : (l r : Form) → length (parts l r) ≤ length (encode l)
   parts-few (leaf x) r = some-words (leaf x)
   parts-few (node t o ds ks) (leaf y) = some-words (node t o ds ks)
   parts-few (node t o ds ks) (node u p es js) =

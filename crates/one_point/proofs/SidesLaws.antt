@@ -67,7 +67,7 @@ module _ (row : List ℕ) (some-words : length row ≡ 0 → ⊥) where
       go (t ∷ ws) s h e = rw (eq-eqb t 101 h, ← e)
 
 -- the index at the front of an expression
-abbrev asIndex : Option ℕ → Index
+abbrev pub asIndex : Option ℕ → Index
 asIndex (some i) = Bound i
 asIndex absent = Unbound
 
@@ -76,7 +76,7 @@ unfolding indexWords
 not-index t [] h = refl
 not-index t (i ∷ ws) h = rw (ne-eqb t 2 (λ e. let z : isLeaf 2 ≡ false = rw e at h in clash cc))
 
-index-is : {d : ℕ} {f : Form} → Ok d expr f → (x : List ℕ) → indexWords (encode f ++ x) ≡ asIndex (indexOf f)
+pub index-is : {d : ℕ} {f : Form} → Ok d expr f → (x : List ℕ) → indexWords (encode f ++ x) ≡ asIndex (indexOf f)
 unfolding indexWords encode
 index-is (ok-free e) x = refl
 index-is (ok-bound e) x = refl

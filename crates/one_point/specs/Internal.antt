@@ -5,3 +5,4 @@ pub mod Parts
 pub mod Scans
 pub mod Rest
 pub mod Reduce
+pub mod Member

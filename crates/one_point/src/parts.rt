@@ -29,7 +29,7 @@ pub struct Search {
     pub count: u32,
 }
 
-fn both_pairs(row: &[u32], p: usize, q: usize) -> bool
+pub fn both_pairs(row: &[u32], p: usize, q: usize) -> bool
     ensures { λ r. ⌜ r ≡ bothPairs (now (row .entry)) p q ⌝ }
 {
     if row.len() <= p {
@@ -55,7 +55,7 @@ pub fn expr_end(row: &[u32], at: usize) -> usize
 }
 
 // The part whose sides stand at p and q.
-fn part_at(row: &[u32], p: usize, q: usize) -> Sides
+pub fn part_at(row: &[u32], p: usize, q: usize) -> Sides
     ensures { λ r. ⌜ r ≡ partWords (now (row .entry)) p q ⌝ }
 {
     Sides {

@@ -13,7 +13,7 @@ ghost use Rattle.one_point.specs.Internal.Rest.{innerEnd, partialRow};
 ghost use Rattle.one_point.specs.Internal.Reduce.{Inner, innerStart, oneTable, Resting};
 
 // Where the head of the body's own quantifier ends, if its declarations join those in front; else 0.
-fn inner_end(tag: u32, front: &[u32], stay: &[u32], body: &[u32]) -> usize
+pub fn inner_end(tag: u32, front: &[u32], stay: &[u32], body: &[u32]) -> usize
     requires { ⌜ Inner tag (now body) ⌝ }
     ensures { λ r. ⌜ r ≡ innerEnd tag (now (front .entry)) (now (stay .entry)) (now (body .entry)) ⌝ }
 {
@@ -30,7 +30,7 @@ fn inner_end(tag: u32, front: &[u32], stay: &[u32], body: &[u32]) -> usize
 }
 
 // Where the names of that head start.
-fn inner_start(end: usize) -> usize
+pub fn inner_start(end: usize) -> usize
     ensures { λ r. ⌜ r ≡ innerStart end ⌝ }
 {
     if end == 0 {
@@ -40,7 +40,7 @@ fn inner_start(end: usize) -> usize
 }
 
 // The head of a quantifier with the names of three rows, none where there is none: its length.
-fn write_head(tag: u32, front: &[u32], stay: &[u32], inner: &[u32], head: &mut [u32]) -> usize
+pub fn write_head(tag: u32, front: &[u32], stay: &[u32], inner: &[u32], head: &mut [u32]) -> usize
     requires { ⌜ (2 + (length (now front) + (length (now stay) + length (now inner))) ≤ length (now head)) × (length (now head) ≤ 72) ⌝ }
     ensures { λ r. ⌜ r ≤ length (now (head .entry)) ⌝ }
     ensures { λ r. ⌜ take r (now (head .exit)) ≡ headWords tag (now (front .entry) ++ (now (stay .entry) ++ now (inner .entry))) ⌝ }

@@ -70,7 +70,7 @@ pub fn equality_of(row: &[u32]) -> Equality
 }
 
 // The index at `at`, if one stands there.
-fn index_at(row: &[u32], at: usize) -> Index
+pub fn index_at(row: &[u32], at: usize) -> Index
     ensures { λ r. ⌜ r ≡ indexWords (drop at (now (row .entry))) ⌝ }
 {
     if row.len() <= at {

@@ -6,7 +6,7 @@ use Prim.Native.Nat.{ℕ, zero, suc, _+_, _-_, _*_, _≤_, _<_}
 use native.Mathlib.Nat.{zero-add, add-zero}
 use native.Mathlib.Numerals.{add-one}
 use native.Mathlib.Omega.{arith}
-use borrow.Author.Tests.{leb-true, leb-false, lt-ltb, le-ltb}
+use borrow.Author.Tests.{le-leb, leb-true, leb-false, lt-ltb, le-ltb}
 use lib.Dec.{leb, eqb}
 use lib.ListN.{length, getD, take, drop, length-map, length-drop, length-reverse, List·getD-map}
 use lib.Seq.{getD-take, split-at}
@@ -20,7 +20,7 @@ use Rattle.subst.specs.Shift.{reaches, lower}
 use Rattle.subst.specs.Internal.Items.{wordsOf, rewritten}
 use Rattle.subst.specs.declared.items.Item.{Item}
 use Rattle.subst.specs.declared.items.Item.the-variants.{Plain, Ident}
-use Rattle.subst.proofs.WalkLaws.{binding-inside, binding-back, shift-shift, walk-agree}
+use Rattle.subst.proofs.WalkLaws.{binding-inside, binding-back, shift-shift, each-all, walk-agree}
 use Rattle.subst.proofs.LimitLaws.{tight, ok-tight}
 use Rattle.subst.proofs.ShiftLaws.{moved}
 use Rattle.subst.proofs.RowLaws.{identOf, itemsOf, walk-items-in}
@@ -136,6 +136,10 @@ index-words list lm v i = refl
 index-falls : (k j : ℕ) (b : List Place) → length b ≡ j → k + j - filledWords (map wordFor b) ≡ k + keptCount b
 index-falls k j b e = let h = count-both b in omega arith
 
+-- a well-formed form is not too deep
+pub ok-flat : (k : ℕ) {d : ℕ} {s : Sort} {f : Form} → k + 32 * d ≤ 4096 → Ok d s f → each (λ i x. leb i 4096) k f ≡ true
+ok-flat k {f = f} deep ok = each-all (tight 4096) (λ i x. leb i 4096) (λ i x h. le-leb i 4096 (tight-depth 4096 i x h)) k f (ok-tight ok 4096 k deep)
+
 module _ (dn : ℕ) (low : Form → Form) (t : Table) (list lm : List ℕ) (ps : List Place) (words : take (t .n) (t .words) ≡ map wordFor ps) (count : t .n ≡ length ps)
     (placed : (i : ℕ) → i < length ps → PlaceAt (Unit {0}) list lm (getD (t .starts) i 0) (getD (t .ends) i 0) (getD ps i kept)) (moves : (i : ℕ) → i < length ps → Moves dn low (getD ps i kept)) where
   abbrev qs : List Place
@@ -192,7 +196,7 @@ module _ (dn : ℕ) (low : Form → Form) (t : Table) (list lm : List ℕ) (ps :
   fill-plain w = refl
 
   -- within the limits it is what fill puts there
-  near : (k j : ℕ) → k ≤ 2048 → t .n ≤ 32 → j < t .n → placeMoved dn (k + t .n - gone) (k + j - filledWords (drop (spot j + 1) (take (t .n) (t .words)))) (getD ps (spot j) kept) ≡ walk (up k) 0 (fillIndex (keptCount qs) 0 (reverse qs) j)
+  near : (k j : ℕ) → k ≤ 4096 → t .n ≤ 32 → j < t .n → placeMoved dn (k + t .n - gone) (k + j - filledWords (drop (spot j + 1) (take (t .n) (t .words)))) (getD ps (spot j) kept) ≡ walk (up k) 0 (fillIndex (keptCount qs) 0 (reverse qs) j)
   near k j h few under =
       let l = low-count in
       let i = spot j in
@@ -220,7 +224,7 @@ module _ (dn : ℕ) (low : Form → Form) (t : Table) (list lm : List ℕ) (ps :
       let r : fillIndex (keptCount qs) 0 (reverse qs) j ≡ leaf (bound (keptCount qs + (j - length (reverse qs)))) = ap (λ z. fillIndex (keptCount qs) 0 (reverse qs) z) n ∙ fill-past (keptCount qs) (reverse qs) (j - length (reverse qs)) in
       rw r (ap (λ z. leaf (bound z)) (omega arith))
 
-  fill-agree : t .n ≤ 32 → (k : ℕ) (x : Outer) → tight 2048 k x ≡ true → fillMoved k x ≡ put (fillFor qs) k x
+  fill-agree : t .n ≤ 32 → (k : ℕ) (x : Outer) → leb k 4096 ≡ true → fillMoved k x ≡ put (fillFor qs) k x
   unfolding walk
   fill-agree few k (named m) h = refl
   fill-agree few k (dangling j) h = go (leb (t .n) j) refl
@@ -228,14 +232,17 @@ module _ (dn : ℕ) (low : Form → Form) (t : Table) (list lm : List ℕ) (ps :
       go : (b : Bool) → leb (t .n) j ≡ b → pick b (leaf (bound (k + j - gone))) (placeMoved dn (k + t .n - gone) (k + j - filledWords (drop (spot j + 1) (take (t .n) (t .words)))) (getD ps (spot j) kept))
           ≡ walk (up k) 0 (fillIndex (keptCount qs) 0 (reverse qs) j)
       go true q = far k j (leb-true (t .n) j q)
-      go false q = near k j (tight-depth 2048 k (dangling j) h) few (leb-false (t .n) j q)
+      go false q = near k j (leb-true k 4096 h) few (leb-false (t .n) j q)
 
   -- k more declarations are open inside
+  pub fill-tree-flat : t .n ≤ 32 → (k : ℕ) (f : Form) → each (λ i x. leb i 4096) k f ≡ true → rewritten (planned (downPlan dn t) list lm) (itemsOf (k + t .n) f) ≡ encode (walk (put (fillFor (map (lowPlace low) ps))) k f)
+  fill-tree-flat few k f flat =
+      walk-items-in (t .n) (planned (downPlan dn t) list lm) fillMoved fill-plain fill-leaf k f
+      ∙ ap encode (walk-agree (λ i x. leb i 4096) fillMoved (put (fillFor qs)) (fill-agree few) k f flat)
+
   pub fill-tree-down : t .n ≤ 32 → (k : ℕ) {d : ℕ} {s : Sort} {f : Form} → k + 32 * d ≤ 2048 → Ok d s f
       → rewritten (planned (downPlan dn t) list lm) (itemsOf (k + t .n) f) ≡ encode (walk (put (fillFor (map (lowPlace low) ps))) k f)
-  fill-tree-down few k {d} {s} {f} deep ok =
-      walk-items-in (t .n) (planned (downPlan dn t) list lm) fillMoved fill-plain fill-leaf k f
-      ∙ ap encode (walk-agree (tight 2048) fillMoved (put (fillFor qs)) (fill-agree few) k f (ok-tight ok 2048 k deep))
+  fill-tree-down few k {f = f} deep ok = fill-tree-flat few k f (ok-flat k (omega arith) ok)
 
 -- every index that dangles in a place's expression is at least dn
 abbrev pub Above : ℕ → Place → Type 0

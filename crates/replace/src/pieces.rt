@@ -169,7 +169,7 @@ pub fn words_needed(plan: Plan, row: &[u32], marks: &[u32], from: usize) -> usiz
 }
 
 // The words of a row with its dangling indices moved, stored at `at`.
-fn write_part(row: &[u32], marks: &[u32], up: u32, down: u32, out: &mut [u32], at: usize)
+pub fn write_part(row: &[u32], marks: &[u32], up: u32, down: u32, out: &mut [u32], at: usize)
     requires { ⌜ at + length (now row) ≤ length (now out) ⌝ }
     ensures { λ _. ⌜ now (out .exit) ≡ store (now (out .entry)) at (rewritten (movedWords up down) (items (now (row .entry)) (now (marks .entry)))) ⌝ }
 {

@@ -2,13 +2,17 @@
 use crate::build::replace;
 use crate::pieces::Plan;
 use crate::pieces::filled_from;
+use crate::pieces::write_part;
 use form::answer::Answer;
 use form::answer::Kind;
 use form::lists::Table;
 ghost use mathlib.Core.Path.{_≡_};
-ghost use Prim.Native.Nat.{_≤_};
+ghost use Prim.Native.Nat.{_+_, _≤_};
+ghost use lib.Dec.{leb};
 ghost use lib.ListN.{length, drop};
+ghost use Rattle.form.specs.Form.{pick};
 ghost use Rattle.form.specs.Answer.{told, written};
+ghost use Rattle.subst.specs.Internal.Items.{items, rewritten, movedWords, store};
 ghost use Rattle.replace.specs.Internal.Pieces.{partsIn, isReady, placedRow};
 
 // Whether each of the first n parts lies in a row of so many words.
@@ -84,4 +88,17 @@ pub fn fill_places(
         from,
         out,
     )
+}
+
+// The words of a form with its dangling indices moved up, stored at `at`, where there is room for all of them.
+pub fn put_lifted(row: &[u32], marks: &[u32], up: u32, out: &mut [u32], at: usize)
+    ensures { λ _. ⌜ now (out .exit) ≡ pick (leb (at + length (now (row .entry))) (length (now (out .entry)))) (store (now (out .entry)) at (rewritten (movedWords up 0) (items (now (row .entry)) (now (marks .entry))))) (now (out .entry)) ⌝ }
+{
+    if out.len() < row.len() {
+        return;
+    }
+    if out.len() - row.len() < at {
+        return;
+    }
+    write_part(row, marks, up, 0, out, at);
 }

@@ -10,6 +10,7 @@ use borrow.Author.Tests.{le-leb, lt-leb}
 use lib.Dec.{leb}
 use lib.ListN.{length, take}
 use Rattle.form.specs.Form.{pick}
+use Rattle.form.specs.Tag.{Sort}
 use Rattle.form.specs.Decode.{Found, found, missing, formOf}
 use Rattle.form.specs.Lists.{Entry, listOf}
 use Rattle.form.specs.Answer.{Outcome, answer, refusal, told, written, within, ofFound, ofList, withForm, withList, needs, checkOutcome}

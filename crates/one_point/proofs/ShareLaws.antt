@@ -1,0 +1,210 @@
+-- The parts that are offered to the places, by the words: the table of places, and the equalities that are written. Assumes nothing.
+use mathlib.Core.Path.{_≡_, refl, ap, sym, _∙_}
+use mathlib.Core.Bool.{Bool, true, false}
+use mathlib.Core.List.{List, [], _∷_, _++_, append-nil, append-assoc}
+use mathlib.Core.Option.{Option, none as absent, some}
+use Prim.Native.Nat.{ℕ, zero, suc, _+_, _-_, _*_, _≤_, _<_}
+use native.Mathlib.Omega.{arith}
+use borrow.Author.Tests.{le-leb, ltb-true, lt-ltb, le-ltb, eq-eqb, eqb-true, eqb-false}
+use lib.Dec.{leb, ltb, eqb}
+use lib.ListN.{length, getD, take, drop, set, replicate, getD-replicate, length-append, length-set, length-drop, length-replicate, take-append-drop}
+use lib.Seq.{getD-set-same, getD-set-other, length-take-le, take-append-seam}
+use Rattle.form.specs.Form.{Form, Forms, none, more, pick, count, encode, encodeAll}
+use Rattle.form.specs.Tag.{expr}
+use Rattle.form.specs.Decode.{got, decode}
+use Rattle.form.specs.Lists.{Place, kept, filled}
+use Rattle.form.specs.declared.lists.Table.{Table}
+use Rattle.form.proofs.DecodeLaws.{clash, Ok, decode-encode}
+use Rattle.subst.specs.Walk.{lift}
+use Rattle.subst.specs.Internal.Items.{items, rewritten, movedWords, store}
+use Rattle.subst.proofs.LimitLaws.{ok-small}
+use Rattle.subst.proofs.RowLaws.{marked-items}
+use Rattle.subst.proofs.ItemLaws.{store-front, rewritten-length}
+use Rattle.subst.proofs.ShiftLaws.{keeps}
+use Rattle.replace.specs.Internal.Pieces.{part}
+use Rattle.replace.proofs.ActionLaws.{moved-words, moved-lift}
+use Rattle.one_point.specs.Replacement.{indexOf}
+use Rattle.one_point.specs.Split.{equal}
+use Rattle.one_point.specs.Partial.{noPlaces}
+use Rattle.one_point.specs.Member.{isFree}
+use Rattle.one_point.specs.Internal.Sides.{indexWords}
+use Rattle.one_point.specs.Internal.Writes.{Wrote}
+use Rattle.one_point.specs.Internal.Parts.{partsAt, partWords, Within}
+use Rattle.one_point.specs.Internal.Member.{Shares, shares, keepPart, spotAt, shareNext, share, equalities, formMarks, PlacedAt, PlaceIs, TableIs, noTable, withPlace, spotIn, shiftedWords, Shared}
+use Rattle.one_point.specs.declared.sides.Sides.{Sides}
+use Rattle.one_point.specs.declared.sides.Index.{Index}
+use Rattle.one_point.proofs.SidesLaws.{asIndex, index-is, part-words}
+use Rattle.one_point.proofs.WriteLaws.{wrote-end, wrote-on, wrote-equal, nothing-written}
+use Rattle.one_point.proofs.PartsLaws.{in-row, PartIs}
+use Rattle.one_point.proofs.PartsStepLaws.{equal-length, left-is, middle-is, right-is, end-is, rest-is}
+
+-- an empty table
+pub no-table : (row lm : List ℕ) (n : ℕ) (t : Table) → n ≤ 32 → t ≡ noTable n → TableIs row lm n t (noPlaces n)
+no-table row lm n t few e = rw e (record { number = refl; count = length-replicate n kept; words = refl; starts = refl; ends = refl; at = at; inside = inside })
+  where
+    at : (i : ℕ) → i < n → PlaceIs row lm (getD (replicate 32 0) i 0) (getD (replicate 32 0) i 0) (getD (replicate 32 0) i 0) (getD (noPlaces n) i kept)
+    at i h = rw (getD-replicate {A = Place} n i kept kept h) (getD-replicate {A = ℕ} 32 i 0 0 (omega arith))
+
+    inside : (i : ℕ) → i < n → (getD {A = ℕ} (replicate 32 0) i 0 ≤ getD {A = ℕ} (replicate 32 0) i 0) × (getD {A = ℕ} (replicate 32 0) i 0 ≤ length row)
+    inside i h = rw (getD-replicate {A = ℕ} 32 i 0 0 (omega arith)) (omega arith, omega arith)
+
+-- a place filled
+module _ {row lm : List ℕ} {n : ℕ} {t : Table} {ps : List Place} (is : TableIs row lm n t ps) (few : n ≤ 32) (j : ℕ) (low : j < n) (s e : ℕ) (f : Form) (here : PlacedAt row lm s e f) (up : s ≤ e) (in-row : e ≤ length row) where
+  filled-at : (i : ℕ) → i < n → (b : Bool) → eqb i j ≡ b → PlaceIs row lm (getD (set (t .words) j 1) i 0) (getD (set (t .starts) j s) i 0) (getD (set (t .ends) j e) i 0) (getD (set ps j (filled f)) i kept)
+  filled-at i h true q =
+      let k = is .words in
+      let l = is .starts in
+      let m = is .ends in
+      let c = is .count in
+      rw (
+        eqb-true i j q,
+        getD-set-same (t .words) j 1 0 (omega arith),
+        getD-set-same (t .starts) j s 0 (omega arith),
+        getD-set-same (t .ends) j e 0 (omega arith),
+        getD-set-same ps j (filled f) kept (omega arith),
+      ) (refl, here)
+  filled-at i h false q =
+      let ne = eqb-false i j q in
+      rw (
+        getD-set-other (t .words) j i 1 0 ne,
+        getD-set-other (t .starts) j i s 0 ne,
+        getD-set-other (t .ends) j i e 0 ne,
+        getD-set-other ps j i (filled f) kept ne,
+      ) (is .at i h)
+
+  filled-in : (i : ℕ) → i < n → (b : Bool) → eqb i j ≡ b → (getD (set (t .starts) j s) i 0 ≤ getD (set (t .ends) j e) i 0) × (getD (set (t .ends) j e) i 0 ≤ length row)
+  filled-in i h true q =
+      let l = is .starts in
+      let m = is .ends in
+      rw (eqb-true i j q, getD-set-same (t .starts) j s 0 (omega arith), getD-set-same (t .ends) j e 0 (omega arith)) (up, in-row)
+  filled-in i h false q =
+      let ne = eqb-false i j q in
+      rw (getD-set-other (t .starts) j i s 0 ne, getD-set-other (t .ends) j i e 0 ne) (is .inside i h)
+
+  pub table-filled : TableIs row lm n (withPlace t j s e) (set ps j (filled f))
+  table-filled =
+      record {
+        number = is .number;
+        count = length-set ps j (filled f) ∙ is .count;
+        words = length-set (t .words) j 1 ∙ is .words;
+        starts = length-set (t .starts) j s ∙ is .starts;
+        ends = length-set (t .ends) j e ∙ is .ends;
+        at = λ i h. filled-at i h (eqb i j) refl;
+        inside = λ i h. filled-in i h (eqb i j) refl;
+      }
+
+-- the free place that an index names
+word-free : (row lm : List ℕ) (w s e : ℕ) (p : Place) → PlaceIs row lm w s e p → eqb w 0 ≡ isFree p
+word-free row lm w s e kept h = rw h
+word-free row lm w s e (filled f) h = rw (h .0)
+
+spot-by : {row lm : List ℕ} {n : ℕ} {t : Table} {ps : List Place} → TableIs row lm n t ps → (x : Option ℕ) → spotIn t (asIndex x) ≡ spotAt n ps x
+spot-by is absent = is .number
+spot-by {row} {lm} {n} {t} {ps} is (some i) = rw (is .number) (go (ltb i n) refl)
+  where
+    go : (b : Bool) → ltb i n ≡ b → pick b (pick (eqb (getD (t .words) (n - 1 - i) 0) 0) (n - 1 - i) n) n ≡ pick b (pick (isFree (getD ps (n - 1 - i) kept)) (n - 1 - i) n) n
+    go true h =
+        let l : i < n = ltb-true i n h in
+        rw (word-free row lm (getD (t .words) (n - 1 - i) 0) (getD (t .starts) (n - 1 - i) 0) (getD (t .ends) (n - 1 - i) 0) (getD ps (n - 1 - i) kept) (is .at (n - 1 - i) (omega arith)))
+    go false h = refl
+
+pub spot-is : {row lm : List ℕ} {n : ℕ} {t : Table} {ps : List Place} → TableIs row lm n t ps → {d : ℕ} (l : Form) → Ok d expr l → (p : ℕ) (x : List ℕ) → drop p row ≡ encode l ++ x → (j : ℕ) → j ≡ spotIn t (indexWords (drop p row))
+    → j ≡ spotAt n ps (indexOf l)
+spot-is is l ok p x w j e = e ∙ rw (w, index-is ok x) (spot-by is (indexOf l))
+
+-- a shifted part written
+pub store-wrote : (out ws : List ℕ) (i : ℕ) → i + length ws ≤ length out → Wrote i out ws (i + length ws) (store out i ws)
+unfolding Wrote
+store-wrote out ws i h =
+    let l : length (take i out) ≡ i = length-take-le i out (omega arith) in
+    let d = length-drop i out in
+    let e : store out i ws ≡ take i out ++ (ws ++ drop (length ws) (drop i out)) = ap (λ z. store z i ws) (sym (take-append-drop i out)) ∙ store-front (take i out) (drop i out) ws i l (omega arith) in
+    let a : length (take i out ++ ws) ≡ i + length ws = rw (length-append, l) in
+    (refl, rw (e, ← append-assoc (take i out) ws, ← a) (take-append-seam (take i out ++ ws) (drop (length ws) (drop i out))))
+
+module _ (row lm : List ℕ) (u : ℕ) (s : Sides) (within : Within row s) (marked : length row ≤ length lm) where
+  abbrev movedPart : List ℕ
+  movedPart = rewritten (movedWords u 0) (items (part (s .right) (s .end) row) (part (s .right) (s .end) lm))
+
+  pub moved-long : length movedPart ≡ s .end - s .right
+  unfolding part
+  moved-long =
+      let a = within .right-up in
+      let b = within .right-in in
+      let d = length-drop (s .right) row in
+      rewritten-length (movedWords u 0) (keeps u 0) (part (s .right) (s .end) row) (part (s .right) (s .end) lm) ∙ length-take-le (s .end - s .right) (drop (s .right) row) (omega arith)
+
+  pub shifted-wrote : (pos mid : ℕ) (out out₁ out₂ : List ℕ) → pos < length out → Wrote (pos + 1) (set out pos 101) (take (s .middle - s .left) (drop (s .left) row)) mid out₁ → mid + (s .end - s .right) ≤ length out₁
+      → out₂ ≡ pick (leb (mid + length (take (s .end - s .right) (drop (s .right) row))) (length out₁)) (store out₁ mid (rewritten (movedWords u 0) (items (take (s .end - s .right) (drop (s .right) row)) (take (s .end - s .right) (drop (s .right) lm))))) out₁
+      → Wrote pos out (shiftedWords row lm u s) (mid + (s .end - s .right)) out₂
+  unfolding part
+  shifted-wrote pos mid out out₁ out₂ h w r e =
+      let m = moved-long in
+      let a = within .right-up in
+      let b = within .right-in in
+      let d = length-drop (s .right) row in
+      let k : length (take (s .end - s .right) (drop (s .right) row)) ≡ s .end - s .right = length-take-le (s .end - s .right) (drop (s .right) row) (omega arith) in
+      let q : out₂ ≡ store out₁ mid movedPart = rw (k, le-leb (mid + (s .end - s .right)) (length out₁) r) at e in
+      let v : Wrote mid out₁ movedPart (mid + (s .end - s .right)) out₂ = let n : mid + length movedPart ≡ mid + (s .end - s .right) = ap (λ i. mid + i) m in rw (q, ← n) (store-wrote out₁ movedPart mid (omega arith)) in
+      wrote-equal pos mid (mid + (s .end - s .right)) out (take (s .middle - s .left) (drop (s .left) row)) out₁ movedPart out₂ 101 h w v
+
+-- the next part
+module _ (lm : List ℕ) {row : List ℕ} {p q m w k words : ℕ} (x : PartIs row p q m w k words) (s : Sides) (is : s ≡ partWords row p q) (marks : drop q lm ≡ formMarks (x .r) ++ drop (q + length (encode (x .r))) lm) where
+  right-words : part (s .right) (s .end) row ≡ encode (x .r)
+  unfolding part
+  right-words = rw (right-is x s is, end-is x s is) (part-words row (encode (x .r)) (drop (q + length (encode (x .r))) row) q (q + length (encode (x .r))) (x .words-r) refl)
+
+  right-marks : length (formMarks (x .r)) ≡ length (encode (x .r)) → part (s .right) (s .end) lm ≡ formMarks (x .r)
+  unfolding part
+  right-marks h = rw (right-is x s is, end-is x s is) (part-words lm (formMarks (x .r)) (drop (q + length (encode (x .r))) lm) q (q + length (encode (x .r))) marks (rw h))
+
+  module _ (long : length (formMarks (x .r)) ≡ length (encode (x .r))) where
+    pub placed : PlacedAt row lm (s .right) (s .end) (x .r)
+    placed = record { is = rw (right-words, ← append-nil (encode (x .r))) (decode-encode (x .ok-r) []); marked = rw (right-words, right-marks long) }
+
+    pub shifted-words : (u : ℕ) → u ≤ 32 → shiftedWords row lm u s ≡ encode (equal (x .l) (lift u (x .r)))
+    unfolding encode
+    shifted-words u h =
+        let a : rewritten (movedWords u 0) (items (part (s .right) (s .end) row) (part (s .right) (s .end) lm)) ≡ encode (lift u (x .r))
+        = rw (right-words, right-marks long, marked-items (x .r) (length (encode (x .r))) (omega arith), moved-words u 0 (x .r), moved-lift u (x .r) (omega arith) (ok-small (x .ok-r) 0)) in
+        let b : take (s .middle - s .left) (drop (s .left) row) ≡ encode (x .l)
+        = rw (left-is x s is, middle-is x s is) (part-words row (encode (x .l)) (drop (p + length (encode (x .l))) row) p (p + length (encode (x .l))) (x .words-l) refl) in
+        rw (a, b, append-nil)
+
+    -- parts shared out
+    module _ (n u : ℕ) (up : u ≤ 32) (ps : List Place) (j : ℕ) (spot : j ≡ spotAt n ps (indexOf (x .l))) where
+      abbrev Rest : List (Form × Form)
+      Rest = partsAt row (s .middle) (s .end) (m - 1)
+
+      pub share-fill : j < n → (out : List ℕ) (t : Table) (e c : ℕ) (o : List ℕ) → Shared row lm n u w out k (share n Rest (set ps j (filled (x .r)))) t e c o → Shared row lm n u w out k (share n (partsAt row p q m) ps) t e c o
+      unfolding share
+      share-fill h out t e c o z = rw (rest-is x s is, ← spot, lt-ltb j n h) z
+
+      share-kept : (out out₁ : List ℕ) (w₁ : ℕ) → Wrote w out (encode (equal (x .l) (lift u (x .r)))) w₁ out₁ → (z : Shares) (t : Table) (e c : ℕ) (o : List ℕ) → Shared row lm n u w₁ out₁ (k + 1) z t e c o
+          → Shared row lm n u w out k (keepPart (x .l, x .r) z) t e c o
+      unfolding Shared encode
+      share-kept out out₁ w₁ h (shares qs rs) t e c o (a, b, d) = (a, wrote-on w w₁ e out (encode (equal (x .l) (lift u (x .r)))) out₁ (encodeAll (equalities u rs)) o h b, omega (arith, d))
+
+      pub share-pass : n ≤ j → (out out₁ : List ℕ) (w₁ : ℕ) → Wrote w out (shiftedWords row lm u s) w₁ out₁ → (t : Table) (e c : ℕ) (o : List ℕ) → Shared row lm n u w₁ out₁ (k + 1) (share n Rest ps) t e c o
+          → Shared row lm n u w out k (share n (partsAt row p q m) ps) t e c o
+      unfolding share
+      share-pass h out out₁ w₁ wr t e c o z = rw (rest-is x s is, ← spot, le-ltb j n h) (share-kept out out₁ w₁ (rw (shifted-words u up) at wr) (share n Rest ps) t e c o z)
+
+  pub shifted-length : (u : ℕ) → length row ≤ length lm → Within row s → (out out₁ : List ℕ) (w₁ : ℕ) → Wrote w out (shiftedWords row lm u s) w₁ out₁ → w₁ ≡ w + 1 + (length (encode (x .l)) + length (encode (x .r)))
+  shifted-length u mk wi out out₁ w₁ h =
+      let e = wrote-end w w₁ out (shiftedWords row lm u s) out₁ h in
+      let a = moved-long row lm u s wi mk in
+      let b = left-is x s is in
+      let c = middle-is x s is in
+      let d = right-is x s is in
+      let f = end-is x s is in
+      let g = wi .left-up in
+      let i = wi .left-in in
+      let v = length-take-le (s .middle - s .left) (drop (s .left) row) (let z = length-drop (s .left) row in omega arith) in
+      let l : length (shiftedWords row lm u s) ≡ suc (length (encode (x .l)) + length (encode (x .r))) = ap suc (length-append (take (s .middle - s .left) (drop (s .left) row)) (movedPart row lm u s wi mk) ∙ rw (v, a) (omega arith)) in
+      omega arith
+
+-- no parts
+pub share-none : (row lm : List ℕ) (n u w k : ℕ) (out : List ℕ) (ps : List Place) (t : Table) (qs : List (Form × Form)) → qs ≡ [] → TableIs row lm n t ps → Shared row lm n u w out k (share n qs ps) t w k out
+unfolding Shared share encode
+share-none row lm n u w k out ps t qs e h = rw e (h, nothing-written w out, omega arith)

@@ -1,0 +1,70 @@
+-- `one_point::filling::fill_body` meets its contract. Assumes nothing.
+use borrow.Author.Needs.{needs}
+use native.Mathlib.Omega.{arith}
+use mathlib.Core.Path.{_≡_, refl, ap, sym, _∙_}
+use lib.ListN.{length}
+use lib.Seq.{length-take-le}
+use Rattle.subst.proofs.CheckedLaws.{passed}
+use Rattle.replace.proofs.BuildLaws.{built-fits}
+use Rattle.one_point.proofs.FillBodyLaws.{shape-inner, stay-names, stay-front, kept-told, stay-low}
+use borrow.Author.Needs.{needs}
+use Rattle.one_point.proofs.filling.fill_body.Statement.{statement}
+use Rattle.one_point.proofs.filling.fill_body.Tie as tie
+use Rattle.one_point.proofs.filling.fill_body.Reads as reads
+use Rattle.one_point.proofs.filling.fill_body.Lts as lts
+use Rattle.one_point.proofs.filling.fill_kept.Reads as fill-kept-reads
+use Rattle.one_point.proofs.filling.keep_names.Reads as keep-names-reads
+use Rattle.one_point.proofs.filling.zeros_before.Reads as zeros-before-reads
+
+array-share-prefix-words : tie.Need-array-share-prefix-words
+array-share-prefix-words c = let m = c .before .before .before .before .before .before .before .pre .most in omega arith
+
+slice-aggregate-keep-names : tie.Need-slice-aggregate-keep-names
+slice-aggregate-keep-names c = sym (length-take-le _ _ (let m = c .before .before .before .before .before .before .before .before .pre .most in let w = c .before .before .before .before .before .before .before .before .pre .table .words in omega arith))
+
+slice-aggregate-keep-names-2 : tie.Need-slice-aggregate-keep-names-2
+slice-aggregate-keep-names-2 c = search needs
+
+keep-names-requires : tie.Need-keep-names-requires
+keep-names-requires c κs = let m = c .before .before .before .before .before .before .before .before .before .pre .most in let w = c .before .before .before .before .before .before .before .before .before .pre .table .words in (length-take-le (length (c .before .before .before .before .before .before .before .before .before .args .names .now)) (c .before .before .before .before .before .before .before .before .before .args .table .words) (omega arith), omega arith)
+
+array-share-prefix-words-2 : tie.Need-array-share-prefix-words-2
+array-share-prefix-words-2 c = let m = c .before .before .before .before .before .before .before .before .before .before .before .pre .most in omega arith
+
+slice-aggregate-zeros-before : tie.Need-slice-aggregate-zeros-before
+slice-aggregate-zeros-before c = sym (length-take-le _ _ (let m = c .before .before .before .before .before .before .before .before .before .before .before .before .pre .most in let w = c .before .before .before .before .before .before .before .before .before .before .before .before .pre .table .words in omega arith))
+
+zeros-before-requires : tie.Need-zeros-before-requires
+zeros-before-requires c κs = search needs
+
+array-share-prefix-stays : tie.Need-array-share-prefix-stays
+array-share-prefix-stays c = search needs
+
+slice-aggregate-fill-kept : tie.Need-slice-aggregate-fill-kept
+slice-aggregate-fill-kept c = sym (length-take-le _ _ (built-fits (c .before .before .before .before .keep-names .kept .1 .1 .0) refl (c .before .before .before .before .keep-names .ensures .0)))
+
+fill-kept-requires : tie.Need-fill-kept-requires
+fill-kept-requires c κs = let s = stay-low (c .before .before .before .before .before .before .before .before .before .before .before .before .before .before .before .pre) _ _ (c .before .before .before .before .before .keep-names .ensures .1 ∙ stay-names (c .before .before .before .before .before .before .before .before .before .before .before .before .before .before .before .pre) _ refl) (c .before .before .zeros-before .ensures ∙ stay-front (c .before .before .before .before .before .before .before .before .before .before .before .before .before .before .before .pre) _ refl) in (rw (c .before .before .before .before .before .before .before .before .before .before .before .before .before .before .before .pre .words) (shape-inner (c .before .before .before .before .before .before .before .before .before .before .before .before .before .before .before .pre .shape)), s .0, s .1)
+
+same-length : tie.Need-same-length
+same-length c = search needs
+
+returns : tie.Need-returns
+returns c = (λ x. passed _ _ _ _ _ (kept-told x _ _ _ (c .before .before .before .before .before .before .before .before .keep-names .ensures .1 ∙ stay-names x _ refl) (c .before .before .before .before .before .zeros-before .ensures ∙ stay-front x _ refl)) (c .before .before .fill-kept .ensures) .0, λ x. passed _ _ _ _ _ (kept-told x _ _ _ (c .before .before .before .before .before .before .before .before .keep-names .ensures .1 ∙ stay-names x _ refl) (c .before .before .before .before .before .zeros-before .ensures ∙ stay-front x _ refl)) (c .before .before .fill-kept .ensures) .1)
+
+pub fill-body-spec : {M : Type 1} → statement M
+fill-body-spec =
+    tie.close
+    (tie.spec
+    array-share-prefix-words
+    slice-aggregate-keep-names
+    slice-aggregate-keep-names-2
+    keep-names-requires
+    array-share-prefix-words-2
+    slice-aggregate-zeros-before
+    zeros-before-requires
+    array-share-prefix-stays
+    slice-aggregate-fill-kept
+    fill-kept-requires
+    same-length
+    returns)

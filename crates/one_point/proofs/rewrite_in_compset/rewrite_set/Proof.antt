@@ -1,0 +1,85 @@
+-- `one_point::rewrite_in_compset::rewrite_set` meets its contract. Assumes nothing.
+use borrow.Author.Needs.{needs}
+use native.Mathlib.Omega.{arith}
+use mathlib.Core.Path.{_≡_, refl, ap, sym, _∙_}
+use Rattle.one_point.specs.Internal.Member.{Unshifted}
+use Rattle.one_point.proofs.MemberLaws.{body-end, body-words, cleared-zeros}
+use borrow.Author.Needs.{needs}
+use Rattle.one_point.proofs.rewrite_in_compset.rewrite_set.Statement.{statement}
+use Rattle.one_point.proofs.rewrite_in_compset.rewrite_set.Tie as tie
+use Rattle.one_point.proofs.rewrite_in_compset.rewrite_set.Reads as reads
+use Rattle.one_point.proofs.rewrite_in_compset.rewrite_set.Lts as lts
+use Rattle.one_point.proofs.rewrite_in_compset.rewrite_body.Reads as rewrite-body-reads
+use Rattle.one_point.proofs.shares.write_body.Reads as write-body-reads
+
+write-body-requires : tie.Need-write-body-requires
+write-body-requires c κs = search needs
+
+slice-aggregate-rewrite-body : tie.Need-slice-aggregate-rewrite-body
+slice-aggregate-rewrite-body c = search needs
+
+rewrite-body-requires : tie.Need-rewrite-body-requires
+unfolding Unshifted
+rewrite-body-requires c κs = let k = c .before .before .before .before .before .before .write-body .kept .1 .1 .1 .1 .0 in let be = body-end _ _ _ _ _ _ _ _ _ _ (c .before .before .before .before .before .before .write-body .ensures (c .before .before .before .before .before .before .before .before .before .before .before .before .pre .set)) in let en = c .before .before .before .before .before .before .before .before .before .before .before .before .pre .enough in (rw k (c .before .before .before .before .before .before .before .before .before .before .before .before .pre), (λ y. body-words _ _ _ _ (y .guard) _ _ _ _ _ (c .before .before .before .before .before .before .write-body .ensures y)), cleared-zeros (c .before .before .before .before .before .before .write-body .result .end) 64 _ (omega arith), be)
+
+same-length : tie.Need-same-length
+same-length c = search needs
+
+same-length-2 : tie.Need-same-length-2
+same-length-2 c = search needs
+
+returns : tie.Need-returns
+returns c = search needs
+
+slice-aggregate-rewrite-body-2 : tie.Need-slice-aggregate-rewrite-body-2
+slice-aggregate-rewrite-body-2 c = search needs
+
+rewrite-body-requires-2 : tie.Need-rewrite-body-requires-2
+unfolding Unshifted
+rewrite-body-requires-2 c κs = let k = c .before .before .before .before .before .before .before .write-body .kept .1 .1 .1 .1 .0 in let be = body-end _ _ _ _ _ _ _ _ _ _ (c .before .before .before .before .before .before .before .write-body .ensures (c .before .before .before .before .before .before .before .before .before .before .before .before .before .pre .set)) in let en = c .before .before .before .before .before .before .before .before .before .before .before .before .before .pre .enough in (rw k (c .before .before .before .before .before .before .before .before .before .before .before .before .before .pre), (λ y. body-words _ _ _ _ (y .guard) _ _ _ _ _ (c .before .before .before .before .before .before .before .write-body .ensures y)), cleared-zeros (c .before .before .before .before .before .before .before .write-body .result .end) 512 _ (omega arith), be)
+
+same-length-3 : tie.Need-same-length-3
+same-length-3 c = search needs
+
+same-length-4 : tie.Need-same-length-4
+same-length-4 c = search needs
+
+returns-2 : tie.Need-returns-2
+returns-2 c = search needs
+
+slice-aggregate-rewrite-body-3 : tie.Need-slice-aggregate-rewrite-body-3
+slice-aggregate-rewrite-body-3 c = search needs
+
+rewrite-body-requires-3 : tie.Need-rewrite-body-requires-3
+unfolding Unshifted
+rewrite-body-requires-3 c κs = let k = c .before .before .before .before .before .before .before .write-body .kept .1 .1 .1 .1 .0 in let be = body-end _ _ _ _ _ _ _ _ _ _ (c .before .before .before .before .before .before .before .write-body .ensures (c .before .before .before .before .before .before .before .before .before .before .before .before .before .pre .set)) in let en = c .before .before .before .before .before .before .before .before .before .before .before .before .before .pre .enough in (rw k (c .before .before .before .before .before .before .before .before .before .before .before .before .before .pre), (λ y. body-words _ _ _ _ (y .guard) _ _ _ _ _ (c .before .before .before .before .before .before .before .write-body .ensures y)), cleared-zeros (c .before .before .before .before .before .before .before .write-body .result .end) 16384 _ (omega arith), be)
+
+same-length-5 : tie.Need-same-length-5
+same-length-5 c = search needs
+
+same-length-6 : tie.Need-same-length-6
+same-length-6 c = search needs
+
+returns-3 : tie.Need-returns-3
+returns-3 c = search needs
+
+pub rewrite-set-spec : {M : Type 1} → statement M
+rewrite-set-spec =
+    tie.close
+    (tie.spec
+    write-body-requires
+    slice-aggregate-rewrite-body
+    rewrite-body-requires
+    same-length
+    same-length-2
+    returns
+    slice-aggregate-rewrite-body-2
+    rewrite-body-requires-2
+    same-length-3
+    same-length-4
+    returns-2
+    slice-aggregate-rewrite-body-3
+    rewrite-body-requires-3
+    same-length-5
+    same-length-6
+    returns-3)
