@@ -75,12 +75,16 @@ fn other_call(name: &[u8]) -> Call {
     Call::Unknown
 }
 
+fn usize_of(w: u32) -> usize {
+    w as usize
+}
+
 fn settings_of(text: &[u8]) -> Settings {
     let mut words = [0u32; 4];
     read_words(text, &mut words);
     Settings {
-        out: words[0] as usize,
-        work: words[1] as usize,
+        out: usize_of(words[0]),
+        work: usize_of(words[1]),
         param: words[2],
         negative: words[3] == 1,
     }
@@ -102,10 +106,6 @@ fn offset(s: Settings) -> i32 {
         return 2147483647;
     }
     m as i32
-}
-
-fn usize_of(w: u32) -> usize {
-    w as usize
 }
 
 // The number and length of a call, and its output row.
@@ -152,14 +152,7 @@ fn print_lift(base: &[u32], work: &mut [u32], depth: u32) {
 }
 
 // The call on rows of the asked lengths.
-fn run_call(
-    call: Call,
-    s: Settings,
-    list: &[u32],
-    row: &[u32],
-    work: &mut [u32],
-    out: &mut [u32],
-) {
+fn run_call(call: Call, s: Settings, list: &[u32], row: &[u32], work: &mut [u32], out: &mut [u32]) {
     let w = s.work;
     let o = s.out;
     if work.len() < w {
@@ -197,23 +190,30 @@ fn run_rows(
     run_call(call, s, &list[..n], &row[..m], work, out);
 }
 
-fn run_case(
+// A set of places, or a call with rows.
+fn run_kind(
     line: &[u8],
+    call: Call,
+    s: Settings,
     list: &mut [u32],
     row: &mut [u32],
     work: &mut [u32],
     out: &mut [u32],
 ) {
-    print::text(field(line, 0));
-    print::text(b":");
-    let call = call_of(field(line, 1));
-    let s = settings_of(field(line, 2));
     let n = usize_of(s.param);
     match call {
         Call::New => places::run(field(line, 4), row, n, false),
         Call::Forced => places::run(field(line, 4), row, n, true),
         _ => run_rows(line, call, s, list, row, work, out),
     }
+}
+
+fn run_case(line: &[u8], list: &mut [u32], row: &mut [u32], work: &mut [u32], out: &mut [u32]) {
+    print::text(field(line, 0));
+    print::text(b":");
+    let call = call_of(field(line, 1));
+    let s = settings_of(field(line, 2));
+    run_kind(line, call, s, list, row, work, out);
     print::text(b"\n");
 }
 
