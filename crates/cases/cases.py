@@ -1,0 +1,590 @@
+#!/usr/bin/env python3
+"""The library cases and what document 01 answers to them.
+
+  cases.py stdin  > stdin     the cases, as src/main.rt describes them
+  cases.py stdout > stdout    what must be printed, from the model below
+
+The model is written from document 01 on trees, apart from the specifications and the code: it reads a row into a tree, rewrites the tree
+by the rules, and writes it back. A node is (tag, own words, number of declarations, their names, children).
+"""
+import sys
+
+OLD_OUT, OLD_WORK = 88, 77
+
+# ----- rows and trees
+
+
+class Bad(Exception):
+    pass
+
+
+class No(Exception):
+    def __init__(self, k):
+        self.k = k
+
+
+EXPR = {1, 2, 3, 4, 5, 6, *range(401, 413), *range(201, 228), *range(301, 308), *range(751, 758), *range(761, 765), 801, 802, 803}
+
+
+def read(ws, at, sort, depth):
+    """The form of the sort ('E' or 'P') that starts here, and where it ends."""
+    if depth > 64 or at >= len(ws):
+        raise Bad
+    t = ws[at]
+    at += 1
+
+    def word(limit=None):
+        nonlocal at
+        if at >= len(ws) or (limit is not None and ws[at] > limit):
+            raise Bad
+        at += 1
+        return ws[at - 1]
+
+    own, decls, kinds = [], [], ""
+    if sort == "E":
+        if t in (1, 2):
+            own = [word(65535)]
+        elif t == 3:
+            own = [word()]
+        elif t == 4:
+            own = [word()]
+            kinds = "E" * own[0]
+        elif t == 5:
+            kinds = "P"
+        elif t == 6 or 201 <= t <= 227:
+            kinds = "EE"
+        elif 401 <= t <= 412:
+            pass
+        elif 301 <= t <= 307:
+            own = [word()]
+            if own[0] < 2:
+                raise Bad
+            kinds = "E" * own[0]
+        elif 751 <= t <= 757 or 761 <= t <= 764:
+            kinds = "E"
+        elif 801 <= t <= 803:
+            own = [word(3)]
+            n = word(32)
+            if n < 1:
+                raise Bad
+            decls = [word(65535) for _ in range(n)]
+            kinds = "PE"
+        else:
+            raise Bad
+    else:
+        if t in (610, 611):
+            pass
+        elif t == 7:
+            own = [word(65535)]
+        elif t == 8:
+            kinds = "P"
+        elif t == 9:
+            kinds = "E"
+        elif t == 10:
+            own = [word()]
+            if own[0] < 1:
+                raise Bad
+            kinds = "E" * own[0]
+        elif t == 11:
+            own = [word(65535), word()]
+            kinds = "E" * own[1]
+        elif 101 <= t <= 112:
+            kinds = "EE"
+        elif t in (251, 252):
+            kinds = "PP"
+        elif t in (351, 352):
+            own = [word()]
+            if own[0] < 2:
+                raise Bad
+            kinds = "P" * own[0]
+        elif t in (851, 852):
+            n = word(32)
+            if n < 1:
+                raise Bad
+            decls = [word(65535) for _ in range(n)]
+            kinds = "P"
+        else:
+            raise Bad
+    kids = []
+    for k in kinds:
+        f, at = read(ws, at, k, depth + 1)
+        kids.append(f)
+    return (t, own, decls, kids), at
+
+
+def write(f):
+    t, own, decls, kids = f
+    ws = [t] + own
+    if decls:
+        ws += [len(decls)] + decls
+    for k in kids:
+        ws += write(k)
+    return ws
+
+
+def sort_of(ws):
+    return "E" if ws and ws[0] in EXPR else "P"
+
+
+def form(ws, sort=None):
+    """1 and 2 of a row; the sort is P where a predicate is asked for."""
+    if len(ws) > 8192:
+        raise No(1)
+    try:
+        f, end = read(ws, 0, sort or sort_of(ws), 1)
+    except Bad:
+        raise No(2)
+    if end != len(ws):
+        raise No(2)
+    return f
+
+
+def finish(f, room, sort):
+    """7 and 14."""
+    ws = write(f)
+    try:
+        form(ws, sort)
+    except No:
+        raise No(7)
+    if len(ws) > room:
+        raise No(14)
+    return ws
+
+
+# ----- the rewritings: an action sees free names and dangling indices, with the number of open declarations
+
+
+def walk(f, act, k=0):
+    t, own, decls, kids = f
+    if t == 1:
+        return act("name", own[0], k)
+    if t == 2:
+        return f if own[0] < k else act("index", own[0] - k, k)
+    return (t, own, decls, [walk(c, act, k + len(decls)) for c in kids])
+
+
+def index(i):
+    return (2, [i], [], [])
+
+
+def shift(f, by):
+    def act(kind, v, k):
+        if kind == "name":
+            return (1, [v], [], [])
+        if v + by < 0:
+            raise No(6)
+        return index(v + by + k)
+
+    return walk(f, act)
+
+
+def dangling(f):
+    out = set()
+
+    def act(kind, v, k):
+        if kind == "index":
+            out.add(v)
+        return f
+
+    walk(f, act)
+    return sorted(out)
+
+
+def free(f, table):
+    def act(kind, v, k):
+        if kind == "index":
+            return index(v + k)
+        return shift(table[v], k) if v in table else (1, [v], [], [])
+
+    return walk(f, act)
+
+
+def bind(f, names):
+    n = len(names)
+
+    def act(kind, v, k):
+        if kind == "index":
+            return index(v + k + n)
+        return index(k + n - 1 - names.index(v)) if v in names else (1, [v], [], [])
+
+    return walk(f, act)
+
+
+def fill(f, places):
+    """A quantified predicate, with an expression or None for each declaration."""
+    op, _, decls, (body,) = f
+    n = len(decls)
+    kept = [j for j in range(n) if places[j] is None]
+    m = len(kept)
+
+    def act(kind, v, k):
+        if kind == "name":
+            return (1, [v], [], [])
+        if v >= n:
+            return index(v - (n - m) + k)
+        j = n - 1 - v
+        if places[j] is None:
+            return index(k + m - 1 - kept.index(j))
+        return shift(places[j], k + m)
+
+    new = walk(body, act)
+    return (op, [], [decls[j] for j in kept], [new]) if kept else new
+
+
+# ----- one point
+
+
+def offer_rule(l, r):
+    """Target and side of an equality, or None."""
+    bl, br = l[0] == 2, r[0] == 2
+    if bl and br and l[1][0] < r[1][0]:
+        return l[1][0], "right"
+    if br:
+        return r[1][0], "left"
+    if bl:
+        return l[1][0], "right"
+    return None
+
+
+def offer(n, filled, l, r):
+    """0 and the target and the side, or the refusal."""
+    rule = offer_rule(l, r)
+    if rule is None:
+        return 10, None, None
+    i, side = rule
+    if i >= n:
+        return 11, None, None
+    if any(j <= i for j in dangling(l if side == "left" else r)):
+        return 12, None, None
+    if i in filled:
+        return 13, None, None
+    return 0, i, side
+
+
+def split(l, r):
+    if l[0] == 201 and r[0] == 201:
+        return split(l[3][0], r[3][0]) + split(l[3][1], r[3][1])
+    return [(l, r)]
+
+
+def negate(f):
+    return f[3][0] if f[0] == 8 else (8, [], [], [f])
+
+
+def scan(f, pol, n):
+    """What is left of the predicate (None where it vanishes), and the taken (target, replacement) or None."""
+    t, own, decls, kids = f
+    if t == 8:
+        c, taken = scan(kids[0], not pol, n)
+        return (None if c is None else negate(c)), taken
+    if t == 101 and pol:
+        parts = split(*kids)
+        if len(parts) == 1:
+            no, i, side = offer(n, (), *kids)
+            if no:
+                return f, None
+            return None, (i, kids[0] if side == "left" else kids[1])
+        return scan((351, [len(parts)], [], [(101, [], [], [l, r]) for l, r in parts]), True, n)
+    if t == 251 and not pol:
+        a, taken = scan(kids[0], True, n)
+        b = kids[1]
+        if taken is None:
+            b, taken = scan(kids[1], False, n)
+        if a is None:
+            return b, taken
+        if b is None:
+            return negate(a), taken
+        return (t, own, decls, [a, b]), taken
+    if (t == 351 and pol) or (t == 352 and not pol):
+        out, taken = [], None
+        for c in kids:
+            if taken is None:
+                c, taken = scan(c, pol, n)
+            if c is not None:
+                out.append(c)
+        if not out:
+            return None, taken
+        return (out[0] if len(out) == 1 else (t, [len(out)], [], out)), taken
+    return f, None
+
+
+def point(f):
+    op, _, decls, kids = f
+    if op not in (851, 852):
+        raise No(9)
+    n = len(decls)
+    body, taken = scan(kids[0], op == 852, n)
+    if taken is None:
+        raise No(9)
+    if body is None:
+        body = (610 if op == 852 else 611, [], [], [])
+    i, e = taken
+    first = n - 1 - i
+    front, rest = decls[:first], decls[first:]
+    new = fill((op, [], rest, [body]), [shift(e, -len(rest))] + [None] * (len(rest) - 1))
+    if not front:
+        return new
+    if len(rest) > 1 or new[0] == op:
+        return (op, [], front + new[2], new[3])
+    return (op, [], front, [new])
+
+
+# ----- the calls
+
+
+def entries(ws, kind):
+    """2 of a list of pairs or places."""
+    if len(ws) > 8192:
+        raise No(1)
+    at, out = 0, []
+    while at < len(ws):
+        w = ws[at]
+        at += 1
+        if kind == "places" and w == 0:
+            out.append(None)
+            continue
+        if kind == "places" and w != 1:
+            raise No(2)
+        try:
+            e, at = read(ws, at, "E", 1)
+        except Bad:
+            raise No(2)
+        out.append(e if kind == "places" else (w, e))
+    return out
+
+
+def good_names(names):
+    if len(names) > 32 or len(set(names)) < len(names) or any(x > 65535 for x in names):
+        raise No(4)
+
+
+def call(op, out, work, by, lst, row):
+    if op in ("free", "fill", "point") and work < 16384:
+        raise No(15)
+    f = form(row, "P" if op in ("fill", "prune", "point") else None)
+    s = "P" if op in ("fill", "prune", "point") else sort_of(row)
+    if op == "dangling":
+        d = dangling(f)
+        if len(d) > out:
+            raise No(14)
+        return d
+    if op == "shift":
+        return finish(shift(f, by), out, s)
+    if op == "bind":
+        if len(lst) > 8192:
+            raise No(1)
+        good_names(lst)
+        return finish(bind(f, lst), out, s)
+    if op == "free":
+        pairs = entries(lst, "pairs")
+        good_names([p[0] for p in pairs])
+        return finish(free(f, dict(pairs)), out, s)
+    if op == "point":
+        return finish(point(f), out, s)
+    places = entries(lst, "places") if op == "fill" else None
+    if f[0] not in (851, 852):
+        raise No(3)
+    n = len(f[2])
+    if op == "fill":
+        if len(places) != n:
+            raise No(5)
+        return finish(fill(f, places), out, s)
+    used = dangling(f[3][0])
+    places = [None if n - 1 - j in used else (3, [0], [], []) for j in range(n)]
+    if all(p is None for p in places):
+        raise No(9)
+    return finish(fill(f, places), out, s)
+
+
+def lift(row, depth, work):
+    try:
+        f = form(row)
+        if depth == 0 or not dangling(f):
+            return row
+        return finish(shift(f, depth), work, sort_of(row))
+    except No:
+        return []
+
+
+def offers(n, forced, rows):
+    number = 5 if n > 32 and not forced else 0
+    n = 0 if number else n
+    said, filled = [number], {}
+    for row in rows:
+        try:
+            f = form(row, "P")
+            if n > 32:
+                raise No(5)
+            if f[0] != 101:
+                raise No(10)
+            l, r = f[3]
+            no, i, side = offer(n, filled, l, r)
+            if no:
+                raise No(no)
+            a, b = len(write(l)), len(write(r))
+            filled[i] = (1, 1 + a) if side == "left" else (1 + a, 1 + a + b)
+            said.append(0)
+        except No as x:
+            said.append(x.k)
+    return said, n, sorted((n - 1 - i, a, b) for i, (a, b) in filled.items())
+
+
+# ----- the cases
+
+
+def w(text):
+    """Words of a text, where 3*5 is 5 5 5."""
+    out = []
+    for x in text.split():
+        n, v = x.split("*") if "*" in x else (1, x)
+        out += [int(v)] * int(n)
+    return out
+
+
+def one(name, op, row, lst="", out=0, work=0, by=0):
+    return (name, op, out, work, by, lst, row)
+
+
+def cases():
+    shift_row = "852 1 9 101 2 0 2 2"
+    bind_row, bind_list = "101 1 4 2 0", "4 5"
+    free_row, free_list = "852 1 9 101 2 0 1 4", "4 2 0"
+    fill_row, fill_list = "852 2 4 5 101 2 1 2 2", "0 1 1 5"
+    prune_row = "852 2 4 5 101 2 1 1 7"
+    point_row = "852 2 4 5 351 2 101 2 0 2 1 851 1 6 101 2 0 2 1"
+    enough = 16384
+    # 14: the output row one short of the result, as long, and longer
+    for name, op, row, lst, length, by in [
+            ("shift", "shift", shift_row, "", 8, -1), ("bind", "bind", bind_row, bind_list, 5, 0), ("free", "free", free_row, free_list, 8, 0),
+            ("fill", "fill", fill_row, fill_list, 8, 0), ("prune", "prune", prune_row, "", 8, 0), ("point", "point", point_row, "", 11, 0),
+            ("free longer", "free", "9 1 4", "4 201 2 0 3 5", 6, 0), ("fill body alone", "fill", "852 1 4 101 2 0 2 1", "1 1 5", 5, 0),
+            ("prune body alone", "prune", "851 3 4 5 6 9 2 3", "", 3, 0), ("point emptied", "point", "852 1 4 101 2 0 1 7", "", 1, 0),
+            ("point emptied for all", "point", "851 1 4 8 101 2 0 1 7", "", 1, 0), ("bind no names", "bind", bind_row, "", 5, 0)]:
+        for out in (0, length - 1, length, length + 1, length + 4):
+            yield one("%s, output %d" % (name, out), op, row, lst, out, enough, by)
+    # 15: the work row
+    for name, op, row, lst in [("free", "free", free_row, free_list), ("fill", "fill", fill_row, fill_list), ("point", "point", point_row, "")]:
+        for work in (0, 1, 16383, 16384, 16385):
+            yield one("%s, work %d" % (name, work), op, row, lst, 12, work)
+    # calls that are lent no work row
+    for name, op, row, lst, by in [("shift", "shift", shift_row, "", -1), ("bind", "bind", bind_row, bind_list, 0), ("prune", "prune", prune_row, "", 0)]:
+        yield one("%s, no work" % name, op, row, lst, 12, 0, by)
+    # the order of refusals: 15 before 1 and 2, 1 before 2, the form before the list, 3, 4, 5, 6, 9, 7 before 14
+    for op in ("free", "fill", "point"):
+        yield one("%s, 15 before 1" % op, op, "8193*0", "", 3, 16383)
+        yield one("%s, 15 before 2" % op, op, "0", "", 3, 16383)
+    for op in ("shift", "bind", "free", "fill", "prune", "point", "dangling"):
+        yield one("%s, 8193 words" % op, op, "8193*0", "", 3, enough)
+        yield one("%s, 8192 words that are no form" % op, op, "8192*0", "", 3, enough)
+        yield one("%s, no word" % op, op, "", "", 3, enough)
+        yield one("%s, a word too many" % op, op, "610 0", "", 3, enough)
+        yield one("%s, a word too few" % op, op, "101 1 4 1", "", 3, enough)
+    for op in ("fill", "prune", "point"):
+        yield one("%s, an expression" % op, op, "1 4", "", 3, enough)
+    yield one("bind, the form's 2 before the list's 1", "bind", "0", "8193*0", 3)
+    yield one("bind, a list of 8193 words", "bind", "1 4", "8193*0", 3)
+    yield one("bind, the list's 1 before 4", "bind", "1 4", "8193*4", 3)
+    yield one("bind, a list of 8192 words", "bind", "1 4", "8192*4", 3)
+    yield one("free, the form's 2 before the list's 1", "free", "0", "8193*0", 3, enough)
+    yield one("free, a list of 8193 words", "free", "1 4", "8193*0", 3, enough)
+    yield one("free, the list's 2 before 4", "free", "1 4", "4 3 0 4 3 0 4", 3, enough)
+    yield one("free, a name twice", "free", "1 4", "4 3 0 4 3 0", 3, enough)
+    yield one("free, a name over 65535", "free", "1 4", "65536 3 0", 3, enough)
+    yield one("free, 4 before 14", "free", "1 4", "65536 3 0", 0, enough)
+    yield one("fill, the list's 2 before 3", "fill", "610", "2", 3, enough)
+    yield one("fill, 3 before 5", "fill", "610", "0", 3, enough)
+    yield one("fill, 3", "fill", "610", "", 3, enough)
+    yield one("fill, a list of 8193 words", "fill", fill_row, "8193*0", 3, enough)
+    yield one("fill, 5 with fewer places", "fill", fill_row, "0", 0, enough)
+    yield one("fill, 5 with more places", "fill", fill_row, "0 0 0", 0, enough)
+    yield one("fill, 7 before 14", "fill", "852 2 4 5 9 2 0", "0 1 2 65535", 0, enough)
+    yield one("prune, 3", "prune", "8 852 1 4 610", "", 3)
+    yield one("prune, 9", "prune", "852 1 4 9 2 0", "", 0)
+    yield one("shift, 6 before 14", "shift", "2 0", "", 0, 0, -1)
+    yield one("shift, 7 before 14", "shift", "2 65535", "", 0, 0, 1)
+    yield one("shift, 6 for one of two indices", "shift", "101 2 1 2 0", "", 9, 0, -1)
+    yield one("shift, the lowest offset", "shift", "2 0", "", 3, 0, -2147483648)
+    yield one("shift, the lowest offset with nothing dangling", "shift", "852 1 4 9 2 0", "", 8, 0, -2147483648)
+    yield one("shift, the highest offset", "shift", "2 0", "", 3, 0, 2147483647)
+    yield one("shift, the highest offset with nothing dangling", "shift", "852 1 4 9 2 0", "", 8, 0, 2147483647)
+    yield one("shift, to 65535", "shift", "2 65534", "", 3, 0, 1)
+    yield one("bind, 7 before 14", "bind", "2 65535", "4", 0)
+    yield one("point, 9 before 14", "point", "852 1 4 101 2 0 2 0", "", 0, enough)
+    yield one("point, not quantified", "point", "610", "", 0, enough)
+    yield one("point, 7 before 14", "point", "852 17 17*4 351 2 101 2 0 1 7 852 17 17*5 9 2 0", "", 0, enough)
+    yield one("point, 32 declarations joined", "point", "852 17 17*4 351 2 101 2 0 1 7 852 16 16*5 9 2 0", "", 40, enough)
+    # rows of many words: the marks of a short, a middle and a long row
+    for n in (30, 31, 32, 254, 255, 256):
+        yield one("shift, %d words" % (2 * n + 2), "shift", "4 %d %s" % (n, "2 7 " * n), "", 2 * n + 2, 0, 1)
+        yield one("dangling, %d words" % (2 * n + 2), "dangling", "4 %d %s" % (n, "2 7 " * n), "", 2)
+    # the dangling set
+    for name, row, length in [("nothing", "852 1 4 9 2 0", 0), ("one", "852 1 4 9 2 1", 1), ("ascending, each once", "10 5 2 3 2 0 2 3 2 1 2 0", 3),
+                              ("by depth", "101 2 2 803 0 2 4 5 9 2 4 2 2", 2), ("the largest", "101 2 65535 2 64", 2)]:
+        for out in sorted({0, max(length - 1, 0), length, length + 2}):
+            yield one("dangling, %s, output %d" % (name, out), "dangling", row, "", out)
+    # lift: all of the base, a copy, the empty part
+    for name, row, depth, work in [
+            ("depth 0", "101 2 0 1 4", 0, 0), ("depth 0 of a predicate", "9 2 65535", 0, 3), ("depth 0 of what is no form", "0", 0, 3),
+            ("nothing dangles", "803 0 1 4 9 2 0 2 0", 7, 0), ("nothing dangles, the largest depth", "1 4", 4294967295, 0),
+            ("a copy", "201 2 0 803 0 1 4 9 2 0 2 1", 3, 12), ("a copy, work as long", "2 0", 1, 2), ("a copy, work longer", "2 0", 1, 5),
+            ("a copy to 65535", "2 0", 65535, 2), ("empty by 7", "2 0", 65536, 2), ("empty by 7, an index of 65535", "2 65535", 1, 2),
+            ("empty by 7, depth 2147483647", "2 0", 2147483647, 2), ("empty by 7, depth 2147483648", "2 0", 2147483648, 2),
+            ("empty by 7, the largest depth", "2 0", 4294967295, 2), ("empty by 14", "2 0", 1, 1), ("empty by 14, no work", "2 0", 1, 0),
+            ("empty by 7 and not 14", "2 65535", 1, 0), ("empty by 1", "8193*0", 1, 16384), ("empty by 1 at depth 0", "8193*0", 0, 16384),
+            ("empty by 2", "2 65536", 1, 16384), ("empty by 2, no word", "", 1, 16384), ("empty by 2, a word too many", "2 0 0", 1, 16384),
+            ("a predicate", "101 2 0 2 1", 2, 5)]:
+        yield one("lift, %s" % name, "lift", row, "", 0, work, depth)
+    # sets of places
+    for n in (0, 1, 31, 32, 33, 4294967295):
+        yield one("new for %d" % n, "new", "", "", 0, 0, n)
+    eq = "101 2 0 1 7"
+    for name, op, n, rows in [
+            ("1", "new", 2, ["8193*0"]), ("2", "new", 2, ["0"]), ("2, an expression", "new", 2, ["2 0"]), ("2, no word", "new", 2, ["", eq]),
+            ("2, a word too many", "new", 2, [eq + " 0"]), ("1 before 5", "forced", 33, ["8193*0"]), ("2 before 5", "forced", 33, ["0"]),
+            ("5", "forced", 33, [eq]), ("5 before 10", "forced", 33, ["610"]), ("32 forced", "forced", 32, [eq]),
+            ("10", "new", 2, ["610"]), ("10, no bound side", "new", 2, ["101 1 7 1 8"]), ("10, another relation", "new", 2, ["102 2 0 1 7"]),
+            ("10 before 11", "new", 0, ["101 1 7 1 8"]), ("11", "new", 2, ["101 2 2 1 7"]), ("11 for 0", "new", 0, [eq]),
+            ("11 before 12", "new", 2, ["101 2 2 301 2 2 2 1 7"]), ("12", "new", 2, ["101 2 1 301 2 2 0 1 7"]), ("12, itself", "new", 2, ["101 2 0 2 0"]),
+            ("12 before 13", "new", 2, [eq, "101 2 0 301 2 2 0 1 7"]), ("13", "new", 2, [eq, "101 1 8 2 0"]),
+            ("both sides bound, the left lower", "new", 2, ["101 2 0 2 1"]), ("both sides bound, the right lower", "new", 2, ["101 2 1 2 0"]),
+            ("right bound", "new", 2, ["101 301 2 2 2 1 7 2 1"]), ("left bound", "new", 2, ["101 2 1 301 2 2 2 1 7"]),
+            ("bound inside the replacement", "new", 1, ["101 2 0 803 0 1 4 9 2 0 2 2"]),
+            ("both bound, the higher not below n", "new", 1, ["101 2 0 2 5"]), ("both bound, none below n", "new", 1, ["101 2 5 2 6"]),
+            ("two places", "new", 2, ["101 2 1 1 7", "101 1 8 2 0"]), ("two places, the other order", "new", 2, ["101 1 8 2 0", "101 2 1 1 7"]),
+            ("after a refusal", "new", 2, [eq, "610", "101 2 0 1 9", "101 2 5 1 7", "0", "101 2 1 3 5"]),
+            ("first and last of 32", "new", 32, ["101 2 31 1 7", "101 2 0 2 30", "101 2 32 1 7", "101 2 31 1 8"]),
+            ("every place of 3", "new", 3, ["101 2 0 2 1", "101 2 1 2 2", "101 2 2 1 7", "101 2 2 2 3"])]:
+        yield one("offer, %s" % name, op, "/".join(rows), "", 0, 0, n)
+
+
+def line(case):
+    name, op, out, work, by, lst, row = case
+    sign = " 1" if by < 0 else ""
+    return "%s;%s;%d %d %d%s;%s;%s" % (name, op, out, work, abs(by), sign, lst, " ".join(row.split()))
+
+
+def expected(case):
+    name, op, out, work, by, lst, row = case
+    say = lambda ws: "".join(" %d" % x for x in ws)
+    if op == "lift":
+        part = lift(w(row), by, work)
+        return "%s: %d |%s" % (name, len(part), say(part))
+    if op in ("new", "forced"):
+        said, n, filled = offers(by, op == "forced", [w(r) for r in row.split("/")] if row else [])
+        return "%s:%s | %d |%s" % (name, say(said), n, "".join(say(p) for p in filled))
+    try:
+        ws = call(op, out, work, by, w(lst), w(row))
+        number, length = 0, len(ws)
+    except No as x:
+        ws, number, length = [], x.k, 0
+    return "%s: %d %d |%s" % (name, number, length, say(ws + [OLD_OUT] * (out - len(ws))))
+
+
+def main():
+    make = {"stdin": line, "stdout": expected}[sys.argv[1]]
+    for c in cases():
+        print(make(c))
+
+
+if __name__ == "__main__":
+    main()

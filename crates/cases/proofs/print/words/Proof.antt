@@ -1,0 +1,56 @@
+-- `cases::print::words` meets its contract. Assumes nothing.
+use native.Mathlib.Omega.{arith}
+use Prim.Native.Nat.{_-_, _≤_}
+use lib.ListN.{length}
+use borrow.Author.Needs.{needs}
+use Rattle.cases.proofs.print.words.Statement.{statement}
+use Rattle.cases.proofs.print.words.Tie as tie
+use Rattle.cases.proofs.print.words.Reads as reads
+use Rattle.cases.proofs.print.words.Lts as lts
+use Rattle.cases.proofs.print.text.Reads as text-reads
+use Rattle.cases.proofs.print.word_at.Reads as word-at-reads
+
+abbrev Inv-loop : tie.InvT-loop
+Inv-loop row i₀ i = 0 ≤ i
+
+abbrev μ-loop : tie.MeasureT-loop
+μ-loop row i₀ i = length row - i
+
+slice-aggregate-text : tie.Need-slice-aggregate-text Inv-loop μ-loop
+slice-aggregate-text c = search needs
+
+text-requires : tie.Need-text-requires Inv-loop μ-loop
+text-requires c κs = search needs
+
+loop-holds : tie.Need-loop-holds Inv-loop μ-loop
+loop-holds c = omega arith
+
+word-at-requires : tie.Need-word-at-requires Inv-loop μ-loop
+word-at-requires c κs = search needs
+
+add-i : tie.Need-add-i Inv-loop μ-loop
+add-i c = omega arith
+
+loop-less : tie.Need-loop-less Inv-loop μ-loop
+loop-less c = omega arith
+
+loop-again : tie.Need-loop-again Inv-loop μ-loop
+loop-again c = omega arith
+
+returns : tie.Need-returns Inv-loop μ-loop
+returns c = tt
+
+pub words-spec : {M : Type 1} → statement M
+words-spec =
+    tie.close
+    (tie.spec
+    Inv-loop
+    μ-loop
+    slice-aggregate-text
+    text-requires
+    loop-holds
+    word-at-requires
+    add-i
+    loop-less
+    loop-again
+    returns)
