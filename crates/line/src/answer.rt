@@ -53,6 +53,10 @@ pub fn print_form(row: &[u32], out: &mut [u8]) -> Answer
         let mut bytes = [0u8; 6656];
         return print_form_in(row, &mut bytes, out);
     }
+    if row.len() <= 2048 {
+        let mut bytes = [0u8; 26624];
+        return print_form_in(row, &mut bytes, out);
+    }
     if 8192 < row.len() {
         return Answer::No(1);
     }

@@ -47,8 +47,12 @@ pub fn fits_form(text: &[u8], row: &[u32]) -> bool
         let mut bytes = [0u8; 256];
         return fits_form_in(text, row, &mut bytes);
     }
-    if text.len() <= 4096 {
-        let mut bytes = [0u8; 4096];
+    if text.len() <= 2048 {
+        let mut bytes = [0u8; 2048];
+        return fits_form_in(text, row, &mut bytes);
+    }
+    if text.len() <= 12288 {
+        let mut bytes = [0u8; 12288];
         return fits_form_in(text, row, &mut bytes);
     }
     if 65535 < text.len() {

@@ -86,22 +86,22 @@ pub(crate) fn after_digit(state: State, digit: u32) -> Turn
 pub(crate) fn next(state: State, byte: u8) -> Turn
     ensures { λ r. ⌜ r ≡ turn state byte ⌝ }
 {
+    if byte < b'0' {
+        if byte == b' ' {
+            return after_space(state);
+        }
+        return Turn::Bad;
+    }
+    if byte <= b'9' {
+        return after_digit(state, (byte - b'0') as u32);
+    }
     if byte == b'[' {
         return after_open(state);
     }
     if byte == b']' {
         return after_close(state);
     }
-    if byte == b' ' {
-        return after_space(state);
-    }
-    if byte < b'0' {
-        return Turn::Bad;
-    }
-    if b'9' < byte {
-        return Turn::Bad;
-    }
-    after_digit(state, (byte - b'0') as u32)
+    Turn::Bad
 }
 
 // What the first byte inside a place's bracket gives.

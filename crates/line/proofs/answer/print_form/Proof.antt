@@ -4,6 +4,9 @@ use Rattle.line.proofs.AnswerLaws.{zeros, form-long}
 use borrow.Author.Needs.{needs}
 use Rattle.line.proofs.answer.print_form.Statement.{statement}
 use Rattle.line.proofs.answer.print_form.Tie as tie
+use Rattle.line.proofs.answer.print_form.Reads as reads
+use Rattle.line.proofs.answer.print_form.Lts as lts
+use Rattle.line.proofs.answer.print_form_in.Reads as print-form-in-reads
 
 slice-aggregate-print-form-in : tie.Need-slice-aggregate-print-form-in
 slice-aggregate-print-form-in c = search needs
@@ -29,20 +32,32 @@ same-length-2 c = search needs
 returns-2 : tie.Need-returns-2
 returns-2 c = c .before .before .before .print-form-in2 .ensures
 
-returns-3 : tie.Need-returns-3
-returns-3 c = form-long _ _ (c .if3 .taken)
-
 slice-aggregate-print-form-in-3 : tie.Need-slice-aggregate-print-form-in-3
 slice-aggregate-print-form-in-3 c = search needs
 
 print-form-in-requires-3 : tie.Need-print-form-in-requires-3
-print-form-in-requires-3 c κs = let z = zeros 106496 in (omega arith, omega arith)
+print-form-in-requires-3 c κs = let z = zeros 26624 in (omega arith, omega arith)
 
 same-length-3 : tie.Need-same-length-3
 same-length-3 c = search needs
 
+returns-3 : tie.Need-returns-3
+returns-3 c = c .before .before .before .print-form-in3 .ensures
+
 returns-4 : tie.Need-returns-4
-returns-4 c = c .before .before .before .print-form-in3 .ensures
+returns-4 c = form-long _ _ (c .if4 .taken)
+
+slice-aggregate-print-form-in-4 : tie.Need-slice-aggregate-print-form-in-4
+slice-aggregate-print-form-in-4 c = search needs
+
+print-form-in-requires-4 : tie.Need-print-form-in-requires-4
+print-form-in-requires-4 c κs = let z = zeros 106496 in (omega arith, omega arith)
+
+same-length-4 : tie.Need-same-length-4
+same-length-4 c = search needs
+
+returns-5 : tie.Need-returns-5
+returns-5 c = c .before .before .before .print-form-in4 .ensures
 
 pub print-form-spec : {M : Type 1} → statement M
 print-form-spec =
@@ -56,8 +71,12 @@ print-form-spec =
     print-form-in-requires-2
     same-length-2
     returns-2
-    returns-3
     slice-aggregate-print-form-in-3
     print-form-in-requires-3
     same-length-3
-    returns-4)
+    returns-3
+    returns-4
+    slice-aggregate-print-form-in-4
+    print-form-in-requires-4
+    same-length-4
+    returns-5)

@@ -22,22 +22,31 @@ slice-aggregate-fits-form-in-2 : tie.Need-slice-aggregate-fits-form-in-2
 slice-aggregate-fits-form-in-2 c = search needs
 
 fits-form-in-requires-2 : tie.Need-fits-form-in-requires-2
-fits-form-in-requires-2 c κs = let z = zeros 4096 in (omega arith, omega arith)
+fits-form-in-requires-2 c κs = let z = zeros 2048 in (omega arith, omega arith)
 
 returns-2 : tie.Need-returns-2
 returns-2 c = c .before .fits-form-in2 .ensures
-
-returns-3 : tie.Need-returns-3
-returns-3 c = form-text _ _ (c .if3 .taken)
 
 slice-aggregate-fits-form-in-3 : tie.Need-slice-aggregate-fits-form-in-3
 slice-aggregate-fits-form-in-3 c = search needs
 
 fits-form-in-requires-3 : tie.Need-fits-form-in-requires-3
-fits-form-in-requires-3 c κs = let z = zeros 65535 in (omega arith, omega arith)
+fits-form-in-requires-3 c κs = let z = zeros 12288 in (omega arith, omega arith)
+
+returns-3 : tie.Need-returns-3
+returns-3 c = c .before .fits-form-in3 .ensures
 
 returns-4 : tie.Need-returns-4
-returns-4 c = c .before .fits-form-in3 .ensures
+returns-4 c = form-text _ _ (c .if4 .taken)
+
+slice-aggregate-fits-form-in-4 : tie.Need-slice-aggregate-fits-form-in-4
+slice-aggregate-fits-form-in-4 c = search needs
+
+fits-form-in-requires-4 : tie.Need-fits-form-in-requires-4
+fits-form-in-requires-4 c κs = let z = zeros 65535 in (omega arith, omega arith)
+
+returns-5 : tie.Need-returns-5
+returns-5 c = c .before .fits-form-in4 .ensures
 
 pub fits-form-spec : {M : Type 1} → statement M
 fits-form-spec =
@@ -49,7 +58,10 @@ fits-form-spec =
     slice-aggregate-fits-form-in-2
     fits-form-in-requires-2
     returns-2
-    returns-3
     slice-aggregate-fits-form-in-3
     fits-form-in-requires-3
-    returns-4)
+    returns-3
+    returns-4
+    slice-aggregate-fits-form-in-4
+    fits-form-in-requires-4
+    returns-5)
