@@ -227,17 +227,17 @@ module _ (s : Sort) (row : List ℕ) (at u : ℕ) where
 
 -- within the limits of depth and open declarations the guarded reading is the reading, outside them nothing is read
 module _ (s : Sort) (ws : List ℕ) where
-  pub in-decode : (d u : ℕ) → d ≤ 64 → u ≤ 65535 → decodeIn d u s ws ≡ decode d s ws
+  pub in-decode : (d u : ℕ) → d ≤ 65535 → u ≤ 65535 → decodeIn d u s ws ≡ decode d s ws
   unfolding decodeIn
-  in-decode d u deep few = rw (le-leb d 64 deep, le-leb u 65535 few)
+  in-decode d u deep few = rw (le-leb d 65535 deep, le-leb u 65535 few)
 
-  pub told-deep : (at d u : ℕ) (a b : List ℕ) → 64 < d → Told at u (decodeIn d u s ws) a b Bad
+  pub told-deep : (at d u : ℕ) (a b : List ℕ) → 65535 < d → Told at u (decodeIn d u s ws) a b Bad
   unfolding decodeIn Told
-  told-deep at d u a b h = rw (lt-leb d 64 h) refl
+  told-deep at d u a b h = rw (lt-leb d 65535 h) refl
 
-  pub told-under : (at d u : ℕ) (a b : List ℕ) → d ≤ 64 → 65535 < u → Told at u (decodeIn d u s ws) a b Bad
+  pub told-under : (at d u : ℕ) (a b : List ℕ) → d ≤ 65535 → 65535 < u → Told at u (decodeIn d u s ws) a b Bad
   unfolding decodeIn Told
-  told-under at d u a b deep h = rw (le-leb d 64 deep, lt-leb u 65535 h) refl
+  told-under at d u a b deep h = rw (le-leb d 65535 deep, lt-leb u 65535 h) refl
 
-  pub told-in : (at d u : ℕ) (a b : List ℕ) (r : Step) → d ≤ 64 → u ≤ 65535 → Told at u (decode d s ws) a b r → Told at u (decodeIn d u s ws) a b r
+  pub told-in : (at d u : ℕ) (a b : List ℕ) (r : Step) → d ≤ 65535 → u ≤ 65535 → Told at u (decode d s ws) a b r → Told at u (decodeIn d u s ws) a b r
   told-in at d u a b r deep few t = rw (in-decode d u deep few) t

@@ -120,11 +120,11 @@ fn mark_preds(row: &[u32], marks: &mut [u32], at: usize, n: u32, depth: u32, und
     Step::End(p)
 }
 
-// An expression at `at`, under so many open declarations; deeper than 64, or under over 65,535 declarations, none is read.
+// An expression at `at`, under so many open declarations; where the depth or their number is over 65,535, none is read.
 pub fn expr_at(row: &[u32], marks: &mut [u32], at: usize, depth: u32, under: u32) -> Step
     ensures { λ r. ⌜ Told at under (decodeIn depth under expr (drop at (now (row .entry)))) (now (marks .entry)) (now (marks .exit)) r ⌝ }
 {
-    if Limit::DEPTH < depth {
+    if Limit::NAME < depth {
         return Step::Bad;
     }
     if Limit::NAME < under {
@@ -137,7 +137,7 @@ pub fn expr_at(row: &[u32], marks: &mut [u32], at: usize, depth: u32, under: u32
 pub fn pred_at(row: &[u32], marks: &mut [u32], at: usize, depth: u32, under: u32) -> Step
     ensures { λ r. ⌜ Told at under (decodeIn depth under pred (drop at (now (row .entry)))) (now (marks .entry)) (now (marks .exit)) r ⌝ }
 {
-    if Limit::DEPTH < depth {
+    if Limit::NAME < depth {
         return Step::Bad;
     }
     if Limit::NAME < under {

@@ -40,8 +40,8 @@ unfolding Told endAt
 told-ends at u (got f x) a b r t = t .0
 told-ends at u no-form a b r t = t
 
-pub told-plain : (at d u : ℕ) (s : Sort) (ws a b : List ℕ) (r : Step) → d ≤ 64 → u ≤ 65535 → Told at u (decodeIn d u s ws) a b r → Told at u (decode d s ws) a b r
-told-plain at d u s ws a b r deep few t = rw (in-decode s ws d u deep few) at t
+pub told-plain : (at d u : ℕ) (s : Sort) (ws a b : List ℕ) (r : Step) → d ≤ 65 → u ≤ 65535 → Told at u (decodeIn d u s ws) a b r → Told at u (decode d s ws) a b r
+told-plain at d u s ws a b r deep few t = rw (in-decode s ws d u (omega arith) few) at t
 
 -- the equality that is the whole row
 pub equality-empty : (row : List ℕ) → length row ≡ 0 → None ≡ equalityWords row

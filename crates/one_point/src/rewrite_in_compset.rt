@@ -8,7 +8,7 @@ use form::answer::Answer;
 use form::answer::Kind;
 use form::answer::Limit;
 use form::head::Step;
-use form::reader::mark_pred;
+use form::reader::pred_at;
 ghost use mathlib.Core.Path.{_≡_};
 ghost use Prim.Native.Nat.{_≤_};
 ghost use lib.ListN.{length, take};
@@ -35,7 +35,7 @@ fn rewrite_body(
     ensures { λ _. ⌜ ((x : SetIn (now (row .entry)) set) → now (out .exit) ≡ written (finish pred (length (now (out .entry))) (memberOf (x .element) (x .names) (x .guard) (x .value))) (now (out .entry))) ⌝ }
 {
     let n = set.n;
-    let Step::End(e) = mark_pred(&work[..end], marks, 0, 65, n) else {
+    let Step::End(e) = pred_at(&work[..end], marks, 0, 65, n) else {
         return Answer::No(2);
     };
     let body = write_body(row, row_marks, set, n, work);

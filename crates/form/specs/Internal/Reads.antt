@@ -58,9 +58,9 @@ unfoldable pub ToldAll : ℕ → ℕ → Gots → List ℕ → List ℕ → Step
 ToldAll at u (gots fs x) a b r = (r ≡ End (at + length (encodeAll fs))) × (b ≡ markAll fs at u a)
 ToldAll at u no-forms a b r = r ≡ Bad
 
--- no form is read deeper than 64, or under over 65,535 declarations
+-- no form is read where the depth or the number of open declarations is over 65,535
 unfoldable pub decodeIn : ℕ → ℕ → Sort → List ℕ → Got
-decodeIn d u s ws = pick (leb d 64 && leb u 65535) (decode d s ws) no-form
+decodeIn d u s ws = pick (leb d 65535 && leb u 65535) (decode d s ws) no-form
 
 unfoldable pub Marked : Found → List ℕ → List ℕ → Type 0
 Marked (found s f) a b = b ≡ mark f 0 0 a

@@ -15,7 +15,7 @@ pred-at-requires : tie.Need-pred-at-requires
 pred-at-requires c κs = search needs
 
 returns : tie.Need-returns
-returns c = told-ends _ _ _ _ _ _ (told-plain _ _ _ _ _ _ _ _ (c .before .before .before .before .pre) (omega arith) (c .before .pred-at .ensures))
+returns c = told-ends _ _ _ _ _ _ (told-plain _ _ _ _ _ _ _ _ (let h = c .before .before .before .before .pre in omega arith) (omega arith) (c .before .pred-at .ensures))
 
 pub skip-pred-spec : {M : Type 1} → statement M
 skip-pred-spec = tie.close (tie.spec slice-aggregate-pred-at pred-at-requires returns)

@@ -15,7 +15,7 @@ expr-at-requires : tie.Need-expr-at-requires
 expr-at-requires c κs = search needs
 
 returns : tie.Need-returns
-returns c = told-ends _ _ _ _ _ _ (told-plain _ _ _ _ _ _ _ _ (c .before .before .before .before .pre) (omega arith) (c .before .expr-at .ensures))
+returns c = told-ends _ _ _ _ _ _ (told-plain _ _ _ _ _ _ _ _ (let h = c .before .before .before .before .pre in omega arith) (omega arith) (c .before .expr-at .ensures))
 
 pub skip-expr-spec : {M : Type 1} → statement M
 skip-expr-spec = tie.close (tie.spec slice-aggregate-expr-at expr-at-requires returns)
