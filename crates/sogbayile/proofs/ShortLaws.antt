@@ -1,7 +1,7 @@
 -- No exported rewriting answers over 8,192 words, so number and length can be read off its code. Assumes nothing.
 use mathlib.Core.Path.{_≡_, refl}
-use mathlib.Core.Bool.{Bool, true, false}
-use mathlib.Core.List.{List, [], _∷_, _++_}
+use mathlib.Core.Bool.{Bool, true, false, not}
+use mathlib.Core.List.{List, [], _∷_, _++_, map}
 use mathlib.Core.Option.{Option, none as absent, some}
 use Prim.Native.Nat.{ℕ, _+_, _≤_, _/_, _%_, _^_}
 use native.Mathlib.Omega.{arith}
@@ -12,8 +12,8 @@ use lib.ListN.{length, length-append}
 use Rattle.form.specs.Form.{free, bound, Form, leaf, node, Forms, none, more, pick, encode, encodeAll}
 use Rattle.form.specs.Tag.{Sort, pred}
 use Rattle.form.specs.Decode.{Found, found, missing, formOf}
-use Rattle.form.specs.Lists.{Entry, listOf}
-use Rattle.form.specs.Answer.{Outcome, answer, refusal, told, number, lengthOf, ofFound, ofList, withForm, withList, needs}
+use Rattle.form.specs.Lists.{Entry, wordOf, placeOf, listOf, goodNames}
+use Rattle.form.specs.Answer.{Outcome, answer, refusal, told, number, lengthOf, ofFound, ofList, withForm, withList, needs, finish}
 use Rattle.form.specs.declared.answer.Kind.{Kind}
 use Rattle.form.specs.declared.answer.Kind.the-variants.{Either, Predicate}
 use Rattle.form.specs.declared.lists.ListKind.{ListKind}
@@ -22,44 +22,57 @@ use Rattle.form.proofs.RowLaws.{found-exact, row-exact}
 use Rattle.subst.specs.Walk.{Binding, inside, outside, binding, collectIndex, collect, collectAll}
 use Rattle.subst.specs.Dangling.{indexOf, insert, insertAll, danglingSet, danglingOutcome}
 use Rattle.subst.specs.Shift.{Shifted, shifted, captured, shift, ofShifted, shiftOutcome}
-use Rattle.subst.specs.Bind.{bindOutcome}
-use Rattle.replace.specs.Free.{freeOutcome}
-use Rattle.replace.specs.Fill.{Quantified, quantifier, other, quantified, ofQuantified, fillOutcome}
-use Rattle.replace.specs.Prune.{pruneOutcome}
+use Rattle.subst.specs.Bind.{bind, bindOutcome}
+use Rattle.replace.specs.Free.{substitute, freeOutcome}
+use Rattle.replace.specs.Fill.{Quantified, quantifier, other, quantified, keptCount, fill, ofQuantified, fillOutcome}
+use Rattle.replace.specs.Prune.{usedPlaces, prune, pruneOutcome}
 use Rattle.one_point.specs.Point.{ofResult, onePoint, pointOutcome}
 use Rattle.sogbayile.specs.Code.{codeOf}
 use Rattle.sogbayile.proofs.CodeLaws.{finish-short}
 
-abbrev pub Short : Outcome → Type 0
+unfoldable pub Short : Outcome → Type 0
 Short o = lengthOf (told o) ≤ 8192
 
 -- the upper 32 bits are the number, the lower ones the length
 pub code-read : (o : Outcome) → Short o → (codeOf (told o) / 2 ^ 32 ≡ number (told o)) × (codeOf (told o) % 2 ^ 32 ≡ lengthOf (told o))
+unfolding Short
 code-read (answer ws) h = (omega (arith, h), omega (arith, h))
 code-read (refusal k) h = (omega arith, omega arith)
 
 -- the parts of the definitions
-pick-short : (k : ℕ) (b : Bool) (o : Outcome) → Short o → Short (pick b o (refusal k))
-pick-short k true o h = h
-pick-short k false o h = omega arith
+refused : (k : ℕ) → Short (refusal k)
+unfolding Short
+refused k = omega arith
+
+finished : (s : Sort) (room : ℕ) (g : Form) → Short (finish s room g)
+unfolding Short
+finished s room g = finish-short s room g
+
+answered : (ws : List ℕ) → length ws ≤ 8192 → Short (answer ws)
+unfolding Short
+answered ws h = h
+
+tested : (k : ℕ) (b : Bool) (o : Outcome) → Short o → Short (needs k b o)
+tested k true o h = h
+tested k false o h = refused k
 
 form-short : (kind : Kind) (row : List ℕ) (go : Sort → Form → Outcome) → ((s : Sort) (f : Form) → Short (go s f)) → Short (withForm kind row go)
-form-short kind row go h = pick-short 1 (leb (length row) 8192) (ofFound go (formOf kind row)) (by (formOf kind row))
+form-short kind row go h = tested 1 (leb (length row) 8192) (ofFound go (formOf kind row)) (by (formOf kind row))
   where
     by : (o : Found) → Short (ofFound go o)
     by (found s f) = h s f
-    by missing = omega arith
+    by missing = refused 2
 
 list-short : (kind : ListKind) (row : List ℕ) (go : List Entry → Outcome) → ((es : List Entry) → Short (go es)) → Short (withList kind row go)
-list-short kind row go h = pick-short 1 (leb (length row) 8192) (ofList go (listOf kind row)) (by (listOf kind row))
+list-short kind row go h = tested 1 (leb (length row) 8192) (ofList go (listOf kind row)) (by (listOf kind row))
   where
     by : (o : Option (List Entry)) → Short (ofList go o)
     by (some es) = h es
-    by absent = omega arith
+    by absent = refused 2
 
 quantified-short : (go : ℕ → List ℕ → Form → Outcome) (k : ℕ) (q : Quantified) → ((t : ℕ) (ns : List ℕ) (b : Form) → Short (go t ns b)) → Short (ofQuantified go k q)
 quantified-short go k (quantifier t ns b) h = h t ns b
-quantified-short go k other h = omega arith
+quantified-short go k other h = refused k
 
 -- the rewritings
 pub shift-short : (row : List ℕ) (offset : ℤ) (room : ℕ) → Short (shiftOutcome row offset room)
@@ -67,33 +80,33 @@ unfolding shiftOutcome
 shift-short row offset room = form-short Either row (λ s f. ofShifted s room (shift offset f)) (λ s f. by s (shift offset f))
   where
     by : (s : Sort) (g : Shifted) → Short (ofShifted s room g)
-    by s (shifted g) = finish-short s room g
-    by s captured = omega arith
+    by s (shifted g) = finished s room g
+    by s captured = refused 6
 
 pub bind-short : (names row : List ℕ) (room : ℕ) → Short (bindOutcome names row room)
 unfolding bindOutcome
-bind-short names row room = form-short Either row _ (λ s f. pick-short 1 _ _ (pick-short 4 _ _ (finish-short s room _)))
+bind-short names row room = form-short Either row _ (λ s f. tested 1 (leb (length names) 8192) _ (tested 4 (goodNames names) _ (finished s room (bind names f))))
 
 pub free-short : (list row : List ℕ) (work room : ℕ) → Short (freeOutcome list row work room)
 unfolding freeOutcome
-free-short list row work room = pick-short 15 _ _ (form-short Either row _ (λ s f. list-short Pairs list _ (λ es. pick-short 4 _ _ (finish-short s room _))))
+free-short list row work room = tested 15 (leb 16384 work) _ (form-short Either row _ (λ s f. list-short Pairs list _ (λ es. tested 4 (goodNames (map wordOf es)) _ (finished s room (substitute es f)))))
 
 pub fill-short : (list row : List ℕ) (work room : ℕ) → Short (fillOutcome list row work room)
 unfolding fillOutcome
 fill-short list row work room =
-    pick-short 15 _ _ (form-short Predicate row _ (λ s f. list-short Places list _ (λ es. quantified-short _ 3 (quantified f) (λ t ns b. pick-short 5 _ _ (finish-short pred room _)))))
+    tested 15 (leb 16384 work) _ (form-short Predicate row _ (λ s f. list-short Places list _ (λ es. quantified-short _ 3 (quantified f) (λ t ns b. tested 5 (eqb (length es) (length ns)) _ (finished pred room (fill t ns (map placeOf es) b))))))
 
 pub prune-short : (row : List ℕ) (room : ℕ) → Short (pruneOutcome row room)
 unfolding pruneOutcome
-prune-short row room = form-short Predicate row _ (λ s f. quantified-short _ 3 (quantified f) (λ t ns b. pick-short 9 _ _ (finish-short pred room _)))
+prune-short row room = form-short Predicate row _ (λ s f. quantified-short _ 3 (quantified f) (λ t ns b. tested 9 (not (eqb (keptCount (usedPlaces ns b)) (length ns))) _ (finished pred room (prune t ns b))))
 
 pub point-short : (row : List ℕ) (work room : ℕ) → Short (pointOutcome row work room)
 unfolding pointOutcome
-point-short row work room = pick-short 15 _ _ (form-short Predicate row _ (λ s f. by (onePoint f)))
+point-short row work room = tested 15 (leb 16384 work) _ (form-short Predicate row _ (λ s f. by (onePoint f)))
   where
     by : (o : Option Form) → Short (ofResult room o)
-    by (some g) = finish-short pred room g
-    by absent = omega arith
+    by (some g) = finished pred room g
+    by absent = refused 9
 
 -- the dangling set: an index of it stands in the row
 insert-length : (i : ℕ) (js : List ℕ) → length (insert i js) ≤ 1 + length js
@@ -128,6 +141,9 @@ mutual
       let l = collectAll-length k fs in
       rw (length-append, length-append) (omega (arith, h, l))
 
+abbrev setOutcome : ℕ → Sort → Form → Outcome
+setOutcome room s f = needs 14 (leb (length (danglingSet f)) room) (answer (danglingSet f))
+
 pub dangling-short : (row : List ℕ) (room : ℕ) → Short (danglingOutcome row room)
 unfolding danglingOutcome danglingSet
 dangling-short row room = go (leb (length row) 8192) refl
@@ -140,10 +156,10 @@ dangling-short row room = go (leb (length row) 8192) refl
         let i = insertAll-length [] (collect [] _++_ indexOf 0 f) in
         omega (arith, l, c, i)
 
-    by : (o : Found) → formOf Either row ≡ o → length row ≤ 8192 → Short (ofFound (λ s f. needs 14 (leb (length (danglingSet f)) room) (answer (danglingSet f))) o)
-    by (found s f) e h = pick-short 14 (leb (length (danglingSet f)) room) (answer (danglingSet f)) (set s f e h)
-    by missing e h = omega arith
+    by : (o : Found) → formOf Either row ≡ o → length row ≤ 8192 → Short (ofFound (setOutcome room) o)
+    by (found s f) e h = tested 14 (leb (length (danglingSet f)) room) (answer (danglingSet f)) (answered (danglingSet f) (set s f e h))
+    by missing e h = refused 2
 
-    go : (b : Bool) → leb (length row) 8192 ≡ b → Short (pick b (ofFound (λ s f. needs 14 (leb (length (danglingSet f)) room) (answer (danglingSet f))) (formOf Either row)) (refusal 1))
+    go : (b : Bool) → leb (length row) 8192 ≡ b → Short (needs 1 b (ofFound (setOutcome room) (formOf Either row)))
     go true e = by (formOf Either row) refl (leb-true (length row) 8192 e)
-    go false e = omega arith
+    go false e = refused 1
