@@ -190,79 +190,68 @@ fn run_rows(
     run_call(call, s, &list[..n], &row[..m], work, out);
 }
 
+// A call with rows of its own.
+fn run_fresh(line: &[u8], call: Call, s: Settings) {
+    let mut list = [0u32; 8200];
+    let mut row = [0u32; 8200];
+    let mut work = [0u32; 16400];
+    let mut out = [0u32; 8200];
+    run_rows(line, call, s, &mut list, &mut row, &mut work, &mut out);
+}
+
+fn run_places(line: &[u8], n: usize, force: bool) {
+    let mut row = [0u32; 8200];
+    places::run(field(line, 4), &mut row, n, force);
+}
+
 // A set of places, or a call with rows.
-fn run_kind(
-    line: &[u8],
-    call: Call,
-    s: Settings,
-    list: &mut [u32],
-    row: &mut [u32],
-    work: &mut [u32],
-    out: &mut [u32],
-) {
+fn run_kind(line: &[u8], call: Call, s: Settings) {
     let n = usize_of(s.param);
     match call {
-        Call::New => places::run(field(line, 4), row, n, false),
-        Call::Forced => places::run(field(line, 4), row, n, true),
-        _ => run_rows(line, call, s, list, row, work, out),
+        Call::New => run_places(line, n, false),
+        Call::Forced => run_places(line, n, true),
+        _ => run_fresh(line, call, s),
     }
 }
 
-fn run_case(line: &[u8], list: &mut [u32], row: &mut [u32], work: &mut [u32], out: &mut [u32]) {
+fn run_case(line: &[u8]) {
     print::text(field(line, 0));
     print::text(b":");
     let call = call_of(field(line, 1));
     let s = settings_of(field(line, 2));
-    run_kind(line, call, s, list, row, work, out);
+    run_kind(line, call, s);
     print::text(b"\n");
 }
 
 // The case that starts here: where the next one does.
-fn step(
-    input: &[u8],
-    list: &mut [u32],
-    row: &mut [u32],
-    work: &mut [u32],
-    out: &mut [u32],
-    at: usize,
-) -> usize {
+fn step(input: &[u8], at: usize) -> usize {
     let end = find(input, at, b'\n');
-    run_case(text::part(input, at, end), list, row, work, out);
+    run_case(text::part(input, at, end));
     if input.len() <= end {
         return input.len();
     }
     end + 1
 }
 
-fn run(input: &[u8], list: &mut [u32], row: &mut [u32], work: &mut [u32], out: &mut [u32]) {
+fn run(input: &[u8]) {
     let mut at = 0;
     let mut left = input.len();
     while left > 0 && at < input.len() {
-        at = step(input, list, row, work, out, at);
+        at = step(input, at);
         left -= 1;
     }
 }
 
-fn read_and_run(
-    input: &mut [u8],
-    list: &mut [u32],
-    row: &mut [u32],
-    work: &mut [u32],
-    out: &mut [u32],
-) {
+fn read_and_run(input: &mut [u8]) {
     let n = io::read_full(STDIN_FILENO, input);
     if input.len() <= n {
         print::text(b"too long\n");
         return;
     }
-    run(&input[..n], list, row, work, out);
+    run(&input[..n]);
 }
 
 fn main() {
     let mut input = [0u8; 65536];
-    let mut list = [0u32; 8200];
-    let mut row = [0u32; 8200];
-    let mut work = [0u32; 16400];
-    let mut out = [0u32; 8200];
-    read_and_run(&mut input, &mut list, &mut row, &mut work, &mut out);
+    read_and_run(&mut input);
 }

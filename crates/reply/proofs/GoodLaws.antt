@@ -26,6 +26,7 @@ use Rattle.replace.specs.Free.{substitute, freeOutcome}
 use Rattle.replace.specs.Fill.{Quantified, quantifier, other, quantified, ofQuantified, keptCount, fill, fillOutcome}
 use Rattle.replace.specs.Prune.{usedPlaces, prune, pruneOutcome}
 use Rattle.one_point.specs.Point.{onePoint, ofResult, pointOutcome}
+use Rattle.one_point.specs.Member.{membership, memberOutcome}
 use Rattle.line.specs.Spell.{digits, decimal, spell, spellNo, printOutcome, printNo}
 use Rattle.line.specs.Line.{Formed, formed, readLine}
 use Rattle.line.proofs.PrintLaws.{spell-few}
@@ -110,6 +111,10 @@ good-point : (row : List ℕ) (work room : ℕ) → Good (pointOutcome row work 
 unfolding pointOutcome
 good-point row work room = good-needs 15 (leb 16384 work) _ (good-form Predicate row _ (λ s f. good-result room (onePoint f)))
 
+good-member : (row : List ℕ) (work room : ℕ) → Good (memberOutcome row work room)
+unfolding memberOutcome
+good-member row work room = good-needs 15 (leb 16384 work) _ (good-form Predicate row _ (λ s f. good-result room (membership f)))
+
 good-gate : (g : Outcome → Outcome) → Gate g → (o : Outcome) → Good o → Good (g o)
 good-gate g (passes h) o k = rw (h o) k
 good-gate g (refuses n h) o k = rw (h o) tt
@@ -121,7 +126,7 @@ good-command Bind z listText list text row work room = good-gate _ (form-tests E
 good-command Fill z listText list text row work room = good-gate _ (form-tests Predicate text row .gate) _ (good-gate _ (list-tests Places listText list .gate) _ (good-fill list row work room))
 good-command Prune z listText list text row work room = good-gate _ (form-tests Predicate text row .gate) _ (good-prune row room)
 good-command Point z listText list text row work room = good-gate _ (form-tests Predicate text row .gate) _ (good-point row work room)
-good-command Member z listText list text row work room = tt
+good-command Member z listText list text row work room = good-gate _ (form-tests Predicate text row .gate) _ (good-member row work room)
 
 pub good-line : (line : List ℕ) (list form work room : ℕ) → Good (lineOutcome line list form work room)
 unfolding lineOutcome

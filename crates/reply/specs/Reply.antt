@@ -17,6 +17,7 @@ use Rattle.replace.specs.Free.{freeOutcome}
 use Rattle.replace.specs.Fill.{fillOutcome}
 use Rattle.replace.specs.Prune.{pruneOutcome}
 use Rattle.one_point.specs.Point.{pointOutcome}
+use Rattle.one_point.specs.Member.{memberOutcome}
 use Rattle.line.specs.Spell.{fitsForm, fitsList, fitsNames, printOutcome, printNo}
 use Rattle.line.specs.Line.{Formed, formed, readLine, listRow}
 use Rattle.line.specs.declared.head.Head.{Head}
@@ -38,8 +39,7 @@ spelledList kind text row o = withList kind row (λ es. needs 8 (fitsList kind t
 unfoldable pub spelledNames : List ℕ → List ℕ → Outcome → Outcome
 spelledNames text row o = within row (needs 8 (fitsNames text row) o)
 
--- the list's text and row, the form's text and row, and the room in the work row and in the output; a head whose command is not there is
--- an unknown head
+-- the list's text and row, the form's text and row, and the room in the work row and in the output
 abbrev pub commandOutcome : Head → ℤ → List ℕ → List ℕ → List ℕ → List ℕ → ℕ → ℕ → Outcome
 commandOutcome Shift z listText list text row work room = spelledForm Either text row (shiftOutcome row z room)
 commandOutcome Free z listText list text row work room = spelledForm Either text row (spelledList Pairs listText list (freeOutcome list row work room))
@@ -47,7 +47,7 @@ commandOutcome Bind z listText list text row work room = spelledForm Either text
 commandOutcome Fill z listText list text row work room = spelledForm Predicate text row (spelledList Places listText list (fillOutcome list row work room))
 commandOutcome Prune z listText list text row work room = spelledForm Predicate text row (pruneOutcome row room)
 commandOutcome Point z listText list text row work room = spelledForm Predicate text row (pointOutcome row work room)
-commandOutcome Member z listText list text row work room = refusal 8
+commandOutcome Member z listText list text row work room = spelledForm Predicate text row (memberOutcome row work room)
 
 abbrev pub ofLine : List ℕ → ℕ → ℕ → Formed → Outcome
 ofLine line work room (formed (Command p) ws) =

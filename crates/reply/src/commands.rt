@@ -11,7 +11,7 @@ ghost use lib.IntN.{pos};
 ghost use lib.ListN.{length};
 ghost use Rattle.form.specs.Answer.{told, written};
 ghost use Rattle.line.specs.Line.{noList, listRow};
-ghost use Rattle.line.specs.declared.head.Head.the-variants.{Shift, Free, Bind, Fill, Prune, Point};
+ghost use Rattle.line.specs.declared.head.Head.the-variants.{Shift, Free, Bind, Fill, Prune, Point, Member};
 ghost use Rattle.reply.specs.Internal.Parts.{Held, HeldBoth, formWords, partsOutcome};
 
 pub(crate) fn shift_part(
@@ -140,4 +140,23 @@ pub(crate) fn point_part(
         return checked;
     };
     one_point::one_point_inference::one_point_inference(&row[..count], work, result)
+}
+
+pub(crate) fn member_part(
+    line: &[u8],
+    row: &[u32],
+    part: Part,
+    work: &mut [u32],
+    result: &mut [u32],
+) -> Answer
+    requires { ⌜ Held (now line) (now row) (formWords (now line)) part ⌝ }
+    ensures { λ r. ⌜ r ≡ told (partsOutcome Member (pos 0) (now (line .entry)) noList part (length (now (work .entry))) (length (now (result .entry)))) ⌝ }
+    ensures { λ _. ⌜ now (result .exit) ≡ written (partsOutcome Member (pos 0) (now (line .entry)) noList part (length (now (work .entry))) (length (now (result .entry)))) (now (result .entry)) ⌝ }
+{
+    let count = part.count;
+    let checked = check_form_part(line, row, part, Kind::Predicate);
+    let Answer::Done(m) = checked else {
+        return checked;
+    };
+    one_point::rewrite_in_compset::rewrite_in_compset(&row[..count], work, result)
 }

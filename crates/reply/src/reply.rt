@@ -2,6 +2,7 @@
 use crate::commands::bind_part;
 use crate::commands::fill_part;
 use crate::commands::free_part;
+use crate::commands::member_part;
 use crate::commands::point_part;
 use crate::commands::prune_part;
 use crate::commands::shift_part;
@@ -54,7 +55,7 @@ pub fn answer_line(
         Head::Fill => fill_part(line, list, form, parts.list, parts.form, work, result),
         Head::Prune => prune_part(line, form, parts.form, result),
         Head::Point => point_part(line, form, parts.form, work, result),
-        Head::Member => Answer::No(8),
+        Head::Member => member_part(line, form, parts.form, work, result),
     }
 }
 

@@ -14,6 +14,7 @@ use Rattle.line.proofs.line.read_line.Reads as read-line-reads
 use Rattle.reply.proofs.commands.bind_part.Reads as bind-part-reads
 use Rattle.reply.proofs.commands.fill_part.Reads as fill-part-reads
 use Rattle.reply.proofs.commands.free_part.Reads as free-part-reads
+use Rattle.reply.proofs.commands.member_part.Reads as member-part-reads
 use Rattle.reply.proofs.commands.point_part.Reads as point-part-reads
 use Rattle.reply.proofs.commands.prune_part.Reads as prune-part-reads
 use Rattle.reply.proofs.commands.shift_part.Reads as shift-part-reads
@@ -81,6 +82,9 @@ point-part-requires c κs = (held-form (c .before .before .before .before .befor
 
 enum-told-8 : tie.Need-enum-told-8
 enum-told-8 c = search needs
+
+member-part-requires : tie.Need-member-part-requires
+member-part-requires c κs = (held-form (c .before .before .before .before .before .before .before .before .before .before .before .before .before .before .before .before .before .before .before .before .before .before .args .line .now) (length (c .before .before .before .before .before .before .before .before .before .before .before .before .before .before .before .before .before .before .before .before .before .before .args .list .now)) (length (c .before .before .before .before .before .before .before .before .before .before .before .before .before .before .before .before .before .before .before .before .before .before .args .form .now)) (length (c .before .before .before .before .before .before .before .before .before .before .before .before .before .before .before .before .before .before .before .before .before .before .args .work .now)) (length (c .before .before .before .before .before .before .before .before .before .before .before .before .before .before .before .before .before .before .before .before .before .before .args .result .now)) (sym (c .before .before .before .before .before .before .before .before .before .before .before .before .before .before .before .before .are-enough .ensures) ∙ not-false _ (c .before .before .before .before .before .before .before .before .before .before .before .before .before .before .before .if1 .left)) _ (c .before .before .before .before .before .before .before .before .before .before .before .before .read-line .ensures .0) _ (c .before .before .before .before .before .before .parts .given .1) (c .before .before .before .before .before .before .before .before .before .before .before .before .before .before .before .before .before .before .before .before .before .before .args .form .now) _ refl (c .before .before .before .before .before .before .before .before .before .before .before .before .read-line .ensures .1 .1) (c .before .before .before .before .before .before .before .before .before .before .before .before .read-line .kept .1 .1 .0))
 
 same-length-3 : tie.Need-same-length-3
 same-length-3 c = search needs
@@ -169,8 +173,14 @@ same-length-24 c = search needs
 same-length-25 : tie.Need-same-length-25
 same-length-25 c = search needs
 
+same-length-26 : tie.Need-same-length-26
+same-length-26 c = search needs
+
+same-length-27 : tie.Need-same-length-27
+same-length-27 c = search needs
+
 returns-9 : tie.Need-returns-9
-returns-9 c = command-said (c .before .before .before .before .before .before .before .before .before .before .before .before .before .before .before .before .before .before .before .args .line .now) (length (c .before .before .before .before .before .before .before .before .before .before .before .before .before .before .before .before .before .before .before .args .list .now)) (length (c .before .before .before .before .before .before .before .before .before .before .before .before .before .before .before .before .before .before .before .args .form .now)) (length (c .before .before .before .before .before .before .before .before .before .before .before .before .before .before .before .before .before .before .before .args .work .now)) (length (c .before .before .before .before .before .before .before .before .before .before .before .before .before .before .before .before .before .before .before .args .result .now)) (sym (c .before .before .before .before .before .before .before .before .before .before .before .before .before .are-enough .ensures) ∙ not-false _ (c .before .before .before .before .before .before .before .before .before .before .before .before .if1 .left)) _ (c .before .before .before .before .before .before .before .before .before .read-line .ensures .0) _ (c .before .before .before .parts .given .1) Member (c .enum-told8 .given .1) _ _ _ (refl, refl)
+returns-9 c = command-said (c .before .before .before .before .before .before .before .before .before .before .before .before .before .before .before .before .before .before .before .before .before .before .before .before .before .before .before .args .line .now) (length (c .before .before .before .before .before .before .before .before .before .before .before .before .before .before .before .before .before .before .before .before .before .before .before .before .before .before .before .args .list .now)) (length (c .before .before .before .before .before .before .before .before .before .before .before .before .before .before .before .before .before .before .before .before .before .before .before .before .before .before .before .args .form .now)) (length (c .before .before .before .before .before .before .before .before .before .before .before .before .before .before .before .before .before .before .before .before .before .before .before .before .before .before .before .args .work .now)) (length (c .before .before .before .before .before .before .before .before .before .before .before .before .before .before .before .before .before .before .before .before .before .before .before .before .before .before .before .args .result .now)) (sym (c .before .before .before .before .before .before .before .before .before .before .before .before .before .before .before .before .before .before .before .before .before .are-enough .ensures) ∙ not-false _ (c .before .before .before .before .before .before .before .before .before .before .before .before .before .before .before .before .before .before .before .before .if1 .left)) _ (c .before .before .before .before .before .before .before .before .before .before .before .before .before .before .before .before .before .read-line .ensures .0) _ (c .before .before .before .before .before .before .before .before .before .before .before .parts .given .1) Member (c .before .before .before .before .before .before .before .before .enum-told8 .given .1) _ _ _ (c .before .before .before .before .member-part .ensures)
 
 pub answer-line-spec : {M : Type 1} → statement M
 answer-line-spec =
@@ -197,6 +207,7 @@ answer-line-spec =
     enum-told-7
     point-part-requires
     enum-told-8
+    member-part-requires
     same-length-3
     same-length-4
     same-length-5
@@ -226,4 +237,6 @@ answer-line-spec =
     returns-8
     same-length-24
     same-length-25
+    same-length-26
+    same-length-27
     returns-9)
