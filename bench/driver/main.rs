@@ -297,6 +297,8 @@ fn run() {
                 for many in [false, true] {
                     let mut rng = Rng(0x9e37_79b9_7f4a_7c15);
                     let class = Class { words, deep, many };
+                    // short rows take more rounds, so that theirs last long enough to meet a quiet moment
+                    let rounds = rounds * (2000 / words).clamp(1, 30);
                     let (mean, t) = measure(op, class, rounds, &mut rng, &trees, &mut r);
                     println!(
                         "{name},{},{},{},{mean:.0},{:.1},{:.1},{:.1},{:.1},{:.1}",
