@@ -51,7 +51,7 @@ def table(best, op):
 
 def draw(best, ops, sizes, path):
     width, height, left, top = 300, 220, 46, 30
-    low, high = -1, 4
+    low, high = -1, 3
     out = ['<svg xmlns="http://www.w3.org/2000/svg" width="%d" height="%d" font-family="sans-serif" font-size="11">'
            % (3 * width, 2 * height + 40), '<rect width="100%" height="100%" fill="white"/>']
     for n, op in enumerate(ops):

@@ -19,9 +19,9 @@ use Rattle.form.specs.declared.answer.Answer.the-variants.{Done, No}
 use Rattle.form.proofs.DecodeLaws.{clash}
 use Rattle.subst.specs.Walk.{Outer, named, dangling, lift, each}
 use Rattle.subst.specs.Dangling.{isNamed, closed}
-use Rattle.subst.specs.Lift.{Part, base, copy, empty, ofCopy, liftFound, liftPart, partWords, partAt}
+use Rattle.subst.specs.Lift.{Part, base, copy, empty, ofCopy, liftFound, liftPart, partWords, partAt, workAfter}
 use Rattle.subst.specs.Internal.Items.{items, allItems, itemIn, shiftWords}
-use Rattle.subst.specs.Internal.Lifting.{madeOf, workAfter, chosen, chosenAt}
+use Rattle.subst.specs.Internal.Lifting.{madeOf, chosen, chosenAt}
 use Rattle.subst.specs.declared.lift.Made.{Made}
 use Rattle.subst.specs.declared.lift.Made.the-variants.{Base, Copy, Nothing}
 use Rattle.subst.proofs.WalkLaws.{each-same}

@@ -1,9 +1,9 @@
 -- Lift: a part of the base row or of the work row.
 use mathlib.Core.Bool.{Bool, true, false, _||_}
-use mathlib.Core.List.{List, []}
+use mathlib.Core.List.{List, [], _++_}
 use Prim.Native.Nat.{ℕ}
 use lib.Dec.{leb, eqb}
-use lib.ListN.{length}
+use lib.ListN.{length, drop}
 use Rattle.form.specs.Form.{Form, pick}
 use Rattle.form.specs.Decode.{Found, found, missing, formOf}
 use Rattle.form.specs.Answer.{Outcome, answer, refusal, finish}
@@ -39,3 +39,9 @@ abbrev pub partAt : ℕ × ℕ → ℕ × ℕ → Part → ℕ × ℕ
 partAt row work base = row
 partAt row work (copy ws) = work
 partAt row work empty = row
+
+-- the work row afterwards, where it is told: a copy stands at its start
+abbrev pub workAfter : Part → List ℕ → List ℕ
+workAfter base work = work
+workAfter (copy ws) work = ws ++ drop (length ws) work
+workAfter empty work = work

@@ -6,9 +6,9 @@ use form::answer::Kind;
 use form::answer::Limit;
 ghost use mathlib.Core.Path.{_≡_};
 ghost use lib.ListN.{length};
-ghost use Rattle.subst.specs.Lift.{liftPart, partWords, partAt};
+ghost use Rattle.subst.specs.Lift.{liftPart, partWords, partAt, workAfter};
 ghost use Rattle.subst.specs.Internal.Items.{Fresh};
-ghost use Rattle.subst.specs.Internal.Lifting.{madeOf, workAfter, chosen, chosenAt};
+ghost use Rattle.subst.specs.Internal.Lifting.{madeOf, chosen, chosenAt};
 
 // Which part is the answer: all of the base, the first words of the work row, or none.
 pub enum Made {

@@ -1,8 +1,8 @@
--- Lift, part by part: which part the code made, and what the work row then holds.
-use mathlib.Core.List.{List, [], _++_}
+-- Lift, part by part: which part the code made.
+use mathlib.Core.List.{List, []}
 use Prim.Native.Nat.{ℕ}
 use lib.Dec.{leb}
-use lib.ListN.{length, take, drop}
+use lib.ListN.{length, take}
 use Rattle.form.specs.Form.{pick}
 use Rattle.subst.specs.Lift.{Part, base, copy, empty}
 use Rattle.subst.specs.declared.lift.Made.{Made}
@@ -12,11 +12,6 @@ abbrev pub madeOf : Part → Made
 madeOf base = Base
 madeOf (copy ws) = Copy (length ws)
 madeOf empty = Nothing
-
-abbrev pub workAfter : Part → List ℕ → List ℕ
-workAfter base work = work
-workAfter (copy ws) work = ws ++ drop (length ws) work
-workAfter empty work = work
 
 abbrev pub chosen : List ℕ → List ℕ → Made → List ℕ
 chosen row work Base = row
