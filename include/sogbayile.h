@@ -46,7 +46,7 @@ enum {
 };
 
 #define SGB_MAX_WORDS 8192    /* of a row; an output row of this length is never too short */
-#define SGB_WORK_WORDS 16384  /* of a work row of free, fill and point */
+#define SGB_WORK_WORDS 16384  /* of a work row of free, fill, point and member */
 #define SGB_PLACES 32         /* of a set of places */
 
 /* The number of the refusal, or 0; and the length. */
@@ -96,6 +96,11 @@ uint64_t sgb_prune(const uint32_t *row, size_t row_len, uint32_t *out, size_t ou
 
 /* Reduces a quantified predicate by the first equality that its body offers. 15, 1, 2, 9, 7, 14. */
 uint64_t sgb_point(const uint32_t *row, size_t row_len, uint32_t *work, size_t work_len,
+                   uint32_t *out, size_t out_len);
+
+/* An element of a comprehension (107 with 803 on its right) as an existence, filled as far as its equalities fix it.
+ * 15, 1, 2, 9, 7, 14. */
+uint64_t sgb_member(const uint32_t *row, size_t row_len, uint32_t *work, size_t work_len,
                    uint32_t *out, size_t out_len);
 
 /* A set of places for n declarations: for each, the first declaration's first, where its replacement starts and

@@ -10,7 +10,7 @@ pub mod text;
 
 /// The limit of words of a row: an `out` of this length is never too short.
 pub const MAX_WORDS: usize = 8192;
-/// The words that [`free`], [`fill`] and [`point`] need of `work`.
+/// The words that [`free`], [`fill`], [`point`] and [`member`] need of `work`.
 pub const WORK_WORDS: usize = 16384;
 /// The limit of declarations of one quantifier, and of places of a set.
 pub const MAX_PLACES: usize = 32;
@@ -125,6 +125,7 @@ mod c {
         ) -> u64;
         pub fn sgb_prune(row: *const u32, n: usize, out: *mut u32, room: usize) -> u64;
         pub fn sgb_point(row: *const u32, n: usize, work: *mut u32, work_n: usize, out: *mut u32, room: usize) -> u64;
+        pub fn sgb_member(row: *const u32, n: usize, work: *mut u32, work_n: usize, out: *mut u32, room: usize) -> u64;
         pub fn sgb_places(n: usize, starts: *mut usize, ends: *mut usize) -> u64;
         pub fn sgb_offer(n: usize, starts: *mut usize, ends: *mut usize, row: *const u32, row_n: usize) -> u64;
     }
@@ -241,6 +242,13 @@ pub fn prune(row: &[u32], out: &mut [u32]) -> Result<usize, Refusal> {
 pub fn point(row: &[u32], work: &mut [u32], out: &mut [u32]) -> Result<usize, Refusal> {
     length(unsafe {
         c::sgb_point(row.as_ptr(), row.len(), work.as_mut_ptr(), work.len(), out.as_mut_ptr(), out.len())
+    })
+}
+
+/// Turns an element of a comprehension into an existence.
+pub fn member(row: &[u32], work: &mut [u32], out: &mut [u32]) -> Result<usize, Refusal> {
+    length(unsafe {
+        c::sgb_member(row.as_ptr(), row.len(), work.as_mut_ptr(), work.len(), out.as_mut_ptr(), out.len())
     })
 }
 

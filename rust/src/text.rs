@@ -99,7 +99,7 @@ fn command(line: &str) -> Option<Command<'_>> {
             list = got;
             rest.strip_prefix(' ')?
         }
-        "prune" | "point" => rest,
+        "prune" | "point" | "member" => rest,
         _ => return None,
     };
     let (form, rest) = group(rest, false)?;
@@ -204,7 +204,7 @@ impl Runner {
         let c = command(line).ok_or(Refusal::NotACommand)?;
         let (form, list) = (&c.form.row, &c.list.row);
         match c.head {
-            "fill" | "prune" | "point" => crate::check_predicate(form)?,
+            "fill" | "prune" | "point" | "member" => crate::check_predicate(form)?,
             _ => crate::check(form)?,
         }
         held(&c.form, spell(form))?;
@@ -229,7 +229,8 @@ impl Runner {
             "bind" => crate::bind(list, form, &mut self.out)?,
             "fill" => crate::fill(list, form, &mut self.work, &mut self.out)?,
             "prune" => crate::prune(form, &mut self.out)?,
-            _ => crate::point(form, &mut self.work, &mut self.out)?,
+            "point" => crate::point(form, &mut self.work, &mut self.out)?,
+            _ => crate::member(form, &mut self.work, &mut self.out)?,
         };
         Ok(&self.out[..n])
     }

@@ -3,6 +3,7 @@ use crate::code::code_of;
 use crate::code::part_code;
 use form::answer::Limit;
 use one_point::one_point_inference::one_point_inference;
+use one_point::rewrite_in_compset::rewrite_in_compset;
 use replace::fill::instantiate;
 use replace::free::substitute_free_idents;
 use replace::prune::remove_unused_decls;
@@ -21,6 +22,7 @@ ghost use Rattle.replace.specs.Fill.{fillOutcome};
 ghost use Rattle.replace.specs.Free.{freeOutcome};
 ghost use Rattle.replace.specs.Prune.{pruneOutcome};
 ghost use Rattle.one_point.specs.Point.{pointOutcome};
+ghost use Rattle.one_point.specs.Member.{memberOutcome};
 ghost use Rattle.sogbayile.specs.Code.{codeOf, partCode};
 
 // The dangling set of the form in the row, in rising order.
@@ -97,4 +99,13 @@ pub extern "C" fn sgb_point(row: &[u32], work: &mut [u32], out: &mut [u32]) -> u
     ensures { λ _. ⌜ now (out .exit) ≡ written (pointOutcome (now (row .entry)) (length (now (work .entry))) (length (now (out .entry)))) (now (out .entry)) ⌝ }
 {
     code_of(one_point_inference(row, work, out))
+}
+
+// Turns an element of a comprehension into an existence.
+#[no_mangle]
+pub extern "C" fn sgb_member(row: &[u32], work: &mut [u32], out: &mut [u32]) -> u64
+    ensures { λ r. ⌜ r ≡ codeOf (told (memberOutcome (now (row .entry)) (length (now (work .entry))) (length (now (out .entry))))) ⌝ }
+    ensures { λ _. ⌜ now (out .exit) ≡ written (memberOutcome (now (row .entry)) (length (now (work .entry))) (length (now (out .entry)))) (now (out .entry)) ⌝ }
+{
+    code_of(rewrite_in_compset(row, work, out))
 }
