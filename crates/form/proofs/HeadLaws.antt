@@ -212,8 +212,18 @@ unfolding headAt
 few-head b p x y z (head o ds p′ e′ r) f e = let q : length ds ≡ z = cc in omega arith
 few-head b p x y z bad f e = absurd (clash cc)
 
-pub few : (b p x y z : ℕ) (s : Shape) (l : List ℕ) {h : code.Head} → h ≡ headAt b (read (ownOf s) l) → h ≡ Kids p x y z → z ≤ 32
-few b p x y z s l e k = few-head b p x y z (read (ownOf s) l) (few-read (ownOf s) l (few-own s)) (sym e ∙ k)
+pub few : (b p x y z : ℕ) (s : Sort) (t : ℕ) (l : List ℕ) {h : code.Head} → h ≡ headAt b (read (own s t) l) → h ≡ Kids p x y z → z ≤ 32
+unfolding own
+few b p x y z s t l e k = few-head b p x y z (read (own s t) l) (few-read (ownOf (shapeOf s t)) l (few-own (shapeOf s t))) (sym e ∙ k)
+
+-- the head of a tag from the head of its shape
+pub shape-head : (b : ℕ) (s : Sort) (t : ℕ) (l : List ℕ) {sh : Shape} {h : code.Head} → sh ≡ shapeOf s t → h ≡ headAt b (read (ownOf sh) l) → h ≡ headAt b (read (own s t) l)
+unfolding own
+shape-head b s t l e k = rw e at k
+
+pub plain-head : (b : ℕ) (s : Sort) (t p x : ℕ) (l : List ℕ) {sh : Shape} → sh ≡ shapeOf s t → sh ≡ Plain p x → Kids b p x 0 ≡ headAt b (read (own s t) l)
+unfolding own ownOf
+plain-head b s t p x l e k = rw (← e, k) (sym (no-kids b p x l))
 
 fewer-read : (s : Sort) (t : ℕ) (l o ds : List ℕ) (p e : ℕ) (r : List ℕ) (h : Head) → read (own s t) l ≡ h → h ≡ head o ds p e r → Fewer h → length ds ≤ 32
 fewer-read s t l o ds p e r (head o′ ds′ p′ e′ r′) q k f = let z : ds′ ≡ ds = cc in rw z at f

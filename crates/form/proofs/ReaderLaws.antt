@@ -1,18 +1,17 @@
 -- What the readers of expressions and predicates tell of a position, and the marks that they leave. Assumes nothing.
 use mathlib.Core.Path.{_≡_, refl, ap, sym, _∙_}
-use mathlib.Core.Bool.{Bool, true, false}
+use mathlib.Core.Bool.{Bool, true, false, _&&_}
 use mathlib.Core.List.{List, [], _∷_, _++_}
 use Prim.Native.Nat.{ℕ, zero, suc, _+_, _-_, _≤_, _<_}
-use native.Mathlib.Numerals.{sub-one}
+use native.Mathlib.Numerals.{add-one, sub-one}
 use native.Mathlib.Omega.{arith}
-use borrow.Author.Tests.{le-leb, lt-leb}
+use borrow.Author.Tests.{le-leb, lt-leb, leb-true}
 use lib.Dec.{leb}
-use lib.ListN.{length, getD, drop, set, replicate, length-append}
+use lib.ListN.{length, getD, drop, set, replicate, length-append, length-drop}
 use Rattle.form.specs.Form.{Leaf, Form, leaf, node, Forms, none, more, pick, encode, encodeAll}
-use Rattle.form.specs.Tag.{Sort, own, ownOf, shapeOf, sorts}
+use Rattle.form.specs.Tag.{Sort, expr, own, ownOf, shapeOf, exprTags, sorts}
 use Rattle.form.specs.Decode.{Head, head, bad, read, Got, got, no-form, Gots, gots, no-forms, first, leafAt, isLeaf, make, addForm, close, chain, decodeAll, branch, decode}
-use Rattle.form.specs.Internal.Reads.{headAt, mark, markAll, markTag, Told, ToldAll, decodeIn}
-use Rattle.form.specs.declared.tag.Shape.{Shape}
+use Rattle.form.specs.Internal.Reads.{headAt, mark, markAll, markTag, startsLeaf, Told, ToldAll, decodeIn}
 use Rattle.form.specs.declared.head.Step.{Step}
 use Rattle.form.specs.declared.head.Step.the-variants.{End, Bad}
 use Rattle.form.specs.declared.head.Head as code
@@ -205,25 +204,108 @@ module _ (s : Sort) (row : List ℕ) (at u : ℕ) where
   unfolding decode
   node-here d h = rw (here row at h) refl
 
-  module _ {sh : Shape} {h : code.Head} (low : at < length row) (tag : sh ≡ shapeOf s (getD row at 0)) (hd : h ≡ headAt (at + 1) (read (ownOf sh) (drop (at + 1) row))) where
-    own-here : h ≡ headAt (at + 1) (read (own s (getD row at 0)) (drop (at + 1) row))
-    unfolding own
-    own-here = rw tag at hd
-
+  module _ {h : code.Head} (low : at < length row) (hd : h ≡ headAt (at + 1) (read (own s (getD row at 0)) (drop (at + 1) row))) where
     pub no-own : (d : ℕ) (a b : List ℕ) → (d ≡ 0 → ⊥) → h ≡ None → Told at u (decode d s (drop at row)) a b Bad
     no-own zero a b ne e = absurd (ne refl)
-    no-own (suc d) a b ne e = rw (node-here d low) (branch-bad d (getD row at 0) _ a b (sym own-here ∙ e))
+    no-own (suc d) a b ne e = rw (node-here d low) (branch-bad d (getD row at 0) _ a b (sym hd ∙ e))
 
     pub a-form : (d p x y w : ℕ) (m m₁ m₂ : List ℕ) (r : Step) → (d ≡ 0 → ⊥) → h ≡ Kids p x y w → m₁ ≡ markTag (getD row at 0) at u m
         → ToldAll p (u + w) (decodeAll (λ s l. decode (d - 1) s l) (sorts x y) (drop p row)) m₁ m₂ r → Told at u (decode d s (drop at row)) m m₂ r
     a-form zero p x y w m m₁ m₂ r ne e k t = absurd (ne refl)
-    a-form (suc d) p x y w m m₁ m₂ r ne e k t = rw (node-here d low) (branch-told d (getD row at 0) _ x y w p m m₁ m₂ r refl (sym own-here ∙ e) k (rw sub-one at t))
+    a-form (suc d) p x y w m m₁ m₂ r ne e k t = rw (node-here d low) (branch-told d (getD row at 0) _ x y w p m m₁ m₂ r refl (sym hd ∙ e) k (rw sub-one at t))
 
     pub kids-after : (p x y w : ℕ) → h ≡ Kids p x y w → at < p
-    kids-after p x y w e = go (read (ownOf sh) (drop (at + 1) row)) (sym hd ∙ e)
+    kids-after p x y w e = go (read (own s (getD row at 0)) (drop (at + 1) row)) (sym hd ∙ e)
       where
         go : (z : Head) → headAt (at + 1) z ≡ Kids p x y w → at < p
         go z e = let q = head-rises (at + 1) p x y w z e in omega arith
+
+-- a name or an index, read without the table of tags
+pub leaf-deep : (d : ℕ) (l : List ℕ) → d ≡ 0 → startsLeaf d l ≡ false
+unfolding startsLeaf
+leaf-deep d [] e = refl
+leaf-deep d (t ∷ []) e = refl
+leaf-deep d (t ∷ w ∷ l) e = rw e
+
+module _ (row : List ℕ) (at d : ℕ) where
+  pub leaf-gone : length row ≤ at → startsLeaf d (drop at row) ≡ false
+  unfolding startsLeaf
+  leaf-gone h = rw (gone row at h)
+
+  one-word : at < length row → length row ≤ at + 1 → drop at row ≡ getD row at 0 ∷ []
+  one-word h k = here row at h ∙ rw (gone row (at + 1) k)
+
+  two-words : at + 1 < length row → drop at row ≡ getD row at 0 ∷ (getD row (at + 1) 0 ∷ drop (at + 1 + 1) row)
+  two-words h = here row at (omega arith) ∙ rw (here row (at + 1) h)
+
+  pub leaf-short : at < length row → length row ≤ at + 1 → startsLeaf d (drop at row) ≡ false
+  unfolding startsLeaf
+  leaf-short h k = rw (one-word h k)
+
+  pub leaf-here : (d ≡ 0 → ⊥) → at + 1 < length row → startsLeaf d (drop at row) ≡ (isLeaf (getD row at 0) && leb (getD row (at + 1) 0) 65535)
+  unfolding startsLeaf
+  leaf-here n h = rw (two-words h, le-leb 1 d (pos d n))
+    where
+      pos : (d : ℕ) → (d ≡ 0 → ⊥) → 1 ≤ d
+      pos zero n = absurd (n refl)
+      pos (suc d) n = omega arith
+
+  pub leaf-told : (u : ℕ) (a : List ℕ) → startsLeaf d (drop at row) ≡ true → Told at u (decode d expr (drop at row)) a (set a at (suc u)) (End (at + 2))
+  unfolding decode decodeAll read own ownOf shapeOf exprTags Told encode mark startsLeaf
+  leaf-told u a e = go d (drop at row) e
+    where
+      word-told : (t : ℕ) (d w : ℕ) (ws : List ℕ) → isLeaf t ≡ true → leb w 65535 ≡ true → Told at u (decode (suc d) expr (t ∷ w ∷ ws)) a (set a at (suc u)) (End (at + 2))
+      word-told zero d w ws l e = absurd (clash cc)
+      word-told (suc zero) d w ws l e = rw (le-leb 0 w (omega arith), e) (refl, refl)
+      word-told (suc (suc zero)) d w ws l e = rw (le-leb 0 w (omega arith), e) (refl, refl)
+      word-told (suc (suc (suc t))) d w ws l e = absurd (clash cc)
+
+      both : (t d w : ℕ) (ws : List ℕ) (b c : Bool) → isLeaf t ≡ b → leb w 65535 ≡ c → (b && c) ≡ true → Told at u (decode (suc d) expr (t ∷ w ∷ ws)) a (set a at (suc u)) (End (at + 2))
+      both t d w ws true true l e k = word-told t d w ws l e
+      both t d w ws true false l e k = absurd (clash cc)
+      both t d w ws false c l e k = absurd (clash cc)
+
+      go : (d : ℕ) (l : List ℕ) → startsLeaf d l ≡ true → Told at u (decode d expr l) a (set a at (suc u)) (End (at + 2))
+      go d [] e = absurd (clash cc)
+      go d (t ∷ []) e = absurd (clash cc)
+      go zero (t ∷ w ∷ ws) e = absurd (clash cc)
+      go (suc d) (t ∷ w ∷ ws) e = both t d w ws (isLeaf t) (leb w 65535) refl refl (rw (le-leb 1 (suc d) (omega arith)) at e)
+
+  -- what a true test tells: the depth is not 0, and two words stand here
+  pub leaf-room : startsLeaf d (drop at row) ≡ true → (1 ≤ d) × (at + 1 < length row)
+  unfolding startsLeaf
+  leaf-room e = go d (drop at row) refl e
+    where
+      deep : (d : ℕ) (b c : Bool) → leb 1 d ≡ b → (b && c) ≡ true → 1 ≤ d
+      deep d true c l k = leb-true 1 d l
+      deep d false c l k = absurd (clash cc)
+
+      go : (d : ℕ) (l : List ℕ) → drop at row ≡ l → startsLeaf d l ≡ true → (1 ≤ d) × (at + 1 < length row)
+      go d [] q k = absurd (clash cc)
+      go d (t ∷ []) q k = absurd (clash cc)
+      go d (t ∷ w ∷ ws) q k =
+          let n : length (drop at row) ≡ length (t ∷ w ∷ ws) = ap length q in
+          let m = length-drop at row in
+          (deep d (leb 1 d) (isLeaf t && leb w 65535) refl k, omega arith)
+
+  leaf-was : (b : Bool) (p q : ℕ) (r : Step) → r ≡ pick b (End p) Bad → r ≡ End q → (b ≡ true) × (q ≡ p)
+  leaf-was true p q r e k = (refl, cc)
+  leaf-was false p q r e k = absurd (clash cc)
+
+  leaf-was-not : (b : Bool) (p : ℕ) (r : Step) → r ≡ pick b (End p) Bad → r ≡ Bad → b ≡ false
+  leaf-was-not true p r e k = absurd (clash cc)
+  leaf-was-not false p r e k = refl
+
+  pub leaf-taken : (u q : ℕ) (a m : List ℕ) (r : Step) → r ≡ pick (startsLeaf d (drop at row)) (End (at + 2)) Bad → m ≡ pick (startsLeaf d (drop at row)) (set a at (u + 1)) a → r ≡ End q
+      → Told at u (decode d expr (drop at row)) a m (End q)
+  leaf-taken u q a m r e k f =
+      let (b, z) = leaf-was (startsLeaf d (drop at row)) (at + 2) q r e f in
+      let w : m ≡ set a at (suc u) = rw (b, add-one) at k in
+      rw (w, z) (leaf-told u a b)
+
+  pub leaf-else : (u : ℕ) (a m b : List ℕ) (r r′ : Step) → r ≡ pick (startsLeaf d (drop at row)) (End (at + 2)) Bad → m ≡ pick (startsLeaf d (drop at row)) (set a at (u + 1)) a → r ≡ Bad
+      → Told at u (decode d expr (drop at row)) m b r′ → Told at u (decode d expr (drop at row)) a b r′
+  leaf-else u a m b r r′ e k f t = let w : m ≡ a = rw (leaf-was-not (startsLeaf d (drop at row)) (at + 2) r e f) at k in rw w at t
 
 -- within the limits of depth and open declarations the guarded reading is the reading, outside them nothing is read
 module _ (s : Sort) (ws : List ℕ) where

@@ -1,9 +1,11 @@
 // What stands between a tag and its children: own words and declared names.
 use crate::answer::Limit;
 use crate::tag::Shape;
+use crate::tag::expr_shape;
+use crate::tag::pred_shape;
 ghost use mathlib.Core.Path.{_≡_};
 ghost use lib.ListN.{drop};
-ghost use Rattle.form.specs.Tag.{ownOf, word, exprsFrom, predsFrom, declare, ask};
+ghost use Rattle.form.specs.Tag.{expr, pred, own, ownOf, word, exprsFrom, predsFrom, declare, ask};
 ghost use Rattle.form.specs.Decode.{read, names};
 ghost use Rattle.form.specs.Internal.Reads.{wordAt, headAt, namesAt};
 
@@ -137,4 +139,26 @@ pub fn own_words(row: &[u32], at: usize, shape: Shape) -> Head
         Shape::Compr => compr_head(row, at),
         Shape::Quant => bound_head(row, at, 0),
     }
+}
+
+// What stands after the tag of an expression; a node without own words, the common case, is answered without a call.
+pub(crate) fn expr_head(row: &[u32], at: usize, tag: u32) -> Head
+    ensures { λ r. ⌜ r ≡ headAt at (read (own expr tag) (drop at (now (row .entry)))) ⌝ }
+{
+    let shape = expr_shape(tag);
+    let Shape::Plain(preds, exprs) = shape else {
+        return own_words(row, at, shape);
+    };
+    Head::Kids(at, preds, exprs, 0)
+}
+
+// What stands after the tag of a predicate; a node without own words, the common case, is answered without a call.
+pub(crate) fn pred_head(row: &[u32], at: usize, tag: u32) -> Head
+    ensures { λ r. ⌜ r ≡ headAt at (read (own pred tag) (drop at (now (row .entry)))) ⌝ }
+{
+    let shape = pred_shape(tag);
+    let Shape::Plain(preds, exprs) = shape else {
+        return own_words(row, at, shape);
+    };
+    Head::Kids(at, preds, exprs, 0)
 }

@@ -3,15 +3,26 @@
 use crate::answer::Limit;
 use crate::head::Head;
 use crate::head::Step;
-use crate::head::own_words;
-use crate::tag::expr_shape;
-use crate::tag::pred_shape;
+use crate::head::expr_head;
+use crate::head::pred_head;
+use crate::tag::Tag;
 ghost use mathlib.Core.Path.{_≡_};
 ghost use Prim.Native.Nat.{_+_, _*_, _^_, _<_};
-ghost use lib.ListN.{drop, replicate};
+ghost use lib.ListN.{drop, set, replicate};
+ghost use Rattle.form.specs.Form.{pick};
 ghost use Rattle.form.specs.Tag.{expr, pred, sorts};
 ghost use Rattle.form.specs.Decode.{decode, decodeAll};
-ghost use Rattle.form.specs.Internal.Reads.{markTag, Told, ToldAll, decodeIn};
+ghost use Rattle.form.specs.Internal.Reads.{markTag, startsLeaf, Told, ToldAll, decodeIn};
+ghost use Rattle.form.specs.declared.head.Step.the-variants.{End, Bad};
+
+// Stores a mark, where there is room.
+fn put_mark(marks: &mut [u32], at: usize, mark: u32)
+    ensures { λ _. ⌜ now (marks .exit) ≡ set (now (marks .entry)) at mark ⌝ }
+{
+    if at < marks.len() {
+        marks[at] = mark;
+    }
+}
 
 // Marks the tag at `at`, if it is that of a name or an index.
 fn mark_tag(marks: &mut [u32], at: usize, tag: u32, under: u32)
@@ -24,9 +35,42 @@ fn mark_tag(marks: &mut [u32], at: usize, tag: u32, under: u32)
     if 2 < tag {
         return;
     }
-    if at < marks.len() {
-        marks[at] = under + 1;
+    put_mark(marks, at, under + 1);
+}
+
+// Whether a name or an index stands at `at`, within the depth.
+fn is_leaf(row: &[u32], at: usize, depth: u32) -> bool
+    ensures { λ r. ⌜ r ≡ startsLeaf depth (drop at (now (row .entry))) ⌝ }
+{
+    if depth == 0 {
+        return false;
     }
+    if row.len() <= at {
+        return false;
+    }
+    if row.len() <= at + 1 {
+        return false;
+    }
+    if row[at] == 0 {
+        return false;
+    }
+    if Tag::BOUND_IDENT < row[at] {
+        return false;
+    }
+    row[at + 1] <= Limit::NAME
+}
+
+// A name or an index at `at`, under so many open declarations; whatever else stands there is left to the reader of expressions.
+fn mark_leaf(row: &[u32], marks: &mut [u32], at: usize, depth: u32, under: u32) -> Step
+    requires { ⌜ under + 32 * depth < 2 ^ 32 ⌝ }
+    ensures { λ r. ⌜ r ≡ pick (startsLeaf depth (drop at (now (row .entry)))) (End (at + 2)) Bad ⌝ }
+    ensures { λ _. ⌜ now (marks .exit) ≡ pick (startsLeaf depth (drop at (now (row .entry)))) (set (now (marks .entry)) at (under + 1)) (now (marks .entry)) ⌝ }
+{
+    if is_leaf(row, at, depth) {
+        put_mark(marks, at, under + 1);
+        return Step::End(at + 2);
+    }
+    Step::Bad
 }
 
 // An expression at `at`, under so many open declarations.
@@ -41,7 +85,7 @@ pub(crate) fn mark_expr(row: &[u32], marks: &mut [u32], at: usize, depth: u32, u
         return Step::Bad;
     }
     let tag = row[at];
-    let Head::Kids(p, preds, exprs, binds) = own_words(row, at + 1, expr_shape(tag)) else {
+    let Head::Kids(p, preds, exprs, binds) = expr_head(row, at + 1, tag) else {
         return Step::Bad;
     };
     mark_tag(marks, at, tag, under);
@@ -60,7 +104,7 @@ pub(crate) fn mark_pred(row: &[u32], marks: &mut [u32], at: usize, depth: u32, u
         return Step::Bad;
     }
     let tag = row[at];
-    let Head::Kids(p, preds, exprs, binds) = own_words(row, at + 1, pred_shape(tag)) else {
+    let Head::Kids(p, preds, exprs, binds) = pred_head(row, at + 1, tag) else {
         return Step::Bad;
     };
     mark_tag(marks, at, tag, under);
@@ -86,6 +130,17 @@ fn mark_kids(
     mark_exprs(row, marks, p, exprs, depth, under)
 }
 
+// An expression at `at`: a name or an index, the common case, without a call.
+fn mark_child(row: &[u32], marks: &mut [u32], at: usize, depth: u32, under: u32) -> Step
+    requires { ⌜ under + 32 * depth < 2 ^ 32 ⌝ }
+    ensures { λ r. ⌜ Told at under (decode depth expr (drop at (now (row .entry)))) (now (marks .entry)) (now (marks .exit)) r ⌝ }
+{
+    let Step::End(q) = mark_leaf(row, marks, at, depth, under) else {
+        return mark_expr(row, marks, at, depth, under);
+    };
+    Step::End(q)
+}
+
 // n expressions in a row.
 fn mark_exprs(row: &[u32], marks: &mut [u32], at: usize, n: u32, depth: u32, under: u32) -> Step
     requires { ⌜ under + 32 * depth < 2 ^ 32 ⌝ }
@@ -94,7 +149,7 @@ fn mark_exprs(row: &[u32], marks: &mut [u32], at: usize, n: u32, depth: u32, und
     let mut p = at;
     let mut left = n;
     while 0 < left {
-        let Step::End(q) = mark_expr(row, marks, p, depth, under) else {
+        let Step::End(q) = mark_child(row, marks, p, depth, under) else {
             return Step::Bad;
         };
         p = q;

@@ -49,6 +49,12 @@ unfoldable mutual
 unfoldable pub markTag : ℕ → ℕ → ℕ → List ℕ → List ℕ
 markTag t at u l = pick (isLeaf t) (set l at (suc u)) l
 
+-- whether the words begin with a name or an index, within the depth
+unfoldable pub startsLeaf : ℕ → List ℕ → Bool
+startsLeaf d [] = false
+startsLeaf d (t ∷ []) = false
+startsLeaf d (t ∷ w ∷ ws) = leb 1 d && (isLeaf t && leb w 65535)
+
 -- a reader at `at` answers r and leaves the marks b, where they were a
 unfoldable pub Told : ℕ → ℕ → Got → List ℕ → List ℕ → Step → Type 0
 Told at u (got f x) a b r = (r ≡ End (at + length (encode f))) × (b ≡ mark f at u a)

@@ -1,7 +1,5 @@
 -- `form::reader::mark_tag` meets its contract. Assumes nothing.
 use native.Mathlib.Numerals.{add-one}
-use mathlib.Core.Path.{sym}
-use lib.Seq.{set-out}
 use Rattle.form.specs.Internal.Reads.{markTag}
 use Rattle.form.proofs.ReaderLaws.{leaf-tag, other-tag}
 use borrow.Author.Needs.{needs}
@@ -9,6 +7,7 @@ use Rattle.form.proofs.reader.mark_tag.Statement.{statement}
 use Rattle.form.proofs.reader.mark_tag.Tie as tie
 use Rattle.form.proofs.reader.mark_tag.Reads as reads
 use Rattle.form.proofs.reader.mark_tag.Lts as lts
+use Rattle.form.proofs.reader.put_mark.Reads as put-mark-reads
 
 returns : tie.Need-returns
 unfolding markTag
@@ -18,35 +17,19 @@ returns-2 : tie.Need-returns-2
 unfolding markTag
 returns-2 c = rw (other-tag _ (c .if2 .taken))
 
-add-marks : tie.Need-add-marks
-add-marks c = search needs
+add-put-mark : tie.Need-add-put-mark
+add-put-mark c = search needs
 
-mul-marks : tie.Need-mul-marks
-mul-marks c = search needs
-
-slice-write-marks : tie.Need-slice-write-marks
-slice-write-marks c = search needs
+put-mark-requires : tie.Need-put-mark-requires
+put-mark-requires c κs = search needs
 
 same-length : tie.Need-same-length
 same-length c = search needs
 
 returns-3 : tie.Need-returns-3
 unfolding markTag
-returns-3 c = rw (leaf-tag _ (c .before .before .if1 .left) (c .before .if2 .left), add-one)
-
-returns-4 : tie.Need-returns-4
-unfolding markTag
-returns-4 c = rw (leaf-tag _ (c .before .before .if1 .left) (c .before .if2 .left)) (sym (set-out _ _ _ (c .if3 .left)))
+returns-3 c = rw (leaf-tag _ (c .before .before .before .before .before .if1 .left) (c .before .before .before .before .if2 .left), ← add-one) (c .before .before .put-mark .ensures)
 
 pub mark-tag-spec : {M : Type 1} → statement M
 mark-tag-spec =
-    tie.close
-    (tie.spec
-    returns
-    returns-2
-    add-marks
-    mul-marks
-    slice-write-marks
-    same-length
-    returns-3
-    returns-4)
+    tie.close (tie.spec returns returns-2 add-put-mark put-mark-requires same-length returns-3)
