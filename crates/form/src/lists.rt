@@ -2,13 +2,13 @@
 use crate::answer::Answer;
 use crate::answer::Limit;
 use crate::head::Step;
-use crate::reader::mark_expr;
+use crate::reader::mark_child;
 ghost use mathlib.Core.Path.{_≡_};
 ghost use Prim.Native.Nat.{_+_, _<_};
 ghost use lib.ListN.{length, take, drop};
 ghost use Rattle.form.specs.Lists.{placeEntry, entryOf, listOf, distinct, goodNames};
 ghost use Rattle.form.specs.Answer.{told, namesOutcome, pairsOutcome, placesOutcome};
-ghost use Rattle.form.specs.Internal.Reads.{ToldEntry, Listing, emptyTable, addRow, memberOf, goodTable};
+ghost use Rattle.form.specs.Internal.Reads.{ToldEntry, Listing, emptyTable, memberOf, goodTable};
 
 // Which list of entries: name and expression in turn, or one place for each declaration.
 pub enum ListKind {
@@ -46,20 +46,6 @@ impl Table {
             n: 0,
         }
     }
-
-    fn with_row(mut self, word: u32, start: usize, end: usize) -> Table
-        requires { ⌜ self .n < 18446744073709551615 ⌝ }
-        ensures { λ r. ⌜ r ≡ addRow self word start end ⌝ }
-    {
-        let i = self.n;
-        if i < Self::LIMIT {
-            self.words[i] = word;
-            self.starts[i] = start;
-            self.ends[i] = end;
-        }
-        self.n = i + 1;
-        self
-    }
 }
 
 // A place at p, whose word is w: where it ends.
@@ -73,7 +59,7 @@ fn place_at(row: &[u32], marks: &mut [u32], p: usize, w: u32) -> Step
     if 1 < w {
         return Step::Bad;
     }
-    mark_expr(row, marks, p + 1, Limit::DEPTH, 0)
+    mark_child(row, marks, p + 1, Limit::DEPTH, 0)
 }
 
 // One entry of a list at p: where it ends.
@@ -84,7 +70,7 @@ fn entry_at(row: &[u32], kind: ListKind, marks: &mut [u32], p: usize) -> Step
         return Step::Bad;
     }
     match kind {
-        ListKind::Pairs => mark_expr(row, marks, p + 1, Limit::DEPTH, 0),
+        ListKind::Pairs => mark_child(row, marks, p + 1, Limit::DEPTH, 0),
         ListKind::Places => place_at(row, marks, p, row[p]),
     }
 }
@@ -103,7 +89,13 @@ pub fn mark_list(row: &[u32], kind: ListKind, marks: &mut [u32]) -> Listed
                 table: table,
             };
         };
-        table = table.with_row(row[p], p + 1, q);
+        let i = table.n;
+        if i < Table::LIMIT {
+            table.words[i] = row[p];
+            table.starts[i] = p + 1;
+            table.ends[i] = q;
+        }
+        table.n = i + 1;
         p = q;
     }
     Listed {

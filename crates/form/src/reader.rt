@@ -131,7 +131,7 @@ fn mark_kids(
 }
 
 // An expression at `at`: a name or an index, the common case, without a call.
-fn mark_child(row: &[u32], marks: &mut [u32], at: usize, depth: u32, under: u32) -> Step
+pub(crate) fn mark_child(row: &[u32], marks: &mut [u32], at: usize, depth: u32, under: u32) -> Step
     requires { ⌜ under + 32 * depth < 2 ^ 32 ⌝ }
     ensures { λ r. ⌜ Told at under (decode depth expr (drop at (now (row .entry)))) (now (marks .entry)) (now (marks .exit)) r ⌝ }
 {

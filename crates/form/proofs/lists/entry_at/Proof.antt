@@ -6,7 +6,7 @@ use Rattle.form.proofs.lists.entry_at.Tie as tie
 use Rattle.form.proofs.lists.entry_at.Reads as reads
 use Rattle.form.proofs.lists.entry_at.Lts as lts
 use Rattle.form.proofs.lists.place_at.Reads as place-at-reads
-use Rattle.form.proofs.reader.mark_expr.Reads as mark-expr-reads
+use Rattle.form.proofs.reader.mark_child.Reads as mark-child-reads
 
 returns : tie.Need-returns
 returns c = entry-gone _ _ _ _ _ (c .if1 .taken)
@@ -14,11 +14,11 @@ returns c = entry-gone _ _ _ _ _ (c .if1 .taken)
 enum-told : tie.Need-enum-told
 enum-told c = search needs
 
-add-mark-expr : tie.Need-add-mark-expr
-add-mark-expr c = search needs
+add-mark-child : tie.Need-add-mark-child
+add-mark-child c = search needs
 
-mark-expr-requires : tie.Need-mark-expr-requires
-mark-expr-requires c κs = search needs
+mark-child-requires : tie.Need-mark-child-requires
+mark-child-requires c κs = search needs
 
 enum-told-2 : tie.Need-enum-told-2
 enum-told-2 c = search needs
@@ -36,7 +36,7 @@ same-length : tie.Need-same-length
 same-length c = search needs
 
 returns-2 : tie.Need-returns-2
-returns-2 c = rw (c .before .before .before .before .enum-told .given .1) (pair-told _ _ _ _ _ (c .before .before .before .before .before .before .if1 .left) (c .before .before .mark-expr .ensures))
+returns-2 c = rw (c .before .before .before .before .enum-told .given .1) (pair-told _ _ _ _ _ (c .before .before .before .before .before .before .if1 .left) (c .before .before .mark-child .ensures))
 
 same-length-2 : tie.Need-same-length-2
 same-length-2 c = search needs
@@ -50,8 +50,8 @@ entry-at-spec =
     (tie.spec
     returns
     enum-told
-    add-mark-expr
-    mark-expr-requires
+    add-mark-child
+    mark-child-requires
     enum-told-2
     mul-place-at
     shared-slice-read-place-at

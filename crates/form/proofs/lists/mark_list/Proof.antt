@@ -1,20 +1,21 @@
 -- `form::lists::mark_list` meets its contract. Assumes nothing.
 use mathlib.Core.Path.{_≡_, refl, _∙_}
 use mathlib.Core.List.{List}
-use Prim.Native.Nat.{ℕ, _-_, _≤_}
+use mathlib.Core.Logic.{⊎-elim}
+use Prim.Native.Nat.{ℕ, _+_, _-_, _≤_}
 use native.Mathlib.Omega.{arith}
 use borrow.Author.Needs.{needs}
-use lib.ListN.{length, drop}
+use borrow.Author.Tests.{le-leb, lt-leb}
+use lib.ListN.{length, getD, drop}
 use Rattle.form.specs.Lists.{listOf}
-use Rattle.form.specs.Internal.Reads.{emptyTable, ListingFrom}
+use Rattle.form.specs.Internal.Reads.{emptyTable, addRow, ListingFrom}
 use Rattle.form.specs.declared.lists.Listed.{Listed}
-use Rattle.form.proofs.TableLaws.{entry-rises, list-more, list-stop, list-end, row-none, row-more}
+use Rattle.form.proofs.TableLaws.{entry-rises, list-more, list-stop, list-end, row-none, counted}
 use Rattle.form.proofs.lists.mark_list.Statement.{statement}
 use Rattle.form.proofs.lists.mark_list.Tie as tie
 use Rattle.form.proofs.lists.mark_list.Reads as reads
 use Rattle.form.proofs.lists.mark_list.Lts as lts
 use Rattle.form.proofs.lists.Table.new.Reads as new-reads
-use Rattle.form.proofs.lists.Table.with_row.Reads as with-row-reads
 use Rattle.form.proofs.lists.entry_at.Reads as entry-at-reads
 
 abbrev Inv-loop : tie.InvT-loop
@@ -44,23 +45,42 @@ same-length c = c .before .before .before .before .entry-at .kept .1 .1 .0 ∙ c
 returns : tie.Need-returns Inv-loop μ-loop
 returns c = c .before .before .before .before .before .before .before .loop .inv .0 _ _ (list-stop _ _ _ (c .before .before .before .before .before .before .loop-test .taken) _ _ _ _ (c .before .before .before .before .entry-at .ensures) (c .enum-told .given .1) _ _ refl)
 
-mul-with-row : tie.Need-mul-with-row Inv-loop μ-loop
-mul-with-row c = omega arith
+mul-table : tie.Need-mul-table Inv-loop μ-loop
+mul-table c = search needs
 
-shared-slice-read-with-row : tie.Need-shared-slice-read-with-row Inv-loop μ-loop
-shared-slice-read-with-row c = omega arith
+shared-slice-read-table : tie.Need-shared-slice-read-table Inv-loop μ-loop
+shared-slice-read-table c = search needs
 
-add-with-row : tie.Need-add-with-row Inv-loop μ-loop
-add-with-row c = omega arith
+mul-table-2 : tie.Need-mul-table-2 Inv-loop μ-loop
+mul-table-2 c = search needs
 
-with-row-requires : tie.Need-with-row-requires Inv-loop μ-loop
-with-row-requires c κs = omega arith
+element-write-table : tie.Need-element-write-table Inv-loop μ-loop
+element-write-table c = search needs
+
+add-table : tie.Need-add-table Inv-loop μ-loop
+add-table c = search needs
+
+mul-table-3 : tie.Need-mul-table-3 Inv-loop μ-loop
+mul-table-3 c = search needs
+
+element-write-table-2 : tie.Need-element-write-table-2 Inv-loop μ-loop
+element-write-table-2 c = search needs
+
+mul-table-4 : tie.Need-mul-table-4 Inv-loop μ-loop
+mul-table-4 c = search needs
+
+element-write-table-3 : tie.Need-element-write-table-3 Inv-loop μ-loop
+element-write-table-3 c = search needs
+
+add-table-2 : tie.Need-add-table-2 Inv-loop μ-loop
+add-table-2 c = search needs
 
 loop-less : tie.Need-loop-less Inv-loop μ-loop
-loop-less c = let h = entry-rises _ _ _ _ _ _ (c .before .before .before .before .before .before .before .entry-at .ensures) (c .before .before .before .q .given .1) in omega arith
+loop-less c = let h = entry-rises _ _ _ _ _ _ (c .before .before .before .before .before .before .entry-at .ensures) (c .before .before .q .given .1) in omega arith
 
 loop-again : tie.Need-loop-again Inv-loop μ-loop
-loop-again c = (λ b r t. c .before .before .before .before .before .before .before .before .before .before .loop .inv .0 b r (list-more _ _ _ (c .before .before .before .before .before .before .before .before .before .loop-test .taken) _ _ _ _ (c .before .before .before .before .before .before .before .entry-at .ensures) _ _ (c .before .before .before .q .given .1) (c .with-row .ensures) b r t), let h = entry-rises _ _ _ _ _ _ (c .before .before .before .before .before .before .before .entry-at .ensures) (c .before .before .before .q .given .1) in let n = row-more _ _ _ _ _ (c .with-row .ensures) in omega arith, c .before .before .before .before .before .before .before .entry-at .kept .1 .1 .0 ∙ c .before .before .before .before .before .before .before .before .before .before .loop .inv .2)
+unfolding addRow
+loop-again c = let u : counted (c .if1 .table) (c .before .before .before .before .before .before .before .before .before .loop .table .n + 1) ≡ addRow (c .before .before .before .before .before .before .before .before .before .loop .table) (getD (c .before .before .before .before .before .before .before .before .before .before .before .before .before .args .row .now) (c .before .before .before .before .before .before .before .before .before .loop .p) 0) (c .before .before .before .before .before .before .before .before .before .loop .p + 1) (c .before .before .q .given .0 .0) = ⊎-elim (λ w. rw (w .2, lt-leb _ _ (w .0 .taken))) (λ w. rw (w .1, le-leb _ _ (w .0 .left))) (c .if1 .came) in (λ b r t. c .before .before .before .before .before .before .before .before .before .loop .inv .0 b r (list-more _ _ _ (c .before .before .before .before .before .before .before .before .loop-test .taken) _ _ _ _ (c .before .before .before .before .before .before .entry-at .ensures) _ _ (c .before .before .q .given .1) u b r t), let h = entry-rises _ _ _ _ _ _ (c .before .before .before .before .before .before .entry-at .ensures) (c .before .before .q .given .1) in omega arith, c .before .before .before .before .before .before .entry-at .kept .1 .1 .0 ∙ c .before .before .before .before .before .before .before .before .before .loop .inv .2)
 
 same-length-2 : tie.Need-same-length-2 Inv-loop μ-loop
 same-length-2 c = c .before .loop .inv .2
@@ -81,10 +101,16 @@ mark-list-spec =
     enum-told
     same-length
     returns
-    mul-with-row
-    shared-slice-read-with-row
-    add-with-row
-    with-row-requires
+    mul-table
+    shared-slice-read-table
+    mul-table-2
+    element-write-table
+    add-table
+    mul-table-3
+    element-write-table-2
+    mul-table-4
+    element-write-table-3
+    add-table-2
     loop-less
     loop-again
     same-length-2
