@@ -181,6 +181,9 @@ module _ (t : Table) (w s e : ℕ) where
 abbrev pub counted : Table → ℕ → Table
 counted t n = record { words = t .words; starts = t .starts; ends = t .ends; n = n }
 
+pub row-more : (t : Table) (w s e : ℕ) (t′ : Table) → t′ ≡ addRow t w s e → t′ .n ≡ t .n + 1
+row-more t w s e t′ u = rw u (add-n t w s e)
+
 pub tabled-n : (es : List Entry) (at : ℕ) (t : Table) → tabled es at t .n ≡ t .n + length es
 unfolding tabled
 tabled-n [] at t = omega arith
