@@ -7,8 +7,8 @@ use native.Mathlib.Omega.{arith}
 use borrow.Author.Tests.{leb-true, leb-false, lt-ltb, le-ltb, eqb-true, eqb-false, eq-eqb, ne-eqb}
 use lib.Dec.{leb, ltb, eqb}
 use lib.ListN.{length}
-use Rattle.form.specs.Form.{Form, pick, encode}
-use Rattle.form.specs.Tag.{pred}
+use Rattle.tree.specs.Form.{Form, pick, encode}
+use Rattle.tree.specs.Tag.{pred}
 use Rattle.form.specs.Decode.{Whole, one, not-one, rowForm, Found, found, missing, asSort, formOf}
 use Rattle.form.specs.Answer.{Outcome, answer, refusal, told, ofFound, checkOutcome}
 use Rattle.form.specs.declared.answer.Kind.the-variants.{Predicate}

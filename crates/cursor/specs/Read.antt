@@ -3,7 +3,7 @@ use mathlib.Core.List.{List}
 use Prim.Native.Nat.{ℕ, _+_}
 use lib.Dec.{leb, ltb}
 use lib.ListN.{length, getD}
-use Rattle.form.specs.Form.{pick}
+use Rattle.tree.specs.Form.{pick}
 use Rattle.form.specs.Answer.{Outcome, answer, withForm}
 use Rattle.form.specs.declared.answer.Kind.the-variants.{Predicate}
 use Rattle.replace.specs.Fill.{ofQuantified, quantified}

@@ -7,21 +7,21 @@ use native.Mathlib.Omega.{arith}
 use borrow.Author.Tests.{le-leb, lt-leb}
 use lib.Dec.{leb}
 use lib.ListN.{length, getD, length-append}
-use Rattle.form.specs.Form.{Form, pick, encode}
-use Rattle.form.specs.Tag.{Sort, expr, pred, own, ownOf, shapeOf}
+use Rattle.tree.specs.Form.{Form, pick, encode}
+use Rattle.tree.specs.Tag.{Sort, expr, pred, own, ownOf, shapeOf}
 use Rattle.form.specs.Decode.{read, Got, got, no-form, branch, decode, Whole, one, not-one, whole, rowForm, Found, found, missing, asSort, either, formOf}
 use Rattle.form.specs.Answer.{Outcome, answer, refusal, told, ofFound, checkOutcome}
 use Rattle.form.specs.Internal.Reads.{mark, Told, Marked, known, asExpr}
 use Rattle.form.specs.declared.answer.Kind.{Kind}
 use Rattle.form.specs.declared.answer.Kind.the-variants.{Expression, Predicate, Either}
 use Rattle.form.specs.declared.answer.Answer.the-variants.{Done, No}
-use Rattle.form.specs.declared.tag.Shape.{Shape}
-use Rattle.form.specs.declared.tag.Shape.the-variants.{Unknown, Plain, Name, Value, Exprs, Preds, Apply, Compr, Quant}
+use Rattle.tree.specs.declared.tag.Shape.{Shape}
+use Rattle.tree.specs.declared.tag.Shape.the-variants.{Unknown, Plain, Name, Value, Exprs, Preds, Apply, Compr, Quant}
 use Rattle.form.specs.declared.head.Step.{Step}
 use Rattle.form.specs.declared.head.Step.the-variants.{End, Bad}
 use Rattle.form.proofs.DecodeLaws.{clash, decode-sound}
 use Rattle.form.proofs.ReaderLaws.{told-end, told-bad}
-use Rattle.form.proofs.Ranges.{one-table}
+use Rattle.tree.proofs.Ranges.{one-table}
 
 -- a tag that begins expressions begins no predicate: a row is read as the sort that its first tag says
 pub unknown-no : (s : Sort) (d t : ℕ) (ws : List ℕ) → shapeOf s t ≡ Unknown → decode d s (t ∷ ws) ≡ no-form

@@ -6,8 +6,8 @@ use Prim.Native.Nat.{ℕ, zero, suc, _+_}
 use native.Mathlib.Omega.{arith}
 use lib.ListN.{length, drop, length-append}
 use lib.Seq.{drop-drop, drop-append-seam}
-use Rattle.form.specs.Form.{Leaf, free, bound, Form, leaf, node, Forms, none, more, pick, between, encode, encodeAll}
-use Rattle.form.specs.Tag.{Sort, expr, pred, Own, ask, kids, wrong, own, ownOf, shapeOf, exprTags, predTags, sorts, word}
+use Rattle.tree.specs.Form.{Leaf, free, bound, Form, leaf, node, Forms, none, more, pick, between, encode, encodeAll}
+use Rattle.tree.specs.Tag.{Sort, expr, pred, Own, ask, kids, wrong, own, ownOf, shapeOf, exprTags, predTags, sorts, word}
 use Rattle.form.specs.Decode.{Head, head, bad, addWord, addName, only, names, read, Got, got, no-form, Gots, gots, no-forms, first, leafAt, isLeaf, make, addForm, close, chain, decodeAll, branch, decode}
 
 pub clash : _≡_ {A = ℕ} 0 1 → ⊥

@@ -10,18 +10,18 @@ use borrow.Author.Tests.{le-leb, leb-true}
 use lib.Dec.{leb}
 use lib.ListN.{length, getD, drop, drop-of-length-le}
 use lib.Seq.{drop-cons, drop-drop}
-use Rattle.form.specs.Form.{pick, between}
-use Rattle.form.specs.Tag.{Sort, Own, ask, kids, wrong, own, ownOf, shapeOf}
+use Rattle.tree.specs.Form.{pick, between}
+use Rattle.tree.specs.Tag.{Sort, Own, ask, kids, wrong, own, ownOf, shapeOf}
 use Rattle.form.specs.Decode.{Head, head, bad, addWord, addName, only, names, read}
 use Rattle.form.specs.Internal.Reads.{wordAt, headAt, namesAt}
-use Rattle.form.specs.declared.tag.Shape.{Shape}
-use Rattle.form.specs.declared.tag.Shape.the-variants.{Unknown, Plain, Name, Value, Exprs, Preds, Apply, Compr, Quant}
+use Rattle.tree.specs.declared.tag.Shape.{Shape}
+use Rattle.tree.specs.declared.tag.Shape.the-variants.{Unknown, Plain, Name, Value, Exprs, Preds, Apply, Compr, Quant}
 use Rattle.form.specs.declared.head.Step.the-variants.{End, Bad}
 use Rattle.form.specs.declared.head.Word.the-variants.{Is, Not}
 use Rattle.form.specs.declared.head.Head as code
 use Rattle.form.specs.declared.head.Head.the-variants.{Kids, None}
 use Rattle.form.proofs.DecodeLaws.{clash}
-use Rattle.form.proofs.Ranges.{split}
+use Rattle.tree.proofs.Ranges.{split}
 
 -- the words from a position on: none, or one and the words after it
 pub gone : (row : List ℕ) (at : ℕ) → length row ≤ at → drop at row ≡ []

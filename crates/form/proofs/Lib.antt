@@ -1,9 +1,7 @@
 pub mod DecodeLaws
-pub mod Ranges
 pub mod HeadLaws
 pub mod ReaderLaws
 pub mod CheckLaws
 pub mod ListLaws
 pub mod TableLaws
 pub mod RowLaws
-pub mod TagTable

@@ -5,8 +5,8 @@ use mathlib.Core.Option.{Option, none as absent, some}
 use Prim.Native.Nat.{ℕ, zero, suc, _≤_, _<_}
 use native.Mathlib.Omega.{arith}
 use lib.ListN.{length, length-append}
-use Rattle.form.specs.Form.{Form}
-use Rattle.form.specs.Tag.{expr}
+use Rattle.tree.specs.Form.{Form}
+use Rattle.tree.specs.Tag.{expr}
 use Rattle.form.specs.Decode.{Got, got, no-form, decode}
 use Rattle.form.specs.Lists.{kept, filled, Entry, entry, withExpr, placeEntry, entryOf, addEntry, andThen, entries, listOf, entryWords, encodeList}
 use Rattle.form.specs.declared.lists.ListKind.{ListKind}

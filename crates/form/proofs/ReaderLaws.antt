@@ -8,8 +8,8 @@ use native.Mathlib.Omega.{arith}
 use borrow.Author.Tests.{le-leb, lt-leb, leb-true}
 use lib.Dec.{leb}
 use lib.ListN.{length, getD, drop, set, replicate, length-append, length-drop}
-use Rattle.form.specs.Form.{Leaf, Form, leaf, node, Forms, none, more, pick, encode, encodeAll}
-use Rattle.form.specs.Tag.{Sort, expr, own, ownOf, shapeOf, exprTags, sorts}
+use Rattle.tree.specs.Form.{Leaf, Form, leaf, node, Forms, none, more, pick, encode, encodeAll}
+use Rattle.tree.specs.Tag.{Sort, expr, own, ownOf, shapeOf, exprTags, sorts}
 use Rattle.form.specs.Decode.{Head, head, bad, read, Got, got, no-form, Gots, gots, no-forms, first, leafAt, isLeaf, make, addForm, close, chain, decodeAll, branch, decode}
 use Rattle.form.specs.Internal.Reads.{headAt, mark, markAll, markTag, startsLeaf, Told, ToldAll, decodeIn}
 use Rattle.form.specs.declared.head.Step.{Step}

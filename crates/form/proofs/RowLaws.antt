@@ -6,15 +6,15 @@ use Prim.Native.Nat.{ℕ, _≤_}
 use borrow.Author.Tests.{le-leb, leb-true}
 use lib.Dec.{leb}
 use lib.ListN.{length}
-use Rattle.form.specs.Form.{Form, pick, encode}
-use Rattle.form.specs.Tag.{Sort, expr, pred, shapeOf}
+use Rattle.tree.specs.Form.{Form, pick, encode}
+use Rattle.tree.specs.Tag.{Sort, expr, pred, shapeOf}
 use Rattle.form.specs.Decode.{Got, got, no-form, decode, Whole, one, not-one, whole, rowForm, Found, found, missing, asSort, either, formOf}
 use Rattle.form.specs.declared.answer.Kind.{Kind}
 use Rattle.form.specs.declared.answer.Kind.the-variants.{Expression, Predicate, Either}
-use Rattle.form.specs.declared.tag.Shape.the-variants.{Unknown}
+use Rattle.tree.specs.declared.tag.Shape.the-variants.{Unknown}
 use Rattle.form.proofs.DecodeLaws.{clash, Ok, decode-encode, decode-sound}
 use Rattle.form.proofs.CheckLaws.{unknown-no, no-whole}
-use Rattle.form.proofs.Ranges.{one-table}
+use Rattle.tree.proofs.Ranges.{one-table}
 
 within : (b : Bool) (w : Whole) (f : Form) → pick b w not-one ≡ one f → (b ≡ true) × (w ≡ one f)
 within true w f e = (refl, e)

@@ -10,8 +10,8 @@ use borrow.Author.Tests.{le-leb, lt-leb, leb-true, eq-eqb, ne-eqb}
 use lib.Dec.{leb, eqb}
 use lib.ListN.{length, getD, take, drop, set, length-set, length-map}
 use lib.Seq.{drop-drop, drop-append-seam, take-suc-set}
-use Rattle.form.specs.Form.{pick}
-use Rattle.form.specs.Tag.{expr}
+use Rattle.tree.specs.Form.{pick}
+use Rattle.tree.specs.Tag.{expr}
 use Rattle.form.specs.Decode.{Got, got, no-form, decode}
 use Rattle.form.specs.Lists.{Entry, entry, wordOf, withExpr, placeEntry, entryOf, addEntry, andThen, listOf, entryWords, distinct, goodNames}
 use Rattle.form.specs.Answer.{told, answer, needs, namesOutcome, pairsOutcome, placesOutcome}

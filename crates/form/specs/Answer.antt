@@ -5,8 +5,8 @@ use mathlib.Core.Option.{Option, none as absent, some}
 use Prim.Native.Nat.{ℕ}
 use lib.Dec.{leb, eqb}
 use lib.ListN.{length, drop}
-use Rattle.form.specs.Form.{Form, pick, encode}
-use Rattle.form.specs.Tag.{Sort}
+use Rattle.tree.specs.Form.{Form, pick, encode}
+use Rattle.tree.specs.Tag.{Sort}
 use Rattle.form.specs.Decode.{Whole, one, not-one, rowForm, Found, found, missing, formOf}
 use Rattle.form.specs.Lists.{Entry, wordOf, listOf, goodNames}
 use Rattle.form.specs.declared.lists.ListKind.{ListKind}

@@ -4,8 +4,8 @@ use mathlib.Core.List.{List, [], _∷_, _++_}
 use Prim.Native.Nat.{ℕ, zero, suc}
 use lib.Dec.{leb, eqb}
 use lib.ListN.{length}
-use Rattle.form.specs.Form.{Leaf, free, bound, Form, leaf, node, Forms, none, more, pick, between}
-use Rattle.form.specs.Tag.{Sort, expr, pred, Own, ask, kids, wrong, own, sorts}
+use Rattle.tree.specs.Form.{Leaf, free, bound, Form, leaf, node, Forms, none, more, pick, between}
+use Rattle.tree.specs.Tag.{Sort, expr, pred, Own, ask, kids, wrong, own, sorts}
 use Rattle.form.specs.declared.answer.Kind.{Kind}
 use Rattle.form.specs.declared.answer.Kind.the-variants.{Expression, Predicate, Either}
 

@@ -1,5 +1,3 @@
-pub mod Form
-pub mod Tag
 pub mod Decode
 pub mod Lists
 pub mod Answer

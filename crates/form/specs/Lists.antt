@@ -5,8 +5,8 @@ use mathlib.Core.Option.{Option, none as absent, some}
 use Prim.Native.Nat.{ℕ, zero, suc}
 use lib.Dec.{leb, eqb}
 use lib.ListN.{length}
-use Rattle.form.specs.Form.{Form, pick, encode}
-use Rattle.form.specs.Tag.{expr}
+use Rattle.tree.specs.Form.{Form, pick, member, encode}
+use Rattle.tree.specs.Tag.{expr}
 use Rattle.form.specs.Decode.{Got, got, no-form, decode}
 use Rattle.form.specs.declared.lists.ListKind.{ListKind}
 use Rattle.form.specs.declared.lists.ListKind.the-variants.{Pairs, Places}
@@ -71,10 +71,6 @@ encodeList [] = []
 encodeList (e ∷ es) = entryWords e ++ encodeList es
 
 -- names to bind or to substitute: at most 32, none over 65,535, none twice
-abbrev pub member : ℕ → List ℕ → Bool
-member m [] = false
-member m (n ∷ ns) = pick (eqb n m) true (member m ns)
-
 unfoldable pub distinct : List ℕ → Bool
 distinct [] = true
 distinct (n ∷ ns) = (leb n 65535 && not (member n ns)) && distinct ns

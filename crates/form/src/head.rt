@@ -1,11 +1,11 @@
 // What stands between a tag and its children: own words and declared names.
 use crate::answer::Limit;
-use crate::tag::Shape;
-use crate::tag::expr_shape;
-use crate::tag::pred_shape;
+use tree::tag::Shape;
+use tree::tag::expr_shape;
+use tree::tag::pred_shape;
 ghost use mathlib.Core.Path.{_≡_};
 ghost use lib.ListN.{drop};
-ghost use Rattle.form.specs.Tag.{expr, pred, own, ownOf, word, exprsFrom, predsFrom, declare, ask};
+ghost use Rattle.tree.specs.Tag.{expr, pred, own, ownOf, word, exprsFrom, predsFrom, declare, ask};
 ghost use Rattle.form.specs.Decode.{read, names};
 ghost use Rattle.form.specs.Internal.Reads.{wordAt, headAt, namesAt};
 

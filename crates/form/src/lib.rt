@@ -4,4 +4,3 @@ pub mod check;
 pub mod head;
 pub mod lists;
 pub mod reader;
-pub mod tag;

@@ -8,8 +8,8 @@ use borrow.Author.Tests.{le-leb, lt-leb, eq-eqb, ne-eqb}
 use lib.Dec.{eqb}
 use lib.ListN.{length, getD, take, drop, set, replicate, length-append, length-replicate}
 use lib.Seq.{set-append-seam, take-at}
-use Rattle.form.specs.Form.{Form, pick, encode}
-use Rattle.form.specs.Tag.{Sort, expr, pred}
+use Rattle.tree.specs.Form.{Form, pick, encode}
+use Rattle.tree.specs.Tag.{Sort, expr, pred}
 use Rattle.form.specs.Decode.{got, decode, Whole, one, not-one, whole, rowForm, Found, found, missing, asSort, formOf}
 use Rattle.form.specs.Answer.{told, written}
 use Rattle.form.specs.Internal.Reads.{asExpr}

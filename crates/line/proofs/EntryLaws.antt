@@ -7,8 +7,8 @@ use native.Mathlib.Numerals.{sub-one}
 use native.Mathlib.Omega.{arith}
 use lib.ListN.{length, getD, take, drop, length-append, length-drop}
 use lib.Seq.{drop-drop, drop-append-seam, take-length}
-use Rattle.form.specs.Form.{Form, encode}
-use Rattle.form.specs.Tag.{expr}
+use Rattle.tree.specs.Form.{Form, encode}
+use Rattle.tree.specs.Tag.{expr}
 use Rattle.form.specs.Decode.{Got, got, no-form, decode}
 use Rattle.form.specs.Lists.{kept, filled, Entry, entry, withExpr, placeEntry, entryOf, addEntry, andThen, entries, entryWords}
 use Rattle.form.specs.declared.lists.ListKind.{ListKind}

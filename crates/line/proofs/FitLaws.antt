@@ -9,7 +9,7 @@ use borrow.Author.Tests.{le-leb, lt-leb}
 use lib.Dec.{leb}
 use lib.ListN.{length, take, drop}
 use lib.Seq.{take-at}
-use Rattle.form.specs.Form.{pick}
+use Rattle.tree.specs.Form.{pick}
 use Rattle.form.specs.Decode.{rowForm, formOf}
 use Rattle.form.specs.Lists.{Entry, listOf}
 use Rattle.form.specs.declared.answer.Kind.the-variants.{Either}

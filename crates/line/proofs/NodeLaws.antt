@@ -7,11 +7,11 @@ use native.Mathlib.Numerals.{sub-one}
 use native.Mathlib.Omega.{arith}
 use lib.ListN.{length, getD, take, drop, length-append, length-take, length-drop}
 use lib.Seq.{take-at}
-use Rattle.form.specs.Form.{Leaf, free, bound, leaf, node, Forms, none, pick, encode, encodeAll}
-use Rattle.form.specs.Tag.{Sort, own, ownOf, shapeOf, sorts}
+use Rattle.tree.specs.Form.{Leaf, free, bound, leaf, node, Forms, none, pick, encode, encodeAll}
+use Rattle.tree.specs.Tag.{Sort, own, ownOf, shapeOf, sorts}
 use Rattle.form.specs.Decode.{Head, head, bad, read, no-form, Gots, gots, no-forms, first, leafAt, isLeaf, make, close, decodeAll, branch, decode}
 use Rattle.form.specs.Internal.Reads.{headAt}
-use Rattle.form.specs.declared.tag.Shape.{Shape}
+use Rattle.tree.specs.declared.tag.Shape.{Shape}
 use Rattle.form.specs.declared.head.Head as code
 use Rattle.form.specs.declared.head.Head.the-variants.{Kids, None}
 use Rattle.form.proofs.DecodeLaws.{clash, read-exact, read-at, all-sound, made}

@@ -12,7 +12,7 @@ use lib.ListN.{length, getD, drop}
 use mir.Syntax.{w32}
 use mir.Val.{SFits, toZ, ofZ}
 use mir.ValLaws.{toZ-ofZ, toZ-pos}
-use Rattle.form.specs.Form.{pick}
+use Rattle.tree.specs.Form.{pick}
 use Rattle.form.proofs.DecodeLaws.{clash}
 use Rattle.form.proofs.HeadLaws.{gone, here}
 use Rattle.line.specs.Scan.{Decimal, found, none, number, Signed, signed, unsigned, belowZero, fromZero, negative, positive, offset}

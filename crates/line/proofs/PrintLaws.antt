@@ -5,8 +5,8 @@ use Prim.Native.Nat.{ℕ, zero, suc, _+_, _-_, _*_, _≤_, _<_}
 use native.Mathlib.Numerals.{sub-one}
 use native.Mathlib.Omega.{arith}
 use lib.ListN.{length, drop, set, replicate, length-append, length-drop}
-use Rattle.form.specs.Form.{Leaf, free, bound, Form, leaf, node, Forms, none, more, encode, encodeAll}
-use Rattle.form.specs.Tag.{Sort}
+use Rattle.tree.specs.Form.{Leaf, free, bound, Form, leaf, node, Forms, none, more, encode, encodeAll}
+use Rattle.tree.specs.Tag.{Sort}
 use Rattle.form.specs.Decode.{Got, got, no-form, Gots, gots, no-forms, addForm, chain, decodeAll, decode}
 use Rattle.form.proofs.DecodeLaws.{clash, decode-sound, all-sound, decode-at}
 use Rattle.line.specs.Spell.{decimal, spaced, bracket, spellLeaf, spell, spellAll}

@@ -7,7 +7,7 @@ use native.Mathlib.Omega.{arith}
 use borrow.Author.Tests.{le-leb, lt-leb, eq-eqb, ne-eqb}
 use lib.Dec.{eqb}
 use lib.ListN.{length, getD, drop}
-use Rattle.form.specs.Form.{pick}
+use Rattle.tree.specs.Form.{pick}
 use Rattle.form.proofs.HeadLaws.{gone, here}
 use Rattle.line.specs.Scan.{onDigit, turn, note, markWords, depthAfter, Scan, ended, broken, addByte, moved, scan, group, scanWords, Decimal, found, none, addDigit, finished, number}
 use Rattle.line.specs.Put.{put}

@@ -10,7 +10,7 @@ use borrow.Author.Tests.{lt-ltb, le-ltb}
 use lib.ListN.{length, getD, take, drop, set, length-append, length-set}
 use lib.Seq.{set-out}
 use mathlib.Core.Bool.{Bool, true, false}
-use Rattle.form.specs.Form.{pick}
+use Rattle.tree.specs.Form.{pick}
 use Rattle.line.specs.Spell.{digits, decimal, spaced}
 use Rattle.line.specs.Put.{put}
 use Rattle.line.specs.Internal.Writes.{Wrote}

@@ -5,7 +5,7 @@ use Prim.Native.Nat.{ℕ, _+_}
 use lib.Dec.{leb, eqb}
 use lib.IntN.{ℤ, pos}
 use lib.ListN.{length, drop}
-use Rattle.form.specs.Form.{pick}
+use Rattle.tree.specs.Form.{pick}
 use Rattle.line.specs.Scan.{Scan, ended, broken, scanWords, group, Signed, signed, unsigned, offset}
 use Rattle.line.specs.declared.head.Head.{Head}
 use Rattle.line.specs.declared.head.Head.the-variants.{Shift, Free, Bind, Fill, Prune, Point, Member}

@@ -5,7 +5,7 @@ use mathlib.Core.List.{List, [], _∷_, _++_}
 use Prim.Native.Nat.{ℕ, zero, suc, _+_, _-_, _*_}
 use lib.Dec.{leb, eqb}
 use lib.IntN.{ℤ, pos, negsuc}
-use Rattle.form.specs.Form.{pick, between}
+use Rattle.tree.specs.Form.{pick, between}
 use Rattle.line.specs.declared.turn.State.{State}
 use Rattle.line.specs.declared.turn.State.the-variants.{Opened, Spaced, Closed, Digits}
 use Rattle.line.specs.declared.turn.Turn.{Turn}

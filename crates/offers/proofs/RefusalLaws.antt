@@ -5,7 +5,7 @@ use mathlib.Core.Path.{_≡_, refl}
 use Prim.Native.Nat.{ℕ}
 use lib.Dec.{leb, ltb, eqb}
 use lib.ListN.{length, getD}
-use Rattle.form.specs.Form.{Form, leaf, node, none, more, pick}
+use Rattle.tree.specs.Form.{Form, leaf, node, none, more, pick}
 use Rattle.form.specs.Decode.{Found, found, missing, formOf}
 use Rattle.form.specs.declared.answer.Kind.the-variants.{Predicate}
 use Rattle.one_point.specs.Replacement.{Offer, offer, no-offer, offered, above, sideOf}

@@ -2,7 +2,7 @@
 use mathlib.Core.List.{List}
 use Prim.Native.Nat.{ℕ}
 use lib.Dec.{eqb}
-use Rattle.form.specs.Form.{pick}
+use Rattle.tree.specs.Form.{pick}
 use Rattle.one_point.specs.Places.{newOf, offerAnswer}
 use Rattle.one_point.specs.declared.replacements.Offered.{Offered}
 

@@ -6,8 +6,8 @@ use Prim.Native.Nat.{ℕ, _+_, _-_, _≤_}
 use native.Mathlib.Omega.{arith}
 use lib.Dec.{ltb}
 use lib.ListN.{length, take, drop}
-use Rattle.form.specs.Form.{Form, pick, encode}
-use Rattle.form.specs.Tag.{expr}
+use Rattle.tree.specs.Form.{Form, pick, encode}
+use Rattle.tree.specs.Tag.{expr}
 use Rattle.form.proofs.DecodeLaws.{clash, Ok}
 use Rattle.one_point.specs.Replacement.{left, right, Offer, offer, no-offer, offered, taken, nothing, above, allowed, ofOffer, accept}
 use Rattle.one_point.specs.Internal.Sides.{indexWords, replaceBy, replacementWords, aboveWords}

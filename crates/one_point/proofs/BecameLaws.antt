@@ -6,7 +6,7 @@ use mathlib.Core.List.{List, [], append-nil}
 use Prim.Native.Nat.{ℕ, suc, _+_, _-_, _≤_}
 use native.Mathlib.Omega.{arith}
 use lib.ListN.{length, take}
-use Rattle.form.specs.Form.{Form, node, encode}
+use Rattle.tree.specs.Form.{Form, node, encode}
 use Rattle.form.proofs.DecodeLaws.{clash}
 use Rattle.one_point.specs.Replacement.{Taken}
 use Rattle.one_point.specs.Scan.{Scan, scanned, negate, negated, scan}

@@ -8,8 +8,8 @@ use native.Mathlib.Omega.{arith}
 use lib.Dec.{leb, ltb, eqb}
 use lib.ListN.{length, getD, take, drop, set, replicate, length-append, length-map}
 use lib.Seq.{drop-drop, drop-at, take-at}
-use Rattle.form.specs.Form.{Leaf, free, bound, Form, leaf, node, Forms, none, more, pick, count, encode, encodeAll}
-use Rattle.form.specs.Tag.{expr, pred, shapeOf, predTags}
+use Rattle.tree.specs.Form.{Leaf, free, bound, Form, leaf, node, Forms, none, more, pick, count, encode, encodeAll}
+use Rattle.tree.specs.Tag.{expr, pred, shapeOf, predTags}
 use Rattle.form.specs.Decode.{Got, got, gots, decode}
 use Rattle.form.specs.Lists.{Place, kept, filled}
 use Rattle.form.specs.Internal.Reads.{mark}

@@ -6,8 +6,8 @@ use native.Mathlib.Numerals.{sub-one}
 use native.Mathlib.Omega.{arith}
 use lib.ListN.{length, take, drop, replicate, length-append, length-drop}
 use lib.Seq.{drop-drop, drop-append-seam}
-use Rattle.form.specs.Form.{Form, Forms, none, more, count, encode, encodeAll}
-use Rattle.form.specs.Tag.{pred}
+use Rattle.tree.specs.Form.{Form, Forms, none, more, count, encode, encodeAll}
+use Rattle.tree.specs.Tag.{pred}
 use Rattle.form.specs.Decode.{got, gots, decode, decodeAll}
 use Rattle.form.proofs.DecodeLaws.{OkAll, ok-none, ok-more, decode-encode, decodeAll-encode, all-sound}
 use Rattle.one_point.specs.Internal.Writes.{Wrote, Neats, no-more, and-more}

@@ -8,8 +8,8 @@ use native.Mathlib.Omega.{arith}
 use borrow.Author.Tests.{lt-ltb, le-ltb, eq-eqb, ne-eqb, eqb-true, eqb-false}
 use lib.Dec.{leb, ltb, eqb}
 use lib.ListN.{length, getD, take, drop, replicate, length-drop, take-append-drop}
-use Rattle.form.specs.Form.{Form, node, Forms, pick, encode}
-use Rattle.form.specs.Tag.{expr, pred}
+use Rattle.tree.specs.Form.{Form, node, Forms, pick, encode}
+use Rattle.tree.specs.Tag.{expr, pred}
 use Rattle.form.specs.Decode.{got, decode}
 use Rattle.form.specs.Lists.{Place, kept, filled}
 use Rattle.form.specs.Answer.{finish}

@@ -7,7 +7,7 @@ use Prim.Native.Nat.{ℕ, suc, _+_, _-_, _≤_}
 use native.Mathlib.Omega.{arith}
 use lib.ListN.{length, take, set, length-set}
 use lib.Seq.{take-set-le}
-use Rattle.form.specs.Form.{Form, encode}
+use Rattle.tree.specs.Form.{Form, encode}
 use Rattle.form.proofs.DecodeLaws.{clash}
 use Rattle.one_point.specs.Replacement.{Taken, taken, nothing}
 use Rattle.one_point.specs.Scan.{scanned, negate, implies, scan}

@@ -6,7 +6,7 @@ use mathlib.Core.List.{List, [], _∷_}
 use Prim.Native.Nat.{ℕ, _+_, _-_, _≤_}
 use native.Mathlib.Omega.{arith}
 use lib.ListN.{length}
-use Rattle.form.specs.Form.{Form, Forms, none, more, count, encode, encodeAll}
+use Rattle.tree.specs.Form.{Form, Forms, none, more, count, encode, encodeAll}
 use Rattle.form.proofs.DecodeLaws.{clash}
 use Rattle.one_point.specs.Replacement.{Taken, taken, nothing}
 use Rattle.one_point.specs.Scan as S

@@ -8,8 +8,8 @@ use native.Mathlib.Omega.{arith}
 use borrow.Author.Tests.{le-leb, lt-leb}
 use lib.ListN.{length, take, drop, replicate, length-take, length-replicate}
 use lib.Seq.{drop-at, drop-drop}
-use Rattle.form.specs.Form.{Form, node, Forms, none, more, encode}
-use Rattle.form.specs.Tag.{Sort, expr, pred}
+use Rattle.tree.specs.Form.{Form, node, Forms, none, more, encode}
+use Rattle.tree.specs.Tag.{Sort, expr, pred}
 use Rattle.form.specs.Decode.{Found, found, got, decode, formOf}
 use Rattle.form.specs.Lists.{Place}
 use Rattle.form.specs.Answer.{Outcome, refusal, told, finish, checkOutcome}

@@ -10,7 +10,7 @@ use native.Mathlib.Omega.{arith}
 use borrow.Author.Tests.{ltb-true, ltb-false, lt-ltb, le-ltb, le-leb}
 use lib.Dec.{leb, ltb, eqb}
 use lib.ListN.{length, getD, take, drop, set, replicate, length-set, length-map, List·getD-map}
-use Rattle.form.specs.Form.{Leaf, free, bound, Form, leaf, node, Forms, none, more, pick, encode}
+use Rattle.tree.specs.Form.{Leaf, free, bound, Form, leaf, node, Forms, none, more, pick, encode}
 use Rattle.form.specs.Lists.{Place, kept, filled}
 use Rattle.form.proofs.DecodeLaws.{clash}
 use Rattle.subst.specs.Walk.{Outer, named, dangling, walk, walkAll, up, lift, put, subst, collect, each}

@@ -9,10 +9,10 @@ use borrow.Author.Tests.{eqb-true}
 use lib.Dec.{eqb}
 use lib.ListN.{length, getD, drop, replicate, length-append, length-drop}
 use lib.Seq.{drop-drop, getD-drop}
-use Rattle.form.specs.Form.{Form, node, Forms, pick, count, between, encode, encodeAll}
-use Rattle.form.specs.Tag.{pred, sorts, predsFrom, own, ownOf, shapeOf, predTags}
+use Rattle.tree.specs.Form.{Form, node, Forms, pick, count, between, encode, encodeAll}
+use Rattle.tree.specs.Tag.{pred, sorts, predsFrom, own, ownOf, shapeOf, predTags}
 use Rattle.form.specs.Decode.{head, only, read, got, gots, decode, decodeAll}
-use Rattle.form.specs.declared.tag.Shape.the-variants.{Preds}
+use Rattle.tree.specs.declared.tag.Shape.the-variants.{Preds}
 use Rattle.form.proofs.DecodeLaws.{clash, Ok, ok-node, OkAll, decodeAll-encode, all-sound}
 use Rattle.one_point.specs.Replacement.{Taken, taken, nothing}
 use Rattle.one_point.specs.Scan as S

@@ -9,8 +9,8 @@ use borrow.Author.Tests.{eq-eqb, eqb-true}
 use lib.Dec.{eqb}
 use lib.ListN.{length, getD, take, drop, set, replicate, length-map, length-drop, length-replicate, replicate-append-replicate}
 use lib.Seq.{drop-at, take-at}
-use Rattle.form.specs.Form.{Form, node, Forms, none, more, pick, encode}
-use Rattle.form.specs.Tag.{expr, pred}
+use Rattle.tree.specs.Form.{Form, node, Forms, none, more, pick, encode}
+use Rattle.tree.specs.Tag.{expr, pred}
 use Rattle.form.specs.Lists.{Place, kept, filled}
 use Rattle.form.specs.Answer.{finish}
 use Rattle.form.specs.Internal.Reads.{mark}

@@ -10,8 +10,8 @@ use borrow.Author.Tests.{eqb-true}
 use lib.Dec.{eqb}
 use lib.ListN.{length, getD, drop, replicate, length-append, length-drop}
 use lib.Seq.{drop-drop, drop-append-seam, drop-at, getD-drop}
-use Rattle.form.specs.Form.{free, bound, Form, leaf, node, Forms, none, more, encode, encodeAll}
-use Rattle.form.specs.Tag.{Sort, expr, shapeOf, exprTags}
+use Rattle.tree.specs.Form.{free, bound, Form, leaf, node, Forms, none, more, encode, encodeAll}
+use Rattle.tree.specs.Tag.{Sort, expr, shapeOf, exprTags}
 use Rattle.form.specs.Decode.{got, Gots, gots, decode}
 use Rattle.form.proofs.DecodeLaws.{clash, Ok, ok-free, ok-bound, ok-node, OkAll, ok-none, ok-more, decode-encode, decodeAll-encode, all-sound}
 use Rattle.subst.proofs.RowLaws.{marksOf, marks-length}

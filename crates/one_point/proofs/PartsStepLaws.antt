@@ -6,7 +6,7 @@ use mathlib.Core.List.{List, [], _∷_, append-nil}
 use Prim.Native.Nat.{ℕ, zero, suc, _+_, _-_, _≤_}
 use native.Mathlib.Omega.{arith}
 use lib.ListN.{length, take, drop, length-append}
-use Rattle.form.specs.Form.{Form, encode, encodeAll}
+use Rattle.tree.specs.Form.{Form, encode, encodeAll}
 use Rattle.form.specs.Decode.{decodeAll}
 use Rattle.form.proofs.DecodeLaws.{clash, decode-encode}
 use Rattle.one_point.specs.Replacement.{Taken, taken, nothing, accept}

@@ -8,8 +8,8 @@ use native.Mathlib.Omega.{arith}
 use borrow.Author.Tests.{eq-eqb, ne-eqb, lt-ltb}
 use lib.ListN.{length, getD, take, drop, set, replicate}
 use lib.Seq.{drop-length}
-use Rattle.form.specs.Form.{Form, encode}
-use Rattle.form.specs.Tag.{expr, pred}
+use Rattle.tree.specs.Form.{Form, encode}
+use Rattle.tree.specs.Tag.{expr, pred}
 use Rattle.form.specs.Decode.{Got, got, decode}
 use Rattle.form.specs.Answer.{finish}
 use Rattle.form.specs.Internal.Reads.{mark, Told}

@@ -8,8 +8,8 @@ use borrow.Author.Tests.{le-leb, lt-leb, eqb-true}
 use lib.Dec.{eqb}
 use lib.ListN.{length, take, drop, length-append}
 use lib.Seq.{drop-append-seam}
-use Rattle.form.specs.Form.{Form, node, Forms, none, more, encode}
-use Rattle.form.specs.Tag.{expr, pred}
+use Rattle.tree.specs.Form.{Form, node, Forms, none, more, encode}
+use Rattle.tree.specs.Tag.{expr, pred}
 use Rattle.form.specs.Decode.{Whole, one, not-one, rowForm, found, asSort, formOf}
 use Rattle.form.specs.Answer.{answer, told, ofFound, checkOutcome}
 use Rattle.form.specs.declared.answer.Kind.the-variants.{Predicate}

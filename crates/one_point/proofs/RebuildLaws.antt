@@ -9,8 +9,8 @@ use borrow.Author.Tests.{ne-eqb}
 use lib.Dec.{eqb}
 use lib.ListN.{length, getD, drop, length-append}
 use lib.Seq.{drop-drop, drop-append-seam}
-use Rattle.form.specs.Form.{Form, node, Forms, none, more, pick, encode}
-use Rattle.form.specs.Tag.{pred, shapeOf, predTags}
+use Rattle.tree.specs.Form.{Form, node, Forms, none, more, pick, encode}
+use Rattle.tree.specs.Tag.{pred, shapeOf, predTags}
 use Rattle.form.specs.Decode.{got, decode}
 use Rattle.form.proofs.DecodeLaws.{Ok, ok-node, decode-encode}
 use Rattle.one_point.specs.Replacement.{Taken, taken, nothing}

@@ -8,7 +8,7 @@ use borrow.Author.Tests.{eq-eqb, ne-eqb, eqb-true}
 use lib.Dec.{eqb}
 use lib.ListN.{length, getD, take, drop, set, replicate, length-drop, length-take, getD-replicate}
 use lib.Seq.{length-take-le}
-use Rattle.form.specs.Form.{pick}
+use Rattle.tree.specs.Form.{pick}
 use Rattle.form.specs.declared.lists.Table.{Table}
 use Rattle.form.proofs.HeadLaws.{here}
 use Rattle.subst.proofs.WalkLaws.{and-right}

@@ -9,8 +9,8 @@ use borrow.Author.Tests.{eqb-true, eqb-false}
 use lib.Dec.{eqb}
 use lib.ListN.{length, getD, take, drop}
 use lib.Seq.{drop-drop, drop-append-seam}
-use Rattle.form.specs.Form.{Form, node, Forms, none, more, encode, encodeAll}
-use Rattle.form.specs.Tag.{Sort, expr, pred, shapeOf, predTags}
+use Rattle.tree.specs.Form.{Form, node, Forms, none, more, encode, encodeAll}
+use Rattle.tree.specs.Tag.{Sort, expr, pred, shapeOf, predTags}
 use Rattle.form.specs.Decode.{got, gots, decode}
 use Rattle.form.specs.declared.head.Step.{Step}
 use Rattle.form.specs.declared.head.Step.the-variants.{End, Bad}

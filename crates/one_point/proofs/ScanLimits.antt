@@ -9,10 +9,10 @@ use native.Mathlib.Omega.{arith}
 use borrow.Author.Tests.{eqb-true, eqb-false, ltb-true}
 use lib.Dec.{eqb, ltb}
 use lib.ListN.{length, replicate, length-append}
-use Rattle.form.specs.Form.{Form, leaf, node, Forms, none, more, pick, count, encode, encodeAll}
-use Rattle.form.specs.Tag.{expr, pred, own, ownOf, shapeOf, exprTags, predTags, sorts}
+use Rattle.tree.specs.Form.{Form, leaf, node, Forms, none, more, pick, count, encode, encodeAll}
+use Rattle.tree.specs.Tag.{expr, pred, own, ownOf, shapeOf, exprTags, predTags, sorts}
 use Rattle.form.specs.Decode.{head, read, isLeaf}
-use Rattle.form.specs.declared.tag.Shape.the-variants.{Preds}
+use Rattle.tree.specs.declared.tag.Shape.the-variants.{Preds}
 use Rattle.form.proofs.DecodeLaws.{clash, Ok, ok-node, OkAll, ok-none, ok-more}
 use Rattle.form.proofs.HeadLaws.{between-in}
 use Rattle.subst.proofs.WalkLaws.{and-left, and-right}

@@ -10,8 +10,8 @@ use borrow.Author.Tests.{leb-true, ne-eqb}
 use lib.Dec.{leb, eqb}
 use lib.ListN.{length, getD, take, drop, length-append}
 use lib.Seq.{drop-drop, drop-at, getD-drop}
-use Rattle.form.specs.Form.{Leaf, free, bound, Form, leaf, node, Forms, none, more, pick, between, encode, encodeAll}
-use Rattle.form.specs.Tag.{Sort, expr, pred, Own, ask, kids, own, ownOf, shapeOf, exprTags, predTags, sorts}
+use Rattle.tree.specs.Form.{Leaf, free, bound, Form, leaf, node, Forms, none, more, pick, between, encode, encodeAll}
+use Rattle.tree.specs.Tag.{Sort, expr, pred, Own, ask, kids, own, ownOf, shapeOf, exprTags, predTags, sorts}
 use Rattle.form.specs.Decode.{Head, head, bad, addWord, addName, only, names, read, Got, got, decode}
 use Rattle.form.specs.declared.head.Step.{Step}
 use Rattle.form.specs.declared.head.Step.the-variants.{End, Bad}

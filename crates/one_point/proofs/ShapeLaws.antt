@@ -9,8 +9,8 @@ use native.Mathlib.Omega.{arith}
 use borrow.Author.Tests.{eqb-true}
 use lib.Dec.{eqb}
 use lib.ListN.{length, take, drop, set, replicate, length-append, length-drop}
-use Rattle.form.specs.Form.{Leaf, free, bound, Form, leaf, node, Forms, none, more, pick, between, encode, encodeAll}
-use Rattle.form.specs.Tag.{Sort, expr, pred, own, sorts}
+use Rattle.tree.specs.Form.{Leaf, free, bound, Form, leaf, node, Forms, none, more, pick, between, encode, encodeAll}
+use Rattle.tree.specs.Tag.{Sort, expr, pred, own, sorts}
 use Rattle.form.specs.Decode.{Head, head, bad, only, read, Got, got, no-form, Gots, gots, no-forms, isLeaf, close, chain, addForm, branch, decode, decodeAll}
 use Rattle.form.specs.Lists.{Place, kept, filled}
 use Rattle.form.proofs.DecodeLaws.{clash, Ok, ok-free, ok-bound, ok-node, OkAll, ok-none, ok-more, read-exact, read-free, read-bound}

@@ -9,8 +9,8 @@ use borrow.Author.Tests.{le-leb, ltb-true, lt-ltb, le-ltb, eq-eqb, eqb-true, eqb
 use lib.Dec.{leb, ltb, eqb}
 use lib.ListN.{length, getD, take, drop, set, replicate, getD-replicate, length-append, length-set, length-drop, length-replicate, take-append-drop}
 use lib.Seq.{getD-set-same, getD-set-other, length-take-le, take-append-seam}
-use Rattle.form.specs.Form.{Form, Forms, none, more, pick, count, encode, encodeAll}
-use Rattle.form.specs.Tag.{expr}
+use Rattle.tree.specs.Form.{Form, Forms, none, more, pick, count, encode, encodeAll}
+use Rattle.tree.specs.Tag.{expr}
 use Rattle.form.specs.Decode.{got, decode}
 use Rattle.form.specs.Lists.{Place, kept, filled}
 use Rattle.form.specs.declared.lists.Table.{Table}

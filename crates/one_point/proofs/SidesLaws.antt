@@ -10,8 +10,8 @@ use borrow.Author.Tests.{ne-eqb, eq-eqb}
 use lib.Dec.{ltb}
 use lib.ListN.{length, getD, take, drop, replicate}
 use lib.Seq.{take-append-seam}
-use Rattle.form.specs.Form.{Form, pick, encode, encodeAll}
-use Rattle.form.specs.Tag.{Sort, expr}
+use Rattle.tree.specs.Form.{Form, pick, encode, encodeAll}
+use Rattle.tree.specs.Tag.{Sort, expr}
 use Rattle.form.specs.Decode.{Got, got, no-form, isLeaf, decode, Whole, one, not-one, rowForm, found, missing, asSort, formOf}
 use Rattle.form.specs.Internal.Reads.{mark, Told, decodeIn}
 use Rattle.form.specs.declared.head.Step.{Step}

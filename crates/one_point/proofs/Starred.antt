@@ -3,8 +3,8 @@ use mathlib.Core.Path.{_≡_, refl}
 use mathlib.Core.List.{List, [], _∷_, map}
 use Prim.Native.Nat.{ℕ}
 use lib.IntN.{ℤ, negsuc}
-use Rattle.form.specs.Form.{encode}
-use Rattle.form.specs.Tag.{own, ownOf, shapeOf, exprTags, predTags}
+use Rattle.tree.specs.Form.{encode}
+use Rattle.tree.specs.Tag.{own, ownOf, shapeOf, exprTags, predTags}
 use Rattle.form.specs.Decode.{read, decode, decodeAll, rowForm, formOf}
 use Rattle.form.specs.Lists.{entryOf, entries, listOf, distinct, goodNames}
 use Rattle.form.specs.Answer.{Outcome, answer, refusal, finish}

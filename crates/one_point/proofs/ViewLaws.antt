@@ -3,10 +3,10 @@ use mathlib.Core.Path.{_≡_, refl, sym}
 use mathlib.Core.List.{List, [], _∷_, _++_}
 use Prim.Native.Nat.{ℕ, zero, suc, _≤_}
 use native.Mathlib.Omega.{arith}
-use Rattle.form.specs.Form.{Form, node, Forms, none, more}
-use Rattle.form.specs.Tag.{Sort, expr, pred, own, ownOf, shapeOf, predTags, sorts}
+use Rattle.tree.specs.Form.{Form, node, Forms, none, more}
+use Rattle.tree.specs.Tag.{Sort, expr, pred, own, ownOf, shapeOf, predTags, sorts}
 use Rattle.form.specs.Decode.{head, read}
-use Rattle.form.specs.declared.tag.Shape.the-variants.{Plain}
+use Rattle.tree.specs.declared.tag.Shape.the-variants.{Plain}
 use Rattle.form.proofs.DecodeLaws.{Ok, ok-free, ok-bound, ok-node, OkAll, ok-none, ok-more}
 use Rattle.one_point.specs.Split.{equal}
 

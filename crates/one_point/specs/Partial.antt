@@ -4,7 +4,7 @@ use mathlib.Core.List.{List, [], _∷_, _++_, map}
 use Prim.Native.Nat.{ℕ, zero, suc, _-_}
 use lib.Dec.{eqb}
 use lib.ListN.{length, take, drop, set, replicate}
-use Rattle.form.specs.Form.{Form, pick}
+use Rattle.tree.specs.Form.{Form, pick}
 use Rattle.form.specs.Lists.{Place, kept, filled}
 use Rattle.subst.specs.Shift.{lower}
 use Rattle.replace.specs.Fill.{Quantified, quantifier, other, quantified, quantify, fill}

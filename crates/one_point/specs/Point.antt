@@ -5,8 +5,8 @@ use mathlib.Core.Option.{Option, none as absent, some}
 use Prim.Native.Nat.{ℕ}
 use lib.Dec.{eqb}
 use lib.ListN.{length}
-use Rattle.form.specs.Form.{Form, node, none}
-use Rattle.form.specs.Tag.{pred}
+use Rattle.tree.specs.Form.{Form, node, none}
+use Rattle.tree.specs.Tag.{pred}
 use Rattle.form.specs.Answer.{Outcome, refusal, withWork, withForm, finish}
 use Rattle.form.specs.declared.answer.Kind.the-variants.{Predicate}
 use Rattle.replace.specs.Fill.{Quantified, quantifier, other, quantified}

@@ -3,7 +3,7 @@ use mathlib.Core.Bool.{Bool, true, false}
 use mathlib.Core.Option.{Option, none as absent, some}
 use Prim.Native.Nat.{ℕ, suc}
 use lib.Dec.{ltb}
-use Rattle.form.specs.Form.{Leaf, free, bound, Form, leaf, node, pick}
+use Rattle.tree.specs.Form.{Leaf, free, bound, Form, leaf, node, pick}
 use Rattle.subst.specs.Walk.{each}
 use Rattle.subst.specs.Shift.{reaches}
 

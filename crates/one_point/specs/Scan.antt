@@ -5,7 +5,7 @@ use mathlib.Core.List.{List, [], _∷_}
 use mathlib.Core.Option.{Option, none as absent, some}
 use Prim.Native.Nat.{ℕ}
 use lib.Dec.{eqb}
-use Rattle.form.specs.Form.{Leaf, Form, leaf, node, Forms, none, more, pick, count}
+use Rattle.tree.specs.Form.{Leaf, Form, leaf, node, Forms, none, more, pick, count}
 use Rattle.one_point.specs.Replacement.{Taken, taken, nothing, accept}
 use Rattle.one_point.specs.Split.{isTwo, isNil, parts, equal}
 

@@ -7,7 +7,7 @@ ghost use mathlib.Core.Path.{_≡_};
 ghost use Prim.Native.Nat.{_+_, _*_, _≤_, _<_};
 ghost use lib.ListN.{length};
 ghost use Rattle.one_point.specs.Internal.Scans.{Kids, kidsAt, oneMore, KidsCopied};
-ghost use Rattle.form.specs.Form.{encodeAll, count};
+ghost use Rattle.tree.specs.Form.{encodeAll, count};
 ghost use Rattle.one_point.specs.Internal.Writes.{Wrote};
 
 // What a search took, where it stopped in the row and how many children are left there, and what was written.

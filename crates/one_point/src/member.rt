@@ -2,11 +2,11 @@
 use crate::parts::expr_end;
 use crate::scan::skip_pred;
 use form::head::Step;
-use form::tag::Tag;
+use tree::tag::Tag;
 ghost use mathlib.Core.Path.{_≡_};
 ghost use mathlib.Core.List.{[]};
-ghost use Rattle.form.specs.Form.{Form};
-ghost use Rattle.form.specs.Tag.{pred};
+ghost use Rattle.tree.specs.Form.{Form};
+ghost use Rattle.tree.specs.Tag.{pred};
 ghost use Rattle.form.specs.Decode.{got, decode};
 ghost use Rattle.one_point.specs.Internal.Member.{SetTold};
 

@@ -6,7 +6,7 @@ use crate::sides::match_replacement;
 use crate::sides::skip_expr;
 use crate::writes::copy_part;
 use form::head::Step;
-use form::tag::Tag;
+use tree::tag::Tag;
 ghost use mathlib.Core.Path.{_≡_};
 ghost use Prim.Native.Nat.{_+_, _-_, _*_, _<_, _≤_};
 ghost use lib.ListN.{length};

@@ -6,12 +6,12 @@ use form::answer::Answer;
 use form::head::Step;
 use form::reader::expr_at;
 use form::reader::pred_at;
-use form::tag::Tag;
+use tree::tag::Tag;
 ghost use mathlib.Core.Path.{_≡_};
 ghost use mathlib.Core.List.{[], _∷_};
 ghost use Prim.Native.Nat.{_≤_};
 ghost use lib.ListN.{length, take};
-ghost use Rattle.form.specs.Form.{pick};
+ghost use Rattle.tree.specs.Form.{pick};
 ghost use Rattle.form.specs.Answer.{told, written};
 ghost use Rattle.one_point.specs.Internal.Reduce.{Placing, Marking, Cleared, placedOutcome, emptyWord, Reducing, bodyOutcome};
 

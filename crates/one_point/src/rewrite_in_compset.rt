@@ -12,7 +12,7 @@ use form::reader::pred_at;
 ghost use mathlib.Core.Path.{_≡_};
 ghost use Prim.Native.Nat.{_≤_};
 ghost use lib.ListN.{length, take};
-ghost use Rattle.form.specs.Tag.{pred};
+ghost use Rattle.tree.specs.Tag.{pred};
 ghost use Rattle.form.specs.Answer.{told, written, finish};
 ghost use Rattle.subst.specs.Internal.Items.{Fresh};
 ghost use Rattle.one_point.specs.Member.{memberOf, memberOutcome};

@@ -8,7 +8,7 @@ use subst::items::all_in;
 ghost use mathlib.Core.Path.{_≡_};
 ghost use Prim.Native.Nat.{_*_, _^_, _<_, _≤_};
 ghost use lib.ListN.{length, drop};
-ghost use Rattle.form.specs.Tag.{expr};
+ghost use Rattle.tree.specs.Tag.{expr};
 ghost use Rattle.form.specs.Decode.{decode};
 ghost use Rattle.subst.specs.Internal.Items.{Fresh};
 ghost use Rattle.one_point.specs.Internal.Sides.{endAt, equalityWords, indexWords, replacementWords, aboveWords};

@@ -1,9 +1,9 @@
 // Words written into the output row: parts copied, and nodes rebuilt from what is left of their children.
-use form::tag::Tag;
+use tree::tag::Tag;
 ghost use mathlib.Core.Path.{_≡_};
 ghost use Prim.Native.Nat.{_+_, _-_, _<_, _≤_};
 ghost use lib.ListN.{length, take, drop};
-ghost use Rattle.form.specs.Form.{Form, Forms, count, encode, encodeAll};
+ghost use Rattle.tree.specs.Form.{Form, Forms, count, encode, encodeAll};
 ghost use Rattle.one_point.specs.Scan.{negate, joined};
 ghost use Rattle.one_point.specs.Internal.Writes.{Wrote, Neat, leftWords, isGone};
 

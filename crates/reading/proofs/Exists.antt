@@ -9,7 +9,7 @@ use native.Mathlib.Omega.{arith}
 use lib.Dec.{eqb, eqb→eq}
 use lib.IntN.{ℤ}
 use lib.ListN.{length}
-use Rattle.form.specs.Form.{Form, leaf, node, none, more, pick}
+use Rattle.tree.specs.Form.{Form, leaf, node, none, more, pick}
 use Rattle.form.proofs.DecodeLaws.{clash}
 use Rattle.replace.specs.Fill.{Quantified, quantifier, other, quantified, quantify}
 use Rattle.one_point.specs.Partial.{joinWith, putRound}

@@ -8,7 +8,7 @@ use native.Mathlib.Omega.{arith}
 use lib.Dec.{leb→le}
 use lib.IntN.{ℤ, pos}
 use lib.ListN.{length, replicate, length-replicate}
-use Rattle.form.specs.Form.{bound, Form, leaf}
+use Rattle.tree.specs.Form.{bound, Form, leaf}
 use Rattle.form.specs.Lists.{kept, filled}
 use Rattle.subst.specs.Walk.{Outer, named, dangling, walk, up, lift, put, subst}
 use Rattle.subst.specs.Shift.{reaches, fall, lower}

@@ -8,7 +8,7 @@ use native.Mathlib.Nat.{add-zero}
 use native.Mathlib.Omega.{arith}
 use lib.IntN.{ℤ}
 use lib.ListN.{length, length-append, replicate}
-use Rattle.form.specs.Form.{Form, node, none, more}
+use Rattle.tree.specs.Form.{Form, node, none, more}
 use Rattle.form.specs.Lists.{kept, filled}
 use Rattle.subst.specs.Walk.{lift, subst}
 use Rattle.replace.specs.Fill.{quantify, fillFor}

@@ -5,7 +5,7 @@ use mathlib.Core.Bool.{Bool, true, false, _&&_, and-true, and-assoc}
 use Prim.Native.Nat.{ℕ}
 use lib.Dec.{eqb, eqb→eq}
 use lib.IntN.{ℤ}
-use Rattle.form.specs.Form.{Form, leaf, node, Forms, none, more, pick}
+use Rattle.tree.specs.Form.{Form, leaf, node, Forms, none, more, pick}
 use Rattle.one_point.specs.Split.{isTwo, isNil, isPair, parts, partsAll}
 use Rattle.subst.proofs.WalkLaws.{and-left, and-right}
 use Rattle.reading.specs.Reading.{Reading, truth, same, Meaning, equality, meaning, valueOf, Env, value, values}

@@ -6,8 +6,8 @@ use mathlib.Core.Option.{some}
 use mathlib.Core.List.{List}
 use Prim.Native.Nat.{ℕ}
 use lib.ListN.{length, take}
-use Rattle.form.specs.Form.{Form}
-use Rattle.form.specs.Tag.{pred}
+use Rattle.tree.specs.Form.{Form}
+use Rattle.tree.specs.Tag.{pred}
 use Rattle.form.specs.Decode.{found, formOf}
 use Rattle.form.specs.Answer.{answer, told, written}
 use Rattle.form.specs.declared.answer.Kind.the-variants.{Predicate}

@@ -9,7 +9,7 @@ use native.Mathlib.Omega.{arith}
 use lib.Dec.{eqb, eqb→eq, ltb→lt}
 use lib.ListN.{length, take, drop, getD, replicate, length-drop}
 use lib.Seq.{split-at, drop-cons}
-use Rattle.form.specs.Form.{Form, node, none, more}
+use Rattle.tree.specs.Form.{Form, node, none, more}
 use Rattle.form.specs.Lists.{kept, filled}
 use Rattle.form.proofs.DecodeLaws.{clash}
 use Rattle.subst.specs.Walk.{lift, subst}

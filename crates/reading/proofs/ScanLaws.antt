@@ -7,7 +7,7 @@ use mathlib.Core.Bool.{Bool, true, false, not, _&&_, _||_, and-true, or-false, a
 use Prim.Native.Nat.{ℕ}
 use lib.Dec.{ltb, eqb, eqb→eq}
 use lib.IntN.{ℤ}
-use Rattle.form.specs.Form.{free, bound, Form, leaf, node, Forms, none, more, pick, count}
+use Rattle.tree.specs.Form.{free, bound, Form, leaf, node, Forms, none, more, pick, count}
 use Rattle.one_point.specs.Replacement.{left, right, offer, indexOf, offerOf, above, Taken, taken, nothing, allowed, ofOffer, accept}
 use Rattle.one_point.specs.Split.{parts, equal}
 use Rattle.one_point.specs.Scan.{Scan, scanned, Scans, scans, negate, present, joined, implies, firstOf, implied, negated, copied, offerPart, offerParts, copies, follow, with}

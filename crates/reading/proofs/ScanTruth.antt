@@ -5,7 +5,7 @@ use mathlib.Core.Bool.{Bool, true, false, not, _&&_, _||_, and-true, and-false, 
 use Prim.Native.Nat.{ℕ, suc}
 use native.Mathlib.Omega.{arith}
 use lib.Dec.{eqb, eqb→eq}
-use Rattle.form.specs.Form.{Form, leaf, node, Forms, none, more, pick, count}
+use Rattle.tree.specs.Form.{Form, leaf, node, Forms, none, more, pick, count}
 use Rattle.form.proofs.DecodeLaws.{clash}
 use Rattle.subst.proofs.WalkLaws.{and-left}
 use Rattle.one_point.specs.Split.{isTwo}

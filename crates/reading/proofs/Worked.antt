@@ -8,7 +8,7 @@ use Prim.Native.Nat.{ℕ, zero, suc, _+_}
 use native.Mathlib.Omega.{arith}
 use lib.Dec.{eqb}
 use lib.IntN.{ℤ, pos, negsuc}
-use Rattle.form.specs.Form.{free, bound, Form, leaf, node, Forms, none, more, pick}
+use Rattle.tree.specs.Form.{free, bound, Form, leaf, node, Forms, none, more, pick}
 use Rattle.subst.specs.Walk.{walk, collect}
 use Rattle.replace.specs.Fill.{quantified, fill}
 use Rattle.one_point.specs.Replacement.{accept}

@@ -5,7 +5,7 @@ use mathlib.Core.List.{List, [], _∷_}
 use Prim.Native.Nat.{ℕ, suc, _-_}
 use lib.IntN.{ℤ, pos}
 use lib.ListN.{length, take, getD, replicate}
-use Rattle.form.specs.Form.{Form}
+use Rattle.tree.specs.Form.{Form}
 use Rattle.replace.specs.Fill.{Quantified, quantifier, other, quantified}
 use Rattle.one_point.specs.Replacement.{Taken, taken, nothing}
 use Rattle.one_point.specs.Scan.{Scan, scanned, scan}

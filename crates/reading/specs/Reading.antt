@@ -5,7 +5,7 @@ use mathlib.Core.List.{List, [], _∷_, _++_, map}
 use Prim.Native.Nat.{ℕ, zero, suc}
 use lib.Dec.{eqb}
 use lib.IntN.{ℤ, pos, negsuc}
-use Rattle.form.specs.Form.{Leaf, free, bound, Form, leaf, node, Forms, none, more, pick, between}
+use Rattle.tree.specs.Form.{Leaf, free, bound, Form, leaf, node, Forms, none, more, pick, between}
 
 -- a reading: numbers for names and dangling indices, a range for each declared name, and a fixed function for every tag without a meaning
 -- of its own. A node's function sees its tag, own words, declared names and children's values; two pairs are equal only if both parts are.

@@ -5,7 +5,7 @@ use Prim.Native.Nat.{ℕ, _+_, _-_, _≤_, _<_}
 use native.Mathlib.Omega.{arith}
 use borrow.Author.Tests.{leb-true, ltb-true}
 use lib.Dec.{leb, ltb}
-use Rattle.form.specs.Form.{bound, Form, leaf, encode}
+use Rattle.tree.specs.Form.{bound, Form, leaf, encode}
 use Rattle.subst.specs.Walk.{Outer, named, dangling, walk, up, lift, put, each}
 use Rattle.subst.specs.Shift.{reaches, fall, lower}
 use Rattle.subst.specs.Internal.Items.{rewritten, movedWords, moveWord}

@@ -9,8 +9,8 @@ use borrow.Author.Tests.{le-leb, lt-leb}
 use lib.Dec.{leb}
 use lib.ListN.{length, take, drop, length-append, length-drop}
 use lib.Seq.{take-at, take-all}
-use Rattle.form.specs.Form.{Form, encode, pick}
-use Rattle.form.specs.Tag.{Sort, expr, pred}
+use Rattle.tree.specs.Form.{Form, encode, pick}
+use Rattle.tree.specs.Tag.{Sort, expr, pred}
 use Rattle.form.specs.Decode.{Whole, one, not-one, rowForm, Found, found, missing, asSort, formOf}
 use Rattle.form.specs.Answer.{Outcome, answer, refusal, told, written, isOne, finish, checkOutcome}
 use Rattle.form.specs.declared.answer.Kind.{Kind}

@@ -7,8 +7,8 @@ use native.Mathlib.Nat.{le-refl}
 use borrow.Author.Tests.{le-leb, lt-leb}
 use lib.ListN.{length, take}
 use lib.Seq.{take-take}
-use Rattle.form.specs.Form.{Form, encode}
-use Rattle.form.specs.Tag.{Sort}
+use Rattle.tree.specs.Form.{Form, encode}
+use Rattle.tree.specs.Tag.{Sort}
 use Rattle.form.specs.Decode.{missing, formOf}
 use Rattle.form.specs.Lists.{Entry, listOf}
 use Rattle.form.specs.Answer.{Outcome, refusal, withWork, withForm, withList}

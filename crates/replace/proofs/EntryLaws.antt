@@ -10,8 +10,8 @@ use native.Mathlib.Omega.{arith}
 use borrow.Author.Tests.{lt-leb}
 use lib.ListN.{length, getD, take, drop, set, replicate, length-append, length-set, take-append-drop}
 use lib.Seq.{take-at, drop-at, take-suc-set, getD-take}
-use Rattle.form.specs.Form.{Form, encode}
-use Rattle.form.specs.Tag.{expr}
+use Rattle.tree.specs.Form.{Form, encode}
+use Rattle.tree.specs.Tag.{expr}
 use Rattle.form.specs.Lists.{Place, kept, filled, Entry, entry, placeOf, placeWords, entryWords, encodeList, wordOf, listOf}
 use Rattle.form.specs.Internal.Reads.{markEntries, emptyTable, addRow, tabled}
 use Rattle.form.specs.declared.lists.ListKind.{ListKind}

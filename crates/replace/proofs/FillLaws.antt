@@ -8,8 +8,8 @@ use native.Mathlib.Omega.{arith}
 use borrow.Author.Tests.{eq-eqb, ne-eqb}
 use lib.Dec.{eqb}
 use lib.ListN.{length, getD, take, drop, replicate, length-map, length-drop}
-use Rattle.form.specs.Form.{Form, encode}
-use Rattle.form.specs.Tag.{Sort, pred}
+use Rattle.tree.specs.Form.{Form, encode}
+use Rattle.tree.specs.Tag.{Sort, pred}
 use Rattle.form.specs.Decode.{Whole, one, not-one, rowForm, found, missing, asSort, formOf}
 use Rattle.form.specs.Lists.{Place, kept, filled, Entry, entry, wordOf, placeOf, listOf}
 use Rattle.form.specs.Answer.{Outcome, refusal, needs, finish}

@@ -10,8 +10,8 @@ use borrow.Author.Tests.{le-leb, leb-true, leb-false, lt-ltb, le-ltb}
 use lib.Dec.{leb, eqb}
 use lib.ListN.{length, getD, take, drop, length-map, length-drop, length-reverse, List·getD-map}
 use lib.Seq.{getD-take, split-at}
-use Rattle.form.specs.Form.{Leaf, free, bound, Form, leaf, pick, encode}
-use Rattle.form.specs.Tag.{Sort}
+use Rattle.tree.specs.Form.{Leaf, free, bound, Form, leaf, pick, encode}
+use Rattle.tree.specs.Tag.{Sort}
 use Rattle.form.specs.Lists.{Place, kept, filled}
 use Rattle.form.specs.declared.lists.Table.{Table}
 use Rattle.form.proofs.DecodeLaws.{Ok}

@@ -10,8 +10,8 @@ use borrow.Author.Tests.{le-leb, lt-leb, leb-true, leb-false}
 use lib.Dec.{leb, eqb}
 use lib.ListN.{length, getD, take, drop, replicate, length-map, length-drop, List·getD-eq-default}
 use lib.Seq.{take-take, take-at}
-use Rattle.form.specs.Form.{Leaf, free, bound, Form, leaf, pick, encode}
-use Rattle.form.specs.Tag.{Sort, expr, pred}
+use Rattle.tree.specs.Form.{Leaf, free, bound, Form, leaf, pick, encode}
+use Rattle.tree.specs.Tag.{Sort, expr, pred}
 use Rattle.form.specs.Decode.{Whole, one, not-one, Found, found, missing, asSort, rowForm, formOf}
 use Rattle.form.specs.Lists.{Place, kept, filled, Entry, entry, wordOf, placeOf, encodeList, listOf, distinct, goodNames}
 use Rattle.form.specs.Answer.{Outcome, refusal, needs, finish}

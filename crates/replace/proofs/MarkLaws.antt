@@ -7,8 +7,8 @@ use native.Mathlib.Nat.{add-zero}
 use native.Mathlib.Omega.{arith}
 use lib.ListN.{length, getD, take, drop, set, replicate, length-append, length-replicate, length-take, length-drop, take-append-drop}
 use lib.Seq.{take-at, drop-at, take-append-le, length-take-le, drop-drop, take-all}
-use Rattle.form.specs.Form.{Form, encode}
-use Rattle.form.specs.Tag.{Sort}
+use Rattle.tree.specs.Form.{Form, encode}
+use Rattle.tree.specs.Tag.{Sort}
 use Rattle.form.specs.Decode.{Found, found, missing, formOf}
 use Rattle.form.specs.Lists.{Place, kept, filled, Entry, entry, placeWords, entryWords, encodeList, listOf}
 use Rattle.form.specs.Internal.Reads.{mark, Marked, markPlace, markEntry, markEntries, ListingFrom, Listing}

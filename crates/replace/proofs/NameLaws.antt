@@ -5,7 +5,7 @@ use Prim.Native.Nat.{ℕ, zero, suc, _+_, _-_, _≤_, _<_}
 use native.Mathlib.Omega.{arith}
 use lib.ListN.{length, getD, take, drop, set, length-append, length-drop}
 use lib.Seq.{take-at, getD-drop}
-use Rattle.form.specs.Form.{Form, node, none, more, encode}
+use Rattle.tree.specs.Form.{Form, node, none, more, encode}
 use Rattle.form.specs.Lists.{Place, kept, filled}
 use Rattle.form.proofs.HeadLaws.{here, gone}
 use Rattle.subst.specs.Internal.Items.{store}

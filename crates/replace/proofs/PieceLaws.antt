@@ -9,7 +9,7 @@ use borrow.Author.Tests.{le-leb, lt-leb, leb-true, leb-false, lt-ltb, le-ltb, lt
 use lib.Dec.{leb, ltb, eqb}
 use lib.ListN.{length, getD, take, drop, length-append, length-drop}
 use lib.Seq.{length-take-le}
-use Rattle.form.specs.Form.{pick}
+use Rattle.tree.specs.Form.{pick}
 use Rattle.form.proofs.HeadLaws.{here, gone}
 use Rattle.subst.specs.Internal.Items.{itemAt, items, sizeOf, wordsOf, rewritten, store, moveItem, movedWords}
 use Rattle.subst.specs.declared.items.Item.{Item}

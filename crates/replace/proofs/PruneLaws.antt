@@ -9,8 +9,8 @@ use borrow.Author.Tests.{lt-ltb, le-ltb, eq-eqb, ne-eqb}
 use lib.Dec.{eqb, ltb}
 use lib.ListN.{length, getD, take, drop, set, replicate, length-append, length-drop, length-replicate, getD-replicate}
 use lib.Seq.{take-at}
-use Rattle.form.specs.Form.{Leaf, free, bound, Form, leaf, pick, encode}
-use Rattle.form.specs.Tag.{Sort, pred}
+use Rattle.tree.specs.Form.{Leaf, free, bound, Form, leaf, pick, encode}
+use Rattle.tree.specs.Tag.{Sort, pred}
 use Rattle.form.specs.Decode.{missing, formOf}
 use Rattle.form.specs.Lists.{Place, kept, filled}
 use Rattle.form.specs.Answer.{Outcome, refusal, needs, finish}

@@ -7,8 +7,8 @@ use native.Mathlib.Omega.{arith}
 use borrow.Author.Tests.{eq-eqb, le-leb, leb-true}
 use lib.Dec.{eqb, leb}
 use lib.ListN.{length, length-append, length-reverse}
-use Rattle.form.specs.Form.{Leaf, free, bound, Form, leaf, node, Forms, none, more, pick, between, encode}
-use Rattle.form.specs.Tag.{Sort, pred}
+use Rattle.tree.specs.Form.{Leaf, free, bound, Form, leaf, node, Forms, none, more, pick, between, encode}
+use Rattle.tree.specs.Tag.{Sort, pred}
 use Rattle.form.specs.Decode.{Head, head, bad, addWord, only, names, read, Whole, one, not-one, rowForm, asSort, formOf}
 use Rattle.form.specs.Lists.{Place, kept, filled}
 use Rattle.form.specs.Answer.{Outcome, answer, refusal, ofFound, needs, isOne, finish}

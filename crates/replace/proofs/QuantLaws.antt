@@ -9,8 +9,8 @@ use borrow.Author.Tests.{eqb-true, leb-true, le-ltb}
 use lib.Dec.{leb, eqb, ltb}
 use lib.ListN.{length, getD, take, drop, replicate, length-append, take-append-drop}
 use lib.Seq.{drop-at}
-use Rattle.form.specs.Form.{Form, leaf, node, Forms, none, more, pick, between, encode, encodeAll}
-use Rattle.form.specs.Tag.{Sort, expr, pred, Own, ask, kids, own, ownOf, shapeOf, predTags, sorts}
+use Rattle.tree.specs.Form.{Form, leaf, node, Forms, none, more, pick, between, encode, encodeAll}
+use Rattle.tree.specs.Tag.{Sort, expr, pred, Own, ask, kids, own, ownOf, shapeOf, predTags, sorts}
 use Rattle.form.specs.Decode.{Head, head, bad, addWord, addName, only, names, read, isLeaf}
 use Rattle.form.specs.Internal.Reads.{mark}
 use Rattle.form.proofs.DecodeLaws.{clash, Ok, ok-node, OkAll, ok-none, ok-more}

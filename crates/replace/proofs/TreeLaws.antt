@@ -8,7 +8,7 @@ use native.Mathlib.Omega.{arith}
 use borrow.Author.Tests.{eqb-true}
 use lib.Dec.{eqb}
 use lib.ListN.{length, length-map, length-reverse}
-use Rattle.form.specs.Form.{Leaf, free, bound, Form, leaf, pick}
+use Rattle.tree.specs.Form.{Leaf, free, bound, Form, leaf, pick}
 use Rattle.form.specs.Lists.{Place, kept, filled, Entry, entry}
 use Rattle.subst.specs.Walk.{Outer, named, dangling, walk, up, lift, put, subst}
 use Rattle.subst.specs.Bind.{bindName, bindFor, bind}

@@ -4,8 +4,8 @@ use mathlib.Core.List.{List, [], _∷_, reverse, map}
 use Prim.Native.Nat.{ℕ, zero, suc, _+_}
 use lib.Dec.{eqb}
 use lib.ListN.{length}
-use Rattle.form.specs.Form.{Leaf, free, bound, Form, leaf, node, Forms, none, more, pick}
-use Rattle.form.specs.Tag.{pred}
+use Rattle.tree.specs.Form.{Leaf, free, bound, Form, leaf, node, Forms, none, more, pick}
+use Rattle.tree.specs.Tag.{pred}
 use Rattle.form.specs.Lists.{Place, kept, filled, placeOf}
 use Rattle.form.specs.Answer.{Outcome, refusal, withWork, withForm, withList, needs, finish}
 use Rattle.form.specs.declared.answer.Kind.the-variants.{Predicate}

@@ -14,7 +14,7 @@ use subst::items::size_of;
 ghost use mathlib.Core.Path.{_≡_};
 ghost use Prim.Native.Nat.{_+_, _-_, _≤_, _<_};
 ghost use lib.ListN.{length, drop};
-ghost use Rattle.form.specs.Form.{pick};
+ghost use Rattle.tree.specs.Form.{pick};
 ghost use Rattle.form.specs.Answer.{told, written};
 ghost use Rattle.subst.specs.Internal.Items.{items, allItems, store};
 ghost use Rattle.replace.specs.Prune.{pruneOutcome};

@@ -9,8 +9,8 @@ use borrow.Author.Tests.{le-leb}
 use lib.Dec.{leb, eqb}
 use lib.IntN.{ℤ}
 use lib.ListN.{length, length-append}
-use Rattle.form.specs.Form.{Form, encode}
-use Rattle.form.specs.Tag.{Sort, expr, pred}
+use Rattle.tree.specs.Form.{Form, encode}
+use Rattle.tree.specs.Tag.{Sort, expr, pred}
 use Rattle.form.specs.Decode.{Whole, one, not-one, rowForm, Found, found, missing, formOf}
 use Rattle.form.specs.Lists.{Entry, wordOf, placeOf, listOf, goodNames}
 use Rattle.form.specs.Answer.{Outcome, answer, refusal, withForm, ofFound, withList, ofList, needs, isOne, finish}

@@ -9,8 +9,8 @@ use native.Mathlib.Omega.{arith}
 use borrow.Author.Tests.{le-leb, lt-leb}
 use lib.Dec.{leb}
 use lib.ListN.{length, take}
-use Rattle.form.specs.Form.{Form, pick}
-use Rattle.form.specs.Tag.{Sort}
+use Rattle.tree.specs.Form.{Form, pick}
+use Rattle.tree.specs.Tag.{Sort}
 use Rattle.form.specs.Decode.{Found, found, missing, formOf}
 use Rattle.form.specs.Lists.{Entry, listOf}
 use Rattle.form.specs.Answer.{Outcome, answer, refusal, told, written, within, ofFound, ofList, withForm, withList, needs, checkOutcome}
@@ -24,7 +24,7 @@ use Rattle.form.specs.declared.lists.Listed.{Listed}
 use Rattle.form.proofs.DecodeLaws.{clash}
 use Rattle.form.proofs.CheckLaws.{form-of}
 use Rattle.form.proofs.RowLaws.{row-short, found-exact}
-use Rattle.form.proofs.Ranges.{split}
+use Rattle.tree.proofs.Ranges.{split}
 use Rattle.form.proofs.TableLaws.{listing-no, listing-yes}
 use Rattle.line.specs.Spell.{spells, fitsForm, fitsList, fitsNames}
 use Rattle.line.specs.declared.line.Part.{Part}

@@ -8,9 +8,9 @@ use lib.Dec.{leb, eqb}
 use lib.IntN.{ℤ, pos}
 use lib.ListN.{length, drop, length-drop}
 use mathlib.Core.Logic.{⊎-elim}
-use Rattle.form.specs.Form.{pick}
+use Rattle.tree.specs.Form.{pick}
 use Rattle.form.proofs.HeadLaws.{gone}
-use Rattle.form.proofs.Ranges.{split}
+use Rattle.tree.proofs.Ranges.{split}
 use Rattle.line.specs.Scan.{Scan, ended, broken, addByte, moved, markWords, note, depthAfter, turn, scan, group, scanWords, Signed, signed, unsigned, offset}
 use Rattle.line.specs.Line.{closing, closed, lastGroup, Formed, formed, formPart, formArg, space, nextArg, noList, ofOffset, shiftArgs, ofList, listArgs, args, listWords, ofStart, listStart, startOf, heads, readLine, listRow}
 use Rattle.line.specs.declared.turn.State.{State}

@@ -4,7 +4,7 @@ use mathlib.Core.List.{List, [], _∷_}
 use Prim.Native.Nat.{ℕ, suc}
 use lib.Dec.{ltb, eqb}
 use lib.ListN.{length}
-use Rattle.form.specs.Form.{pick}
+use Rattle.tree.specs.Form.{pick}
 use Rattle.reply.specs.declared.split.Next.{Next}
 use Rattle.reply.specs.declared.split.Next.the-variants.{Line, Skipped, Long, More}
 

@@ -7,8 +7,8 @@ use native.Mathlib.Omega.{arith}
 use borrow.Author.Tests.{le-leb}
 use lib.Dec.{leb, eqb}
 use lib.ListN.{length}
-use Rattle.form.specs.Form.{Form, pick, encode}
-use Rattle.form.specs.Tag.{Sort}
+use Rattle.tree.specs.Form.{Form, pick, encode}
+use Rattle.tree.specs.Tag.{Sort}
 use Rattle.form.specs.Decode.{Whole, one, not-one, rowForm, Found, found, missing, formOf}
 use Rattle.form.specs.Answer.{Outcome, answer, refusal, told, lengthOf, needs, isOne, finish}
 use Rattle.form.specs.declared.answer.Kind.the-variants.{Either}

@@ -9,8 +9,8 @@ use borrow.Author.Tests.{leb-true}
 use lib.Dec.{leb, ltb, eqb}
 use lib.IntN.{ℤ}
 use lib.ListN.{length, length-append}
-use Rattle.form.specs.Form.{free, bound, Form, leaf, node, Forms, none, more, pick, encode, encodeAll}
-use Rattle.form.specs.Tag.{Sort, pred}
+use Rattle.tree.specs.Form.{free, bound, Form, leaf, node, Forms, none, more, pick, encode, encodeAll}
+use Rattle.tree.specs.Tag.{Sort, pred}
 use Rattle.form.specs.Decode.{Found, found, missing, formOf}
 use Rattle.form.specs.Lists.{Entry, wordOf, placeOf, listOf, goodNames}
 use Rattle.form.specs.Answer.{Outcome, answer, refusal, told, number, lengthOf, ofFound, ofList, withForm, withList, needs, finish}

@@ -7,8 +7,8 @@ use native.Mathlib.Omega.{arith}
 use borrow.Author.Tests.{eq-eqb, ne-eqb, le-leb, lt-leb, leb-true, ltb-true, lt-ltb, le-ltb}
 use lib.Dec.{leb, ltb, eqb}
 use lib.ListN.{length, getD, drop, replicate, length-drop}
-use Rattle.form.specs.Form.{Leaf, free, bound, Form, leaf, pick, between, encode}
-use Rattle.form.specs.Tag.{Sort}
+use Rattle.tree.specs.Form.{Leaf, free, bound, Form, leaf, pick, between, encode}
+use Rattle.tree.specs.Tag.{Sort}
 use Rattle.form.specs.Decode.{missing, formOf}
 use Rattle.form.specs.Lists.{distinct, goodNames}
 use Rattle.form.specs.Answer.{refusal, finish}

@@ -4,8 +4,8 @@ use mathlib.Core.List.{List}
 use Prim.Native.Nat.{ℕ, _≤_, _<_}
 use borrow.Author.Tests.{le-leb, lt-leb}
 use lib.ListN.{length, replicate}
-use Rattle.form.specs.Form.{Form, encode}
-use Rattle.form.specs.Tag.{Sort}
+use Rattle.tree.specs.Form.{Form, encode}
+use Rattle.tree.specs.Tag.{Sort}
 use Rattle.form.specs.Decode.{one, rowForm, Found, found, missing, formOf}
 use Rattle.form.specs.Answer.{Outcome, refusal, told, written, withForm, checkOutcome}
 use Rattle.form.specs.Internal.Reads.{mark, Marked}

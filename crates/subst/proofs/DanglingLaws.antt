@@ -10,7 +10,7 @@ use borrow.Author.Tests.{eq-eqb, ne-eqb, le-leb, lt-leb, lt-ltb, le-ltb, ltb-tru
 use lib.Dec.{leb, ltb, eqb}
 use lib.Seq.{set-out}
 use lib.ListN.{length, getD, drop, set, replicate, length-append, length-set}
-use Rattle.form.specs.Form.{Leaf, free, bound, Form, leaf, node, Forms, none, more, pick, encode}
+use Rattle.tree.specs.Form.{Leaf, free, bound, Form, leaf, node, Forms, none, more, pick, encode}
 use Rattle.form.specs.Decode.{missing, formOf}
 use Rattle.form.specs.Answer.{Outcome, answer, refusal, told, written}
 use Rattle.form.specs.Internal.Reads.{mark}

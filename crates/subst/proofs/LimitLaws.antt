@@ -8,8 +8,8 @@ use native.Mathlib.Omega.{arith}
 use borrow.Author.Tests.{le-leb}
 use lib.Dec.{leb}
 use lib.ListN.{length, length-append}
-use Rattle.form.specs.Form.{Leaf, free, bound, Form, leaf, node, Forms, none, more, between, leafWords, encode, encodeAll}
-use Rattle.form.specs.Tag.{Sort, expr}
+use Rattle.tree.specs.Form.{Leaf, free, bound, Form, leaf, node, Forms, none, more, between, leafWords, encode, encodeAll}
+use Rattle.tree.specs.Tag.{Sort, expr}
 use Rattle.form.specs.Decode.{head, only, Got, got, no-form, Gots, gots, no-forms, isLeaf, close, chain, branch, decode, decodeAll, whole, rowForm}
 use Rattle.form.specs.Answer.{isOne}
 use Rattle.form.proofs.HeadLaws.{few-names}

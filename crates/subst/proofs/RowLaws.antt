@@ -6,7 +6,7 @@ use Prim.Native.Nat.{ℕ, zero, suc, _+_, _-_, _≤_, _<_}
 use native.Mathlib.Nat.{sub-zero, add-zero, add-assoc}
 use native.Mathlib.Omega.{arith}
 use lib.ListN.{length, length-append, set, replicate}
-use Rattle.form.specs.Form.{Leaf, free, bound, Form, leaf, node, Forms, none, more, encode, encodeAll}
+use Rattle.tree.specs.Form.{Leaf, free, bound, Form, leaf, node, Forms, none, more, encode, encodeAll}
 use Rattle.form.specs.Internal.Reads.{mark, markAll}
 use Rattle.subst.specs.Walk.{Outer, walkLeaf, walk, walkAll, collectLeaf, collect, each, eachAll}
 use Rattle.subst.specs.Internal.Items.{items, rewritten, allItems}

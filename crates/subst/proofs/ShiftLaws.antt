@@ -8,8 +8,8 @@ use borrow.Author.Tests.{ne-eqb, le-leb, leb-true, ltb-true, lt-ltb, le-ltb}
 use lib.Dec.{leb, ltb}
 use lib.IntN.{ℤ, pos, negsuc}
 use lib.ListN.{length, replicate}
-use Rattle.form.specs.Form.{Leaf, free, bound, Form, leaf, pick, between, encode}
-use Rattle.form.specs.Tag.{Sort}
+use Rattle.tree.specs.Form.{Leaf, free, bound, Form, leaf, pick, between, encode}
+use Rattle.tree.specs.Tag.{Sort}
 use Rattle.form.specs.Decode.{missing, formOf}
 use Rattle.form.specs.Answer.{answer, refusal, finish}
 use Rattle.form.specs.Internal.Reads.{mark}

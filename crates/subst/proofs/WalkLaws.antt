@@ -6,7 +6,7 @@ use Prim.Native.Nat.{ℕ, zero, suc, _+_, _≤_, _<_}
 use native.Mathlib.Nat.{zero-add, suc-add, add-zero, add-assoc}
 use native.Mathlib.Omega.{arith}
 use lib.ListN.{length}
-use Rattle.form.specs.Form.{Leaf, free, bound, Form, leaf, node, Forms, none, more}
+use Rattle.tree.specs.Form.{Leaf, free, bound, Form, leaf, node, Forms, none, more}
 use Rattle.form.proofs.DecodeLaws.{clash}
 use Rattle.subst.specs.Walk.{Binding, inside, outside, binding, Outer, named, dangling, walkIndex, walkLeaf, walk, walkAll, up, lift, put, subst, collectIndex, collectLeaf, collect, each, eachAll}
 

@@ -4,7 +4,7 @@ use mathlib.Core.List.{List, [], _∷_, _++_}
 use Prim.Native.Nat.{ℕ}
 use lib.Dec.{ltb, eqb, leb}
 use lib.ListN.{length}
-use Rattle.form.specs.Form.{Form, pick}
+use Rattle.tree.specs.Form.{Form, pick}
 use Rattle.form.specs.Answer.{Outcome, answer, withForm, needs}
 use Rattle.form.specs.declared.answer.Kind.the-variants.{Either}
 use Rattle.subst.specs.Walk.{Outer, named, dangling, collect, each}

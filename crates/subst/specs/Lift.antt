@@ -4,7 +4,7 @@ use mathlib.Core.List.{List, [], _++_}
 use Prim.Native.Nat.{ℕ}
 use lib.Dec.{leb, eqb}
 use lib.ListN.{length, drop}
-use Rattle.form.specs.Form.{Form, pick}
+use Rattle.tree.specs.Form.{Form, pick}
 use Rattle.form.specs.Decode.{Found, found, missing, formOf}
 use Rattle.form.specs.Answer.{Outcome, answer, refusal, finish}
 use Rattle.form.specs.declared.answer.Kind.the-variants.{Either}

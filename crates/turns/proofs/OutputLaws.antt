@@ -8,7 +8,7 @@ use borrow.Author.Tests.{lt-leb}
 use lib.Dec.{eqb}
 use lib.ListN.{length, take, drop, length-append}
 use lib.Seq.{drop-length}
-use Rattle.form.specs.Form.{pick}
+use Rattle.tree.specs.Form.{pick}
 use Rattle.form.proofs.DecodeLaws.{clash}
 use Rattle.line.specs.Spell.{printNo}
 use Rattle.line.specs.Line.{readLine}

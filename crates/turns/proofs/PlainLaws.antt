@@ -7,7 +7,7 @@ use native.Mathlib.Omega.{arith}
 use borrow.Author.Tests.{ne-eqb}
 use lib.Dec.{ltb}
 use lib.ListN.{length, length-append}
-use Rattle.form.specs.Form.{Leaf, free, bound, Form, leaf, node, Forms, none, more, pick}
+use Rattle.tree.specs.Form.{Leaf, free, bound, Form, leaf, node, Forms, none, more, pick}
 use Rattle.line.specs.Spell.{digits, decimal, spaced, bracket, spellLeaf, spell, spellAll, spellNo}
 use Rattle.reply.specs.Split.{newlineIn}
 use Rattle.reply.proofs.GoodLaws.{reply-answers}

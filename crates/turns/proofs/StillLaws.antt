@@ -10,7 +10,7 @@ use borrow.Author.Tests.{le-leb, leb-true, eqb-true}
 use lib.Dec.{leb, eqb}
 use lib.ListN.{length, take, drop, length-append}
 use lib.Seq.{length-take-le, take-nil, drop-drop, take-append-seam, take-at, drop-append-le}
-use Rattle.form.specs.Form.{pick}
+use Rattle.tree.specs.Form.{pick}
 use Rattle.form.specs.Answer.{Outcome, answer, refusal, ofFound, needs}
 use Rattle.form.specs.Decode.{Found, found, missing, formOf}
 use Rattle.form.specs.declared.answer.Kind.the-variants.{Either}

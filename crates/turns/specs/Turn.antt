@@ -4,7 +4,7 @@ use mathlib.Core.List.{List, [], _++_}
 use Prim.Native.Nat.{ℕ, _+_, _-_}
 use lib.Dec.{leb, eqb}
 use lib.ListN.{length, take, drop}
-use Rattle.form.specs.Form.{pick}
+use Rattle.tree.specs.Form.{pick}
 use Rattle.reply.specs.Split.{nextOf}
 use Rattle.reply.specs.declared.split.Next.{Next}
 use Rattle.reply.specs.declared.split.Next.the-variants.{Line, Skipped, Long, More}

@@ -7,14 +7,14 @@ use mathlib.Core.Bool.{Bool, true, false, _&&_}
 use mathlib.Core.Option.{Option, none as absent, some}
 use lib.Dec.{leb}
 use lib.ListN.{length, set, take, replicate}
-use Rattle.form.specs.Form.{Leaf, Form, leaf, node, Forms, none, more, pick, between, encode, encodeAll}
+use Rattle.tree.specs.Form.{Leaf, Form, leaf, node, Forms, none, more, pick, between, member, encode, encodeAll}
 use Rattle.form.specs.Decode.{Head, head, bad, Got, got, no-form, Gots, gots, no-forms, isLeaf, decode, Found, found, missing}
-use Rattle.form.specs.Tag.{Sort, expr, shapeOf}
-use Rattle.form.specs.Lists.{Place, kept, filled, Entry, entry, wordOf, entryWords, member, distinct}
+use Rattle.tree.specs.Tag.{Sort, expr, shapeOf}
+use Rattle.form.specs.Lists.{Place, kept, filled, Entry, entry, wordOf, entryWords, distinct}
 use Rattle.form.specs.declared.answer.Kind.{Kind}
 use Rattle.form.specs.declared.answer.Kind.the-variants.{Expression, Predicate, Either}
-use Rattle.form.specs.declared.tag.Shape.{Shape}
-use Rattle.form.specs.declared.tag.Shape.the-variants.{Unknown, Plain, Name, Value, Exprs, Preds, Apply, Compr, Quant}
+use Rattle.tree.specs.declared.tag.Shape.{Shape}
+use Rattle.tree.specs.declared.tag.Shape.the-variants.{Unknown, Plain, Name, Value, Exprs, Preds, Apply, Compr, Quant}
 use Rattle.form.specs.declared.lists.Table.{Table}
 use Rattle.form.specs.declared.lists.Listed.{Listed}
 use Rattle.form.specs.declared.head.Step.{Step}

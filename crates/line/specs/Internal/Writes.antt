@@ -3,7 +3,7 @@ use mathlib.Core.Path.{_≡_}
 use mathlib.Core.List.{List}
 use Prim.Native.Nat.{ℕ, _+_, _≤_}
 use lib.ListN.{length}
-use Rattle.form.specs.Form.{encode, encodeAll}
+use Rattle.tree.specs.Form.{encode, encodeAll}
 use Rattle.form.specs.Decode.{Got, got, no-form, Gots, gots, no-forms, Whole, one, not-one, Found, found, missing}
 use Rattle.line.specs.Put.{put}
 use Rattle.line.specs.declared.whole.Spelled.{Spelled}

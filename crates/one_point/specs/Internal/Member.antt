@@ -7,8 +7,8 @@ use mathlib.Core.Option.{Option, none as absent, some}
 use Prim.Native.Nat.{ℕ, suc, _+_, _-_, _*_, _≤_, _<_}
 use lib.Dec.{leb, ltb, eqb}
 use lib.ListN.{length, getD, take, drop, set, replicate}
-use Rattle.form.specs.Form.{Form, node, Forms, none, more, pick, count, encode, encodeAll}
-use Rattle.form.specs.Tag.{expr, pred}
+use Rattle.tree.specs.Form.{Form, node, Forms, none, more, pick, count, encode, encodeAll}
+use Rattle.tree.specs.Tag.{expr, pred}
 use Rattle.form.specs.Decode.{got, gots, decode}
 use Rattle.form.specs.Lists.{Place, kept, filled}
 use Rattle.form.specs.Answer.{Outcome}

@@ -5,8 +5,8 @@ use mathlib.Core.List.{List, [], _∷_, _++_}
 use Prim.Native.Nat.{ℕ, _+_, _-_, _*_, _≤_}
 use lib.Dec.{ltb, eqb}
 use lib.ListN.{length, getD, take, drop, replicate}
-use Rattle.form.specs.Form.{Form, Forms, pick, count, encode, encodeAll}
-use Rattle.form.specs.Tag.{expr}
+use Rattle.tree.specs.Form.{Form, Forms, pick, count, encode, encodeAll}
+use Rattle.tree.specs.Tag.{expr}
 use Rattle.form.specs.Decode.{Gots, gots, no-forms, decode, decodeAll}
 use Rattle.form.specs.declared.head.Step.{Step}
 use Rattle.form.specs.declared.head.Step.the-variants.{End, Bad}

@@ -5,8 +5,8 @@ use mathlib.Core.List.{List, []}
 use Prim.Native.Nat.{ℕ, _+_, _≤_, _<_}
 use lib.Dec.{eqb}
 use lib.ListN.{length, getD, set, replicate}
-use Rattle.form.specs.Form.{Form, pick}
-use Rattle.form.specs.Tag.{expr, pred}
+use Rattle.tree.specs.Form.{Form, pick}
+use Rattle.tree.specs.Tag.{expr, pred}
 use Rattle.form.specs.Decode.{Got, got, no-form, decode}
 use Rattle.form.specs.Answer.{Outcome, refusal, finish}
 use Rattle.form.specs.Internal.Reads.{mark}

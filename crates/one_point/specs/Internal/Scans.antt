@@ -5,8 +5,8 @@ use mathlib.Core.Option.{Option, none as absent, some}
 use mathlib.Core.List.{List}
 use Prim.Native.Nat.{ℕ, _+_, _*_, _≤_}
 use lib.ListN.{length, drop, replicate}
-use Rattle.form.specs.Form.{Form, Forms, none, pick, count, encode, encodeAll}
-use Rattle.form.specs.Tag.{pred}
+use Rattle.tree.specs.Form.{Form, Forms, none, pick, count, encode, encodeAll}
+use Rattle.tree.specs.Tag.{pred}
 use Rattle.form.specs.Decode.{got, Gots, gots, no-forms, decode, decodeAll}
 use Rattle.one_point.specs.Scan.{Scan, scanned, Scans, scans, present, scan, scanAll}
 use Rattle.one_point.specs.Internal.Writes.{Wrote, leftWords, isGone, Neat, Neats}

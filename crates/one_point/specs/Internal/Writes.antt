@@ -5,7 +5,7 @@ use mathlib.Core.Option.{Option, none as absent, some}
 use mathlib.Core.List.{List, [], _++_}
 use Prim.Native.Nat.{ℕ, _+_}
 use lib.ListN.{length, take}
-use Rattle.form.specs.Form.{Form, node, Forms, none, more, encode}
+use Rattle.tree.specs.Form.{Form, node, Forms, none, more, encode}
 
 -- the words ws follow what stood before pos, and end at `end`; past the end the row may hold anything
 unfoldable pub Wrote : ℕ → List ℕ → List ℕ → ℕ → List ℕ → Type 0

@@ -3,7 +3,7 @@ use mathlib.Core.List.{List, [], _∷_}
 use Prim.Native.Nat.{ℕ, _-_}
 use lib.Dec.{ltb, eqb}
 use lib.ListN.{length}
-use Rattle.form.specs.Form.{pick}
+use Rattle.tree.specs.Form.{pick}
 use Rattle.form.specs.Answer.{Outcome}
 use Rattle.subst.specs.Internal.Items.{wordsOf, itemIn, moveWord, sameLength}
 use Rattle.subst.specs.declared.items.Item.{Item}

@@ -5,7 +5,7 @@ use mathlib.Core.List.{List, [], _∷_}
 use Prim.Native.Nat.{ℕ, zero, suc, _-_, _≤_}
 use lib.Dec.{ltb, eqb, leb}
 use lib.ListN.{length, set, replicate}
-use Rattle.form.specs.Form.{pick}
+use Rattle.tree.specs.Form.{pick}
 use Rattle.form.specs.Answer.{Outcome, answer, needs}
 use Rattle.subst.specs.Dangling.{insertAll}
 use Rattle.subst.specs.Internal.Items.{items, rewritten, allItems, itemIn}

@@ -3,7 +3,7 @@ use mathlib.Core.List.{List, []}
 use Prim.Native.Nat.{ℕ}
 use lib.Dec.{leb}
 use lib.ListN.{length, take}
-use Rattle.form.specs.Form.{pick}
+use Rattle.tree.specs.Form.{pick}
 use Rattle.subst.specs.Lift.{Part, base, copy, empty}
 use Rattle.subst.specs.declared.lift.Made.{Made}
 use Rattle.subst.specs.declared.lift.Made.the-variants.{Base, Copy, Nothing}

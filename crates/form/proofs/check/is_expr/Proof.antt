@@ -8,7 +8,7 @@ use Rattle.form.proofs.check.is_expr.Tie as tie
 use Rattle.form.proofs.check.is_expr.Reads as reads
 use Rattle.form.proofs.check.is_expr.Lts as lts
 use Rattle.form.proofs.check.is_known.Reads as is-known-reads
-use Rattle.form.proofs.tag.expr_shape.Reads as expr-shape-reads
+use Rattle.tree.proofs.tag.expr_shape.Reads as expr-shape-reads
 
 enum-told : tie.Need-enum-told
 enum-told c = search needs

@@ -1,5 +1,5 @@
 -- `form::head::expr_head` meets its contract. Assumes nothing.
-use Rattle.form.specs.Tag.{expr}
+use Rattle.tree.specs.Tag.{expr}
 use Rattle.form.proofs.HeadLaws.{shape-head, plain-head}
 use borrow.Author.Needs.{needs}
 use Rattle.form.proofs.head.expr_head.Statement.{statement}
@@ -7,7 +7,7 @@ use Rattle.form.proofs.head.expr_head.Tie as tie
 use Rattle.form.proofs.head.expr_head.Reads as reads
 use Rattle.form.proofs.head.expr_head.Lts as lts
 use Rattle.form.proofs.head.own_words.Reads as own-words-reads
-use Rattle.form.proofs.tag.expr_shape.Reads as expr-shape-reads
+use Rattle.tree.proofs.tag.expr_shape.Reads as expr-shape-reads
 
 expr-shape-requires : tie.Need-expr-shape-requires
 expr-shape-requires c κs = search needs

@@ -1,6 +1,6 @@
 -- `form::head::own_words` meets its contract. Assumes nothing.
 use mathlib.Core.Path.{sym}
-use Rattle.form.specs.Tag.{ownOf}
+use Rattle.tree.specs.Tag.{ownOf}
 use Rattle.form.specs.Decode.{read}
 use Rattle.form.specs.Internal.Reads.{headAt}
 use Rattle.form.proofs.HeadLaws.{no-kids}

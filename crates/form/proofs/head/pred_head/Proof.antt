@@ -1,5 +1,5 @@
 -- `form::head::pred_head` meets its contract. Assumes nothing.
-use Rattle.form.specs.Tag.{pred}
+use Rattle.tree.specs.Tag.{pred}
 use Rattle.form.proofs.HeadLaws.{shape-head, plain-head}
 use borrow.Author.Needs.{needs}
 use Rattle.form.proofs.head.pred_head.Statement.{statement}
@@ -7,7 +7,7 @@ use Rattle.form.proofs.head.pred_head.Tie as tie
 use Rattle.form.proofs.head.pred_head.Reads as reads
 use Rattle.form.proofs.head.pred_head.Lts as lts
 use Rattle.form.proofs.head.own_words.Reads as own-words-reads
-use Rattle.form.proofs.tag.pred_shape.Reads as pred-shape-reads
+use Rattle.tree.proofs.tag.pred_shape.Reads as pred-shape-reads
 
 pred-shape-requires : tie.Need-pred-shape-requires
 pred-shape-requires c κs = search needs

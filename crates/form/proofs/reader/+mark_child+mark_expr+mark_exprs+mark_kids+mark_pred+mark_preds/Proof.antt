@@ -8,7 +8,7 @@ use native.Mathlib.Omega.{arith}
 use borrow.Author.Needs.{needs}
 use lib.ListN.{length, drop, replicate}
 use Rattle.form.specs.declared.head.Step.{Step}
-use Rattle.form.specs.Tag.{expr, pred}
+use Rattle.tree.specs.Tag.{expr, pred}
 use Rattle.form.specs.Decode.{decode, decodeAll}
 use Rattle.form.specs.Internal.Reads.{ToldAll}
 use Rattle.form.proofs.HeadLaws.{few}

@@ -7,7 +7,7 @@ use native.Mathlib.Nat.{le-refl, le-trans}
 use native.Mathlib.Omega.{arith}
 use borrow.Author.Needs.{needs}
 use lib.ListN.{length, drop, replicate}
-use Rattle.form.specs.Tag.{expr, pred}
+use Rattle.tree.specs.Tag.{expr, pred}
 use Rattle.form.specs.Decode.{decode, decodeAll}
 use Rattle.line.specs.declared.print.Ends.{Ends}
 use Rattle.line.specs.Internal.Writes.{PrintedAll}
@@ -34,8 +34,8 @@ use Rattle.line.proofs.print.print_preds.Reads as print-preds
 use Rattle.line.proofs.print.print_preds.Kinds as print-preds-kinds
 use Rattle.line.proofs.print.+print_expr+print_exprs+print_kids+print_pred+print_preds.Lts-print_preds as print-preds-lts
 use Rattle.form.proofs.head.own_words.Reads as own-words-reads
-use Rattle.form.proofs.tag.expr_shape.Reads as expr-shape-reads
-use Rattle.form.proofs.tag.pred_shape.Reads as pred-shape-reads
+use Rattle.tree.proofs.tag.expr_shape.Reads as expr-shape-reads
+use Rattle.tree.proofs.tag.pred_shape.Reads as pred-shape-reads
 use Rattle.line.proofs.decimal.put_byte.Reads as put-byte-reads
 use Rattle.line.proofs.print.put_head.Reads as put-head-reads
 use Rattle.line.proofs.print.+print_expr+print_exprs+print_kids+print_pred+print_preds.{statement}

@@ -4,7 +4,7 @@ use native.Mathlib.Omega.{arith}
 use mathlib.Core.Path.{_≡_, refl, ap}
 use Prim.Native.Nat.{_+_, _*_}
 use lib.ListN.{length}
-use Rattle.form.specs.Form.{encodeAll}
+use Rattle.tree.specs.Form.{encodeAll}
 use Rattle.one_point.specs.Internal.Scans.{Kids, kidsAt}
 use Rattle.one_point.proofs.ScanLaws.{not-bad, next-at}
 use Rattle.one_point.proofs.ChildrenLaws.{kid-of, kid-length, kids-none, words-zero}

@@ -6,7 +6,7 @@ use Prim.Native.Nat.{_+_, _-_, _*_, _≤_}
 use native.Mathlib.Omega.{arith}
 use borrow.Author.Needs.{needs}
 use lib.ListN.{length, getD, set, length-set}
-use Rattle.form.specs.Form.{encode, encodeAll}
+use Rattle.tree.specs.Form.{encode, encodeAll}
 use Rattle.one_point.specs.Scan.{scanAll}
 use Rattle.one_point.specs.Internal.Scans.{Room, kidsAt, Kids, KidsTold, SearchedKids}
 use Rattle.one_point.specs.declared.sides.Replacement.{Replacement}

@@ -4,7 +4,7 @@ use native.Mathlib.Omega.{arith}
 use mathlib.Core.Path.{_≡_, ap, _∙_}
 use Prim.Native.Nat.{_+_, _≤_}
 use lib.ListN.{length}
-use Rattle.form.specs.Form.{encode}
+use Rattle.tree.specs.Form.{encode}
 use Rattle.one_point.proofs.ScanLaws.{EqualAt, equal-at}
 use Rattle.one_point.proofs.PartsStepLaws.{equal-length}
 use Rattle.one_point.proofs.EqualityLaws.{parts-written, parts-inside, equality-done}

@@ -5,7 +5,7 @@ use mathlib.Core.Path.{_≡_, refl, ap, sym, _∙_}
 use mathlib.Core.List.{List}
 use Prim.Native.Nat.{ℕ, _+_, _-_}
 use lib.ListN.{length, drop, set}
-use Rattle.form.specs.Form.{encode}
+use Rattle.tree.specs.Form.{encode}
 use Rattle.form.specs.Lists.{Place, filled}
 use Rattle.form.specs.declared.lists.Table.{Table}
 use Rattle.one_point.specs.Partial.{noPlaces}

@@ -1,6 +1,6 @@
 // The tags of nodes, and what follows each: the code's side of the table of tags.
 ghost use mathlib.Core.Path.{_≡_};
-ghost use Rattle.form.specs.Tag.{expr, pred, shapeOf};
+ghost use Rattle.tree.specs.Tag.{expr, pred, shapeOf};
 
 // What follows a tag: its own words, then its children.
 pub enum Shape {

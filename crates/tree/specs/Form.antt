@@ -3,7 +3,7 @@
 use mathlib.Core.List.{List, [], _∷_, _++_}
 use mathlib.Core.Bool.{Bool, true, false, _&&_}
 use Prim.Native.Nat.{ℕ, zero, suc}
-use lib.Dec.{leb}
+use lib.Dec.{leb, eqb}
 
 pub data Leaf : Type 0 where
   free : ℕ → Leaf
@@ -42,3 +42,7 @@ pick false a b = b
 
 abbrev pub between : ℕ → ℕ → ℕ → Bool
 between lo hi w = leb lo w && leb w hi
+
+abbrev pub member : ℕ → List ℕ → Bool
+member m [] = false
+member m (n ∷ ns) = pick (eqb n m) true (member m ns)

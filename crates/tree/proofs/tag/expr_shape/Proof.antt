@@ -1,12 +1,12 @@
--- `form::tag::expr_shape` meets its contract. Each return is on an interval of tags that no range of the table cuts. Assumes nothing.
+-- `tree::tag::expr_shape` meets its contract. Each return is on an interval of tags that no range of the table cuts. Assumes nothing.
 use native.Mathlib.Omega.{arith}
-use Rattle.form.specs.Tag.{exprTags}
-use Rattle.form.proofs.Ranges.{expr-on, split}
+use Rattle.tree.specs.Tag.{exprTags}
+use Rattle.tree.proofs.Ranges.{expr-on, split}
 use mathlib.Core.Logic.{⊎-elim}
-use Rattle.form.proofs.tag.expr_shape.Statement.{statement}
-use Rattle.form.proofs.tag.expr_shape.Tie as tie
-use Rattle.form.proofs.tag.expr_shape.Reads as reads
-use Rattle.form.proofs.tag.expr_shape.Lts as lts
+use Rattle.tree.proofs.tag.expr_shape.Statement.{statement}
+use Rattle.tree.proofs.tag.expr_shape.Tie as tie
+use Rattle.tree.proofs.tag.expr_shape.Reads as reads
+use Rattle.tree.proofs.tag.expr_shape.Lts as lts
 
 returns : tie.Need-returns
 unfolding exprTags

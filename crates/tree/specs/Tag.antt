@@ -4,9 +4,9 @@ use mathlib.Core.List.{List, [], _∷_, _++_}
 use Prim.Native.Nat.{ℕ}
 use lib.Dec.{leb}
 use lib.ListN.{replicate}
-use Rattle.form.specs.Form.{pick}
-use Rattle.form.specs.declared.tag.Shape.{Shape}
-use Rattle.form.specs.declared.tag.Shape.the-variants.{Unknown, Plain, Name, Value, Exprs, Preds, Apply, Compr, Quant}
+use Rattle.tree.specs.Form.{pick}
+use Rattle.tree.specs.declared.tag.Shape.{Shape}
+use Rattle.tree.specs.declared.tag.Shape.the-variants.{Unknown, Plain, Name, Value, Exprs, Preds, Apply, Compr, Quant}
 
 pub data Sort : Type 0 where
   expr pred : Sort

@@ -7,10 +7,10 @@ use Prim.Native.Nat.{ℕ, _≤_, _<_}
 use native.Mathlib.Omega.{arith}
 use lib.Dec.{T, leb, ltb, leb→le, ltb→lt}
 use borrow.Author.Tests.{lt-leb, le-leb, ltb-true, ltb-false, leb-true}
-use Rattle.form.specs.Form.{pick}
-use Rattle.form.specs.declared.tag.Shape.{Shape}
-use Rattle.form.specs.declared.tag.Shape.the-variants.{Unknown, Plain, Name, Value, Exprs, Preds, Apply, Compr, Quant}
-use Rattle.form.specs.Tag.{expr, pred, Tags, find, exprTags, predTags, shapeOf}
+use Rattle.tree.specs.Form.{pick}
+use Rattle.tree.specs.declared.tag.Shape.{Shape}
+use Rattle.tree.specs.declared.tag.Shape.the-variants.{Unknown, Plain, Name, Value, Exprs, Preds, Apply, Compr, Quant}
+use Rattle.tree.specs.Tag.{expr, pred, Tags, find, exprTags, predTags, shapeOf}
 
 -- the interval from lo to hi lies below a range, above it or in it
 abbrev pub apart : ℕ → ℕ → ℕ → ℕ → Bool

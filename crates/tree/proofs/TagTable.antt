@@ -5,10 +5,9 @@ use mathlib.Core.Bool.{Bool, true, false, _&&_}
 use mathlib.Core.List.{List, [], _∷_, _++_}
 use Prim.Native.Nat.{ℕ, zero, suc, _+_, _≤_}
 use lib.Dec.{T, eqb}
-use Rattle.form.specs.Form.{pick}
-use Rattle.form.specs.Tag.{Sort, expr, pred, Own, ask, kids, wrong, ownOf, exprTags, predTags, shapeOf, own}
-use Rattle.form.specs.Lists.{member}
-use Rattle.form.proofs.Ranges.{expr-on, pred-on}
+use Rattle.tree.specs.Form.{pick, member}
+use Rattle.tree.specs.Tag.{Sort, expr, pred, Own, ask, kids, wrong, ownOf, exprTags, predTags, shapeOf, own}
+use Rattle.tree.proofs.Ranges.{expr-on, pred-on}
 
 -- what follows a tag, as numbers. A word: 1, its limits, then what follows its least value, and the value after that. Children: 2, the
 -- numbers of declared names, of predicates and of expressions. A tag that is none has no numbers.

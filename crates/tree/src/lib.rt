@@ -1,0 +1,2 @@
+// Forms as trees, and the table of tags.
+pub mod tag;
