@@ -125,7 +125,7 @@ fn compr_head(row: &[u32], at: usize) -> Head
 }
 
 // What stands after a tag of the shape, before its children.
-pub fn own_words(row: &[u32], at: usize, shape: Shape) -> Head
+fn own_words(row: &[u32], at: usize, shape: Shape) -> Head
     ensures { λ r. ⌜ r ≡ headAt at (read (ownOf shape) (drop at (now (row .entry)))) ⌝ }
 {
     match shape {
@@ -142,7 +142,7 @@ pub fn own_words(row: &[u32], at: usize, shape: Shape) -> Head
 }
 
 // What stands after the tag of an expression; a node without own words, the common case, is answered without a call.
-pub(crate) fn expr_head(row: &[u32], at: usize, tag: u32) -> Head
+pub fn expr_head(row: &[u32], at: usize, tag: u32) -> Head
     ensures { λ r. ⌜ r ≡ headAt at (read (own expr tag) (drop at (now (row .entry)))) ⌝ }
 {
     let shape = expr_shape(tag);
@@ -153,7 +153,7 @@ pub(crate) fn expr_head(row: &[u32], at: usize, tag: u32) -> Head
 }
 
 // What stands after the tag of a predicate; a node without own words, the common case, is answered without a call.
-pub(crate) fn pred_head(row: &[u32], at: usize, tag: u32) -> Head
+pub fn pred_head(row: &[u32], at: usize, tag: u32) -> Head
     ensures { λ r. ⌜ r ≡ headAt at (read (own pred tag) (drop at (now (row .entry)))) ⌝ }
 {
     let shape = pred_shape(tag);

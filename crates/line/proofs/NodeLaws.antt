@@ -8,10 +8,9 @@ use native.Mathlib.Omega.{arith}
 use lib.ListN.{length, getD, take, drop, length-append, length-take, length-drop}
 use lib.Seq.{take-at}
 use Rattle.tree.specs.Form.{Leaf, free, bound, leaf, node, Forms, none, pick, encode, encodeAll}
-use Rattle.tree.specs.Tag.{Sort, own, ownOf, shapeOf, sorts}
+use Rattle.tree.specs.Tag.{Sort, own, sorts}
 use Rattle.form.specs.Decode.{Head, head, bad, read, no-form, Gots, gots, no-forms, first, leafAt, isLeaf, make, close, decodeAll, branch, decode}
 use Rattle.form.specs.Internal.Reads.{headAt}
-use Rattle.tree.specs.declared.tag.Shape.{Shape}
 use Rattle.form.specs.declared.head.Head as code
 use Rattle.form.specs.declared.head.Head.the-variants.{Kids, None}
 use Rattle.form.proofs.DecodeLaws.{clash, read-exact, read-at, all-sound, made}
@@ -140,19 +139,15 @@ module _ (s : Sort) (row : List ℕ) (at : ℕ) where
       (omega arith, omega arith)
   within k bad p x y w low q e = absurd (clash cc)
 
-  module _ {sh : Shape} {h : code.Head} (low : at < length row) (tag : sh ≡ shapeOf s (getD row at 0)) (hd : h ≡ headAt (at + 1) (read (ownOf sh) (drop (at + 1) row))) where
-    own-here : h ≡ headAt (at + 1) (read (own s (getD row at 0)) (drop (at + 1) row))
-    unfolding own
-    own-here = rw tag at hd
-
+  module _ {h : code.Head} (low : at < length row) (hd : h ≡ headAt (at + 1) (read (own s (getD row at 0)) (drop (at + 1) row))) where
     pub no-own : (d o : ℕ) (a b : List ℕ) → (d ≡ 0 → ⊥) → h ≡ None → Printed at o (decode d s (drop at row)) a b Bad
     no-own zero o a b ne e = absurd (ne refl)
-    no-own (suc d) o a b ne e = rw (node-here d low) (branch-bad d (getD row at 0) _ o a b (sym own-here ∙ e))
+    no-own (suc d) o a b ne e = rw (node-here d low) (branch-bad d (getD row at 0) _ o a b (sym hd ∙ e))
 
     pub kids-stop : (d p x y w i u : ℕ) (m m₁ m₂ b : List ℕ) (r : Ends) → (d ≡ 0 → ⊥) → h ≡ Kids p x y w
         → PrintedAll p i (decodeAll (λ s l. decode (d - 1) s l) (sorts x y) (drop p row)) m₁ m₂ r → r ≡ Bad → Printed at u (decode d s (drop at row)) m b Bad
     kids-stop zero p x y w i u m m₁ m₂ b r ne e t c = absurd (ne refl)
-    kids-stop (suc d) p x y w i u m m₁ m₂ b r ne e t c = rw (node-here d low) (branch-stop d (getD row at 0) _ x y w p i u m m₁ m₂ b r refl (sym own-here ∙ e) (rw sub-one at t) c)
+    kids-stop (suc d) p x y w i u m m₁ m₂ b r ne e t c = rw (node-here d low) (branch-stop d (getD row at 0) _ x y w p i u m m₁ m₂ b r refl (sym hd ∙ e) (rw sub-one at t) c)
 
     pub a-form : (d p x y w i j k u q : ℕ) (m m₁ m₂ m₃ : List ℕ) (r : Ends) → (d ≡ 0 → ⊥) → h ≡ Kids p x y w
         → Wrote u (opening (getD row at 0) (take (p - (at + 1)) (drop (at + 1) row))) m m₁ i
@@ -160,7 +155,7 @@ module _ (s : Sort) (row : List ℕ) (at : ℕ) where
         → Printed at u (decode d s (drop at row)) m m₃ (End q k)
     a-form zero p x y w i j k u q m m₁ m₂ m₃ r ne e v t c f = absurd (ne refl)
     a-form (suc d) p x y w i j k u q m m₁ m₂ m₃ r ne e v t c f =
-        rw (node-here d low) (branch-printed d (getD row at 0) _ x y w p i j k u q m m₁ m₂ m₃ r refl (sym own-here ∙ e) v (rw sub-one at t) c f)
+        rw (node-here d low) (branch-printed d (getD row at 0) _ x y w p i j k u q m m₁ m₂ m₃ r refl (sym hd ∙ e) v (rw sub-one at t) c f)
 
     pub kids-within : (p x y w : ℕ) → h ≡ Kids p x y w → (at < p) × (p ≤ length row)
-    kids-within p x y w e = within (getD row at 0) _ p x y w low refl (sym own-here ∙ e)
+    kids-within p x y w e = within (getD row at 0) _ p x y w low refl (sym hd ∙ e)

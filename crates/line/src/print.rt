@@ -3,9 +3,8 @@ use crate::decimal::put_byte;
 use crate::decimal::put_decimal;
 use crate::decimal::put_spaced;
 use form::head::Head;
-use form::head::own_words;
-use tree::tag::expr_shape;
-use tree::tag::pred_shape;
+use form::head::expr_head;
+use form::head::pred_head;
 ghost use mathlib.Core.Path.{_≡_};
 ghost use mathlib.Core.List.{[], _∷_, _++_};
 ghost use Prim.Native.Nat.{_+_, _-_, _*_, _^_, _<_, _≤_};
@@ -43,7 +42,7 @@ pub(crate) fn print_expr(row: &[u32], out: &mut [u8], at: usize, depth: u32, o: 
         return Ends::Bad;
     }
     let tag = row[at];
-    let Head::Kids(p, preds, exprs, binds) = own_words(row, at + 1, expr_shape(tag)) else {
+    let Head::Kids(p, preds, exprs, binds) = expr_head(row, at + 1, tag) else {
         return Ends::Bad;
     };
     let i = put_head(row, out, at, p, o);
@@ -65,7 +64,7 @@ pub(crate) fn print_pred(row: &[u32], out: &mut [u8], at: usize, depth: u32, o: 
         return Ends::Bad;
     }
     let tag = row[at];
-    let Head::Kids(p, preds, exprs, binds) = own_words(row, at + 1, pred_shape(tag)) else {
+    let Head::Kids(p, preds, exprs, binds) = pred_head(row, at + 1, tag) else {
         return Ends::Bad;
     };
     let i = put_head(row, out, at, p, o);

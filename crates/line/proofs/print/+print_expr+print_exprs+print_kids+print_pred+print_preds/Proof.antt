@@ -33,9 +33,8 @@ use Rattle.line.proofs.print.+print_expr+print_exprs+print_kids+print_p
 use Rattle.line.proofs.print.print_preds.Reads as print-preds
 use Rattle.line.proofs.print.print_preds.Kinds as print-preds-kinds
 use Rattle.line.proofs.print.+print_expr+print_exprs+print_kids+print_pred+print_preds.Lts-print_preds as print-preds-lts
-use Rattle.form.proofs.head.own_words.Reads as own-words-reads
-use Rattle.tree.proofs.tag.expr_shape.Reads as expr-shape-reads
-use Rattle.tree.proofs.tag.pred_shape.Reads as pred-shape-reads
+use Rattle.form.proofs.head.expr_head.Reads as expr-head-reads
+use Rattle.form.proofs.head.pred_head.Reads as pred-head-reads
 use Rattle.line.proofs.decimal.put_byte.Reads as put-byte-reads
 use Rattle.line.proofs.print.put_head.Reads as put-head-reads
 use Rattle.line.proofs.print.+print_expr+print_exprs+print_kids+print_pred+print_preds.{statement}
@@ -87,7 +86,7 @@ abbrev print-preds-below : ℕ → In 2 print-preds-kinds.ps
 print-preds-below t = and 2 print-preds-kinds.ps (falls 2 print-preds-kinds.ps _<_ μ-print-preds t) print-preds.Pre
 
 abbrev print-expr-calls : ℕ → print-expr-lts.Claims
-print-expr-calls t = (expr-shape-reads.Asked, expr-shape-reads.Learnt, own-words-reads.Asked, own-words-reads.Learnt, put-head-reads.Asked, put-head-reads.Learnt, print-kids-below t, print-kids.Post, put-byte-reads.Asked, put-byte-reads.Learnt)
+print-expr-calls t = (expr-head-reads.Asked, expr-head-reads.Learnt, put-head-reads.Asked, put-head-reads.Learnt, print-kids-below t, print-kids.Post, put-byte-reads.Asked, put-byte-reads.Learnt)
 
 abbrev print-exprs-calls : ℕ → print-exprs-lts.Claims
 print-exprs-calls t = (put-byte-reads.Asked, put-byte-reads.Learnt, print-expr-below t, print-expr.Post)
@@ -96,7 +95,7 @@ abbrev print-kids-calls : ℕ → print-kids-lts.Claims
 print-kids-calls t = (print-preds-below t, print-preds.Post, print-exprs-below t, print-exprs.Post)
 
 abbrev print-pred-calls : ℕ → print-pred-lts.Claims
-print-pred-calls t = (pred-shape-reads.Asked, pred-shape-reads.Learnt, own-words-reads.Asked, own-words-reads.Learnt, put-head-reads.Asked, put-head-reads.Learnt, print-kids-below t, print-kids.Post, put-byte-reads.Asked, put-byte-reads.Learnt)
+print-pred-calls t = (pred-head-reads.Asked, pred-head-reads.Learnt, put-head-reads.Asked, put-head-reads.Learnt, print-kids-below t, print-kids.Post, put-byte-reads.Asked, put-byte-reads.Learnt)
 
 abbrev print-preds-calls : ℕ → print-preds-lts.Claims
 print-preds-calls t = (put-byte-reads.Asked, put-byte-reads.Learnt, print-pred-below t, print-pred.Post)
@@ -113,14 +112,11 @@ print-expr-mul-tag t c = search needs
 print-expr-shared-slice-read-tag : (t : ℕ) → print-expr-lts.Need-shared-slice-read-tag (print-expr-calls t) (print-expr-at t) print-expr.Post
 print-expr-shared-slice-read-tag t c = search needs
 
-print-expr-add-own-words : (t : ℕ) → print-expr-lts.Need-add-own-words (print-expr-calls t) (print-expr-at t) print-expr.Post
-print-expr-add-own-words t c = search needs
+print-expr-add-expr-head : (t : ℕ) → print-expr-lts.Need-add-expr-head (print-expr-calls t) (print-expr-at t) print-expr.Post
+print-expr-add-expr-head t c = search needs
 
-print-expr-expr-shape-requires : (t : ℕ) → print-expr-lts.Need-expr-shape-requires (print-expr-calls t) (print-expr-at t) print-expr.Post
-print-expr-expr-shape-requires t c κs = search needs
-
-print-expr-own-words-requires : (t : ℕ) → print-expr-lts.Need-own-words-requires (print-expr-calls t) (print-expr-at t) print-expr.Post
-print-expr-own-words-requires t c κs = search needs
+print-expr-expr-head-requires : (t : ℕ) → print-expr-lts.Need-expr-head-requires (print-expr-calls t) (print-expr-at t) print-expr.Post
+print-expr-expr-head-requires t c κs = search needs
 
 print-expr-enum-known-p : (t : ℕ) → print-expr-lts.Need-enum-known-p (print-expr-calls t) (print-expr-at t) print-expr.Post
 print-expr-enum-known-p t c = search needs
@@ -129,16 +125,16 @@ print-expr-enum-told : (t : ℕ) → print-expr-lts.Need-enum-told (print-expr-c
 print-expr-enum-told t c = search needs
 
 print-expr-returns-3 : (t : ℕ) → print-expr-lts.Need-returns-3 (print-expr-calls t) (print-expr-at t) print-expr.Post
-print-expr-returns-3 t c = no-own expr _ _ (c .before .before .before .before .before .if2 .left) (c .before .before .before .expr-shape .ensures) (c .before .before .own-words .ensures) _ _ _ _ (c .before .before .before .before .before .before .if1 .left) (c .enum-told .given .1)
+print-expr-returns-3 t c = no-own expr _ _ (c .before .before .before .before .if2 .left) (c .before .before .expr-head .ensures) _ _ _ _ (c .before .before .before .before .before .if1 .left) (c .enum-told .given .1)
 
 print-expr-put-head-requires : (t : ℕ) → print-expr-lts.Need-put-head-requires (print-expr-calls t) (print-expr-at t) print-expr.Post
-print-expr-put-head-requires t c κs = let (h, w) = kids-within expr _ _ (c .before .before .before .before .before .before .before .if2 .left) (c .before .before .before .before .before .expr-shape .ensures) (c .before .before .before .before .own-words .ensures) _ _ _ _ (c .before .before .p .given .1) in (h, w, omega arith)
+print-expr-put-head-requires t c κs = let (h, w) = kids-within expr (c .before .before .before .before .before .before .before .before .before .before .args .row .now) (c .before .before .before .before .before .before .before .before .before .before .args .at) (c .before .before .before .before .before .before .if2 .left) (c .before .before .before .before .expr-head .ensures) _ _ _ _ (c .before .before .p .given .1) in (h, w, omega arith)
 
 print-expr-sub-print-kids : (t : ℕ) → print-expr-lts.Need-sub-print-kids (print-expr-calls t) (print-expr-at t) print-expr.Post
 print-expr-sub-print-kids t c = search needs
 
 print-expr-print-kids-requires : (t : ℕ) → print-expr-lts.Need-print-kids-requires (print-expr-calls t) (print-expr-at t) print-expr.Post
-print-expr-print-kids-requires t c κs = let (h, w) = kids-within expr _ _ (c .before .before .before .before .before .before .before .before .before .before .before .if2 .left) (c .before .before .before .before .before .before .before .before .before .expr-shape .ensures) (c .before .before .before .before .before .before .before .before .own-words .ensures) _ _ _ _ (c .before .before .before .before .before .before .p .given .1) in let f : c .before .before .before .put-head .result ≤ c .before .before .before .before .before .before .before .before .before .before .before .before .before .before .before .args .o + 11 + 11 * (c .before .before .before .before .before .before .p .given .0 .0 - (c .before .before .before .before .before .before .before .before .before .before .before .before .before .before .before .args .at + 1)) = opening-few _ _ _ _ _ _ _ (c .before .before .before .put-head .ensures) in omega arith
+print-expr-print-kids-requires t c κs = let (h, w) = kids-within expr (c .before .before .before .before .before .before .before .before .before .before .before .before .before .before .args .row .now) (c .before .before .before .before .before .before .before .before .before .before .before .before .before .before .args .at) (c .before .before .before .before .before .before .before .before .before .before .if2 .left) (c .before .before .before .before .before .before .before .before .expr-head .ensures) _ _ _ _ (c .before .before .before .before .before .before .p .given .1) in let f : c .before .before .before .put-head .result ≤ c .before .before .before .before .before .before .before .before .before .before .before .before .before .before .args .o + 11 + 11 * (c .before .before .before .before .before .before .p .given .0 .0 - (c .before .before .before .before .before .before .before .before .before .before .before .before .before .before .args .at + 1)) = opening-few _ _ _ _ _ _ _ (c .before .before .before .put-head .ensures) in omega arith
 
 print-expr-enum-known-q : (t : ℕ) → print-expr-lts.Need-enum-known-q (print-expr-calls t) (print-expr-at t) print-expr.Post
 print-expr-enum-known-q t c = search needs
@@ -150,16 +146,16 @@ print-expr-same-length : (t : ℕ) → print-expr-lts.Need-same-length (print-ex
 print-expr-same-length t c = c .before .before .before .before .print-kids .kept .1 .0 ∙ c .before .before .before .before .before .before .before .before .put-head .kept .1 .0
 
 print-expr-returns-4 : (t : ℕ) → print-expr-lts.Need-returns-4 (print-expr-calls t) (print-expr-at t) print-expr.Post
-print-expr-returns-4 t c = kids-stop expr _ _ (c .before .before .before .before .before .before .before .before .before .before .before .before .before .before .before .before .if2 .left) (c .before .before .before .before .before .before .before .before .before .before .before .before .before .before .expr-shape .ensures) (c .before .before .before .before .before .before .before .before .before .before .before .before .before .own-words .ensures) _ _ _ _ _ _ _ _ _ _ _ _ (c .before .before .before .before .before .before .before .before .before .before .before .before .before .before .before .before .before .if1 .left) (c .before .before .before .before .before .before .before .before .before .before .before .p .given .1) (c .before .before .before .before .print-kids .ensures) (c .enum-told2 .given .1)
+print-expr-returns-4 t c = kids-stop expr _ _ (c .before .before .before .before .before .before .before .before .before .before .before .before .before .before .before .if2 .left) (c .before .before .before .before .before .before .before .before .before .before .before .before .before .expr-head .ensures) _ _ _ _ _ _ _ _ _ _ _ _ (c .before .before .before .before .before .before .before .before .before .before .before .before .before .before .before .before .if1 .left) (c .before .before .before .before .before .before .before .before .before .before .before .p .given .1) (c .before .before .before .before .print-kids .ensures) (c .enum-told2 .given .1)
 
 print-expr-put-byte-requires : (t : ℕ) → print-expr-lts.Need-put-byte-requires (print-expr-calls t) (print-expr-at t) print-expr.Post
-print-expr-put-byte-requires t c κs = let (h, w) = kids-within expr _ _ (c .before .before .before .before .before .before .before .before .before .before .before .before .before .before .before .before .before .before .if2 .left) (c .before .before .before .before .before .before .before .before .before .before .before .before .before .before .before .before .expr-shape .ensures) (c .before .before .before .before .before .before .before .before .before .before .before .before .before .before .before .own-words .ensures) _ _ _ _ (c .before .before .before .before .before .before .before .before .before .before .before .before .before .p .given .1) in let f : c .before .before .before .before .before .before .before .before .before .before .put-head .result ≤ c .before .before .before .before .before .before .before .before .before .before .before .before .before .before .before .before .before .before .before .before .before .before .args .o + 11 + 11 * (c .before .before .before .before .before .before .before .before .before .before .before .before .before .p .given .0 .0 - (c .before .before .before .before .before .before .before .before .before .before .before .before .before .before .before .before .before .before .before .before .before .before .args .at + 1)) = opening-few _ _ _ _ _ _ _ (c .before .before .before .before .before .before .before .before .before .before .put-head .ensures) in let (g, k) = all-within _ _ _ _ _ _ _ _ _ _ (c .before .before .before .before .before .before .print-kids .ensures) (c .before .before .q .given .1) in omega arith
+print-expr-put-byte-requires t c κs = let (h, w) = kids-within expr (c .before .before .before .before .before .before .before .before .before .before .before .before .before .before .before .before .before .before .before .before .before .args .row .now) (c .before .before .before .before .before .before .before .before .before .before .before .before .before .before .before .before .before .before .before .before .before .args .at) (c .before .before .before .before .before .before .before .before .before .before .before .before .before .before .before .before .before .if2 .left) (c .before .before .before .before .before .before .before .before .before .before .before .before .before .before .before .expr-head .ensures) _ _ _ _ (c .before .before .before .before .before .before .before .before .before .before .before .before .before .p .given .1) in let f : c .before .before .before .before .before .before .before .before .before .before .put-head .result ≤ c .before .before .before .before .before .before .before .before .before .before .before .before .before .before .before .before .before .before .before .before .before .args .o + 11 + 11 * (c .before .before .before .before .before .before .before .before .before .before .before .before .before .p .given .0 .0 - (c .before .before .before .before .before .before .before .before .before .before .before .before .before .before .before .before .before .before .before .before .before .args .at + 1)) = opening-few _ _ _ _ _ _ _ (c .before .before .before .before .before .before .before .before .before .before .put-head .ensures) in let (g, k) = all-within _ _ _ _ _ _ _ _ _ _ (c .before .before .before .before .before .before .print-kids .ensures) (c .before .before .q .given .1) in omega arith
 
 print-expr-same-length-2 : (t : ℕ) → print-expr-lts.Need-same-length-2 (print-expr-calls t) (print-expr-at t) print-expr.Post
 print-expr-same-length-2 t c = c .before .before .put-byte .kept .0 ∙ c .before .before .before .before .before .before .before .before .before .print-kids .kept .1 .0 ∙ c .before .before .before .before .before .before .before .before .before .before .before .before .before .put-head .kept .1 .0
 
 print-expr-returns-5 : (t : ℕ) → print-expr-lts.Need-returns-5 (print-expr-calls t) (print-expr-at t) print-expr.Post
-print-expr-returns-5 t c = a-form expr _ _ (c .before .before .before .before .before .before .before .before .before .before .before .before .before .before .before .before .before .before .before .before .before .if2 .left) (c .before .before .before .before .before .before .before .before .before .before .before .before .before .before .before .before .before .before .before .expr-shape .ensures) (c .before .before .before .before .before .before .before .before .before .before .before .before .before .before .before .before .before .before .own-words .ensures) _ _ _ _ _ _ _ _ _ _ _ _ _ _ _ (c .before .before .before .before .before .before .before .before .before .before .before .before .before .before .before .before .before .before .before .before .before .before .if1 .left) (c .before .before .before .before .before .before .before .before .before .before .before .before .before .before .before .before .p .given .1) (c .before .before .before .before .before .before .before .before .before .before .before .before .before .put-head .ensures) (c .before .before .before .before .before .before .before .before .before .print-kids .ensures) (c .before .before .before .before .before .q .given .1) (c .before .before .put-byte .ensures)
+print-expr-returns-5 t c = a-form expr _ _ (c .before .before .before .before .before .before .before .before .before .before .before .before .before .before .before .before .before .before .before .before .if2 .left) (c .before .before .before .before .before .before .before .before .before .before .before .before .before .before .before .before .before .before .expr-head .ensures) _ _ _ _ _ _ _ _ _ _ _ _ _ _ _ (c .before .before .before .before .before .before .before .before .before .before .before .before .before .before .before .before .before .before .before .before .before .if1 .left) (c .before .before .before .before .before .before .before .before .before .before .before .before .before .before .before .before .p .given .1) (c .before .before .before .before .before .before .before .before .before .before .before .before .before .put-head .ensures) (c .before .before .before .before .before .before .before .before .before .print-kids .ensures) (c .before .before .before .before .before .q .given .1) (c .before .before .put-byte .ensures)
 
 abbrev print-exprs-Inv-loop : print-exprs-lts.InvT-loop
 print-exprs-Inv-loop row out₀ at n depth o p₀ i₀ left₀ out p i left = ((b : List ℕ) (r : Ends) → PrintedAll p i (decodeAll (λ s l. decode depth s l) (replicate left expr) (drop p row)) out b r → PrintedAll at o (decodeAll (λ s l. decode depth s l) (replicate n expr) (drop at row)) out₀ b r) × (at ≤ p) × (i + 13 * (length row - p) ≤ o + 13 * (length row - at)) × (length out ≡ length out₀)
@@ -239,14 +235,11 @@ print-pred-mul-tag t c = search needs
 print-pred-shared-slice-read-tag : (t : ℕ) → print-pred-lts.Need-shared-slice-read-tag (print-pred-calls t) (print-pred-at t) print-pred.Post
 print-pred-shared-slice-read-tag t c = search needs
 
-print-pred-add-own-words : (t : ℕ) → print-pred-lts.Need-add-own-words (print-pred-calls t) (print-pred-at t) print-pred.Post
-print-pred-add-own-words t c = search needs
+print-pred-add-pred-head : (t : ℕ) → print-pred-lts.Need-add-pred-head (print-pred-calls t) (print-pred-at t) print-pred.Post
+print-pred-add-pred-head t c = search needs
 
-print-pred-pred-shape-requires : (t : ℕ) → print-pred-lts.Need-pred-shape-requires (print-pred-calls t) (print-pred-at t) print-pred.Post
-print-pred-pred-shape-requires t c κs = search needs
-
-print-pred-own-words-requires : (t : ℕ) → print-pred-lts.Need-own-words-requires (print-pred-calls t) (print-pred-at t) print-pred.Post
-print-pred-own-words-requires t c κs = search needs
+print-pred-pred-head-requires : (t : ℕ) → print-pred-lts.Need-pred-head-requires (print-pred-calls t) (print-pred-at t) print-pred.Post
+print-pred-pred-head-requires t c κs = search needs
 
 print-pred-enum-known-p : (t : ℕ) → print-pred-lts.Need-enum-known-p (print-pred-calls t) (print-pred-at t) print-pred.Post
 print-pred-enum-known-p t c = search needs
@@ -255,16 +248,16 @@ print-pred-enum-told : (t : ℕ) → print-pred-lts.Need-enum-told (print-pred-c
 print-pred-enum-told t c = search needs
 
 print-pred-returns-3 : (t : ℕ) → print-pred-lts.Need-returns-3 (print-pred-calls t) (print-pred-at t) print-pred.Post
-print-pred-returns-3 t c = no-own pred _ _ (c .before .before .before .before .before .if2 .left) (c .before .before .before .pred-shape .ensures) (c .before .before .own-words .ensures) _ _ _ _ (c .before .before .before .before .before .before .if1 .left) (c .enum-told .given .1)
+print-pred-returns-3 t c = no-own pred _ _ (c .before .before .before .before .if2 .left) (c .before .before .pred-head .ensures) _ _ _ _ (c .before .before .before .before .before .if1 .left) (c .enum-told .given .1)
 
 print-pred-put-head-requires : (t : ℕ) → print-pred-lts.Need-put-head-requires (print-pred-calls t) (print-pred-at t) print-pred.Post
-print-pred-put-head-requires t c κs = let (h, w) = kids-within pred _ _ (c .before .before .before .before .before .before .before .if2 .left) (c .before .before .before .before .before .pred-shape .ensures) (c .before .before .before .before .own-words .ensures) _ _ _ _ (c .before .before .p .given .1) in (h, w, omega arith)
+print-pred-put-head-requires t c κs = let (h, w) = kids-within pred (c .before .before .before .before .before .before .before .before .before .before .args .row .now) (c .before .before .before .before .before .before .before .before .before .before .args .at) (c .before .before .before .before .before .before .if2 .left) (c .before .before .before .before .pred-head .ensures) _ _ _ _ (c .before .before .p .given .1) in (h, w, omega arith)
 
 print-pred-sub-print-kids : (t : ℕ) → print-pred-lts.Need-sub-print-kids (print-pred-calls t) (print-pred-at t) print-pred.Post
 print-pred-sub-print-kids t c = search needs
 
 print-pred-print-kids-requires : (t : ℕ) → print-pred-lts.Need-print-kids-requires (print-pred-calls t) (print-pred-at t) print-pred.Post
-print-pred-print-kids-requires t c κs = let (h, w) = kids-within pred _ _ (c .before .before .before .before .before .before .before .before .before .before .before .if2 .left) (c .before .before .before .before .before .before .before .before .before .pred-shape .ensures) (c .before .before .before .before .before .before .before .before .own-words .ensures) _ _ _ _ (c .before .before .before .before .before .before .p .given .1) in let f : c .before .before .before .put-head .result ≤ c .before .before .before .before .before .before .before .before .before .before .before .before .before .before .before .args .o + 11 + 11 * (c .before .before .before .before .before .before .p .given .0 .0 - (c .before .before .before .before .before .before .before .before .before .before .before .before .before .before .before .args .at + 1)) = opening-few _ _ _ _ _ _ _ (c .before .before .before .put-head .ensures) in omega arith
+print-pred-print-kids-requires t c κs = let (h, w) = kids-within pred (c .before .before .before .before .before .before .before .before .before .before .before .before .before .before .args .row .now) (c .before .before .before .before .before .before .before .before .before .before .before .before .before .before .args .at) (c .before .before .before .before .before .before .before .before .before .before .if2 .left) (c .before .before .before .before .before .before .before .before .pred-head .ensures) _ _ _ _ (c .before .before .before .before .before .before .p .given .1) in let f : c .before .before .before .put-head .result ≤ c .before .before .before .before .before .before .before .before .before .before .before .before .before .before .args .o + 11 + 11 * (c .before .before .before .before .before .before .p .given .0 .0 - (c .before .before .before .before .before .before .before .before .before .before .before .before .before .before .args .at + 1)) = opening-few _ _ _ _ _ _ _ (c .before .before .before .put-head .ensures) in omega arith
 
 print-pred-enum-known-q : (t : ℕ) → print-pred-lts.Need-enum-known-q (print-pred-calls t) (print-pred-at t) print-pred.Post
 print-pred-enum-known-q t c = search needs
@@ -276,16 +269,16 @@ print-pred-same-length : (t : ℕ) → print-pred-lts.Need-same-length (print-pr
 print-pred-same-length t c = c .before .before .before .before .print-kids .kept .1 .0 ∙ c .before .before .before .before .before .before .before .before .put-head .kept .1 .0
 
 print-pred-returns-4 : (t : ℕ) → print-pred-lts.Need-returns-4 (print-pred-calls t) (print-pred-at t) print-pred.Post
-print-pred-returns-4 t c = kids-stop pred _ _ (c .before .before .before .before .before .before .before .before .before .before .before .before .before .before .before .before .if2 .left) (c .before .before .before .before .before .before .before .before .before .before .before .before .before .before .pred-shape .ensures) (c .before .before .before .before .before .before .before .before .before .before .before .before .before .own-words .ensures) _ _ _ _ _ _ _ _ _ _ _ _ (c .before .before .before .before .before .before .before .before .before .before .before .before .before .before .before .before .before .if1 .left) (c .before .before .before .before .before .before .before .before .before .before .before .p .given .1) (c .before .before .before .before .print-kids .ensures) (c .enum-told2 .given .1)
+print-pred-returns-4 t c = kids-stop pred _ _ (c .before .before .before .before .before .before .before .before .before .before .before .before .before .before .before .if2 .left) (c .before .before .before .before .before .before .before .before .before .before .before .before .before .pred-head .ensures) _ _ _ _ _ _ _ _ _ _ _ _ (c .before .before .before .before .before .before .before .before .before .before .before .before .before .before .before .before .if1 .left) (c .before .before .before .before .before .before .before .before .before .before .before .p .given .1) (c .before .before .before .before .print-kids .ensures) (c .enum-told2 .given .1)
 
 print-pred-put-byte-requires : (t : ℕ) → print-pred-lts.Need-put-byte-requires (print-pred-calls t) (print-pred-at t) print-pred.Post
-print-pred-put-byte-requires t c κs = let (h, w) = kids-within pred _ _ (c .before .before .before .before .before .before .before .before .before .before .before .before .before .before .before .before .before .before .if2 .left) (c .before .before .before .before .before .before .before .before .before .before .before .before .before .before .before .before .pred-shape .ensures) (c .before .before .before .before .before .before .before .before .before .before .before .before .before .before .before .own-words .ensures) _ _ _ _ (c .before .before .before .before .before .before .before .before .before .before .before .before .before .p .given .1) in let f : c .before .before .before .before .before .before .before .before .before .before .put-head .result ≤ c .before .before .before .before .before .before .before .before .before .before .before .before .before .before .before .before .before .before .before .before .before .before .args .o + 11 + 11 * (c .before .before .before .before .before .before .before .before .before .before .before .before .before .p .given .0 .0 - (c .before .before .before .before .before .before .before .before .before .before .before .before .before .before .before .before .before .before .before .before .before .before .args .at + 1)) = opening-few _ _ _ _ _ _ _ (c .before .before .before .before .before .before .before .before .before .before .put-head .ensures) in let (g, k) = all-within _ _ _ _ _ _ _ _ _ _ (c .before .before .before .before .before .before .print-kids .ensures) (c .before .before .q .given .1) in omega arith
+print-pred-put-byte-requires t c κs = let (h, w) = kids-within pred (c .before .before .before .before .before .before .before .before .before .before .before .before .before .before .before .before .before .before .before .before .before .args .row .now) (c .before .before .before .before .before .before .before .before .before .before .before .before .before .before .before .before .before .before .before .before .before .args .at) (c .before .before .before .before .before .before .before .before .before .before .before .before .before .before .before .before .before .if2 .left) (c .before .before .before .before .before .before .before .before .before .before .before .before .before .before .before .pred-head .ensures) _ _ _ _ (c .before .before .before .before .before .before .before .before .before .before .before .before .before .p .given .1) in let f : c .before .before .before .before .before .before .before .before .before .before .put-head .result ≤ c .before .before .before .before .before .before .before .before .before .before .before .before .before .before .before .before .before .before .before .before .before .args .o + 11 + 11 * (c .before .before .before .before .before .before .before .before .before .before .before .before .before .p .given .0 .0 - (c .before .before .before .before .before .before .before .before .before .before .before .before .before .before .before .before .before .before .before .before .before .args .at + 1)) = opening-few _ _ _ _ _ _ _ (c .before .before .before .before .before .before .before .before .before .before .put-head .ensures) in let (g, k) = all-within _ _ _ _ _ _ _ _ _ _ (c .before .before .before .before .before .before .print-kids .ensures) (c .before .before .q .given .1) in omega arith
 
 print-pred-same-length-2 : (t : ℕ) → print-pred-lts.Need-same-length-2 (print-pred-calls t) (print-pred-at t) print-pred.Post
 print-pred-same-length-2 t c = c .before .before .put-byte .kept .0 ∙ c .before .before .before .before .before .before .before .before .before .print-kids .kept .1 .0 ∙ c .before .before .before .before .before .before .before .before .before .before .before .before .before .put-head .kept .1 .0
 
 print-pred-returns-5 : (t : ℕ) → print-pred-lts.Need-returns-5 (print-pred-calls t) (print-pred-at t) print-pred.Post
-print-pred-returns-5 t c = a-form pred _ _ (c .before .before .before .before .before .before .before .before .before .before .before .before .before .before .before .before .before .before .before .before .before .if2 .left) (c .before .before .before .before .before .before .before .before .before .before .before .before .before .before .before .before .before .before .before .pred-shape .ensures) (c .before .before .before .before .before .before .before .before .before .before .before .before .before .before .before .before .before .before .own-words .ensures) _ _ _ _ _ _ _ _ _ _ _ _ _ _ _ (c .before .before .before .before .before .before .before .before .before .before .before .before .before .before .before .before .before .before .before .before .before .before .if1 .left) (c .before .before .before .before .before .before .before .before .before .before .before .before .before .before .before .before .p .given .1) (c .before .before .before .before .before .before .before .before .before .before .before .before .before .put-head .ensures) (c .before .before .before .before .before .before .before .before .before .print-kids .ensures) (c .before .before .before .before .before .q .given .1) (c .before .before .put-byte .ensures)
+print-pred-returns-5 t c = a-form pred _ _ (c .before .before .before .before .before .before .before .before .before .before .before .before .before .before .before .before .before .before .before .before .if2 .left) (c .before .before .before .before .before .before .before .before .before .before .before .before .before .before .before .before .before .before .pred-head .ensures) _ _ _ _ _ _ _ _ _ _ _ _ _ _ _ (c .before .before .before .before .before .before .before .before .before .before .before .before .before .before .before .before .before .before .before .before .before .if1 .left) (c .before .before .before .before .before .before .before .before .before .before .before .before .before .before .before .before .p .given .1) (c .before .before .before .before .before .before .before .before .before .before .before .before .before .put-head .ensures) (c .before .before .before .before .before .before .before .before .before .print-kids .ensures) (c .before .before .before .before .before .q .given .1) (c .before .before .put-byte .ensures)
 
 abbrev print-preds-Inv-loop : print-preds-lts.InvT-loop
 print-preds-Inv-loop row out₀ at n depth o p₀ i₀ left₀ out p i left = ((b : List ℕ) (r : Ends) → PrintedAll p i (decodeAll (λ s l. decode depth s l) (replicate left pred) (drop p row)) out b r → PrintedAll at o (decodeAll (λ s l. decode depth s l) (replicate n pred) (drop at row)) out₀ b r) × (at ≤ p) × (i + 13 * (length row - p) ≤ o + 13 * (length row - at)) × (length out ≡ length out₀)
@@ -332,8 +325,8 @@ print-preds-returns-2 t c = c .before .loop .inv .0 _ _ (all-none _ _ pred _ _ _
 pub +print-expr+print-exprs+print-kids+print-pred+print-preds-spec : {M : Type 1} → statement M
 +print-expr+print-exprs+print-kids+print-pred+print-preds-spec =
     close μ-print-expr μ-print-exprs μ-print-kids μ-print-pred μ-print-preds
-    (λ t. print-expr-lts.spec (print-expr-calls t) (print-expr-at t) print-expr.Post (print-expr-returns t) (print-expr-returns-2 t) (print-expr-mul-tag t) (print-expr-shared-slice-read-tag t) (print-expr-add-own-words t) (print-expr-expr-shape-requires t) (print-expr-own-words-requires t) (print-expr-enum-known-p t) (print-expr-enum-told t) (print-expr-returns-3 t) (print-expr-put-head-requires t) (print-expr-sub-print-kids t) (print-expr-print-kids-requires t) (print-expr-enum-known-q t) (print-expr-enum-told-2 t) (print-expr-same-length t) (print-expr-returns-4 t) (print-expr-put-byte-requires t) (print-expr-same-length-2 t) (print-expr-returns-5 t))
+    (λ t. print-expr-lts.spec (print-expr-calls t) (print-expr-at t) print-expr.Post (print-expr-returns t) (print-expr-returns-2 t) (print-expr-mul-tag t) (print-expr-shared-slice-read-tag t) (print-expr-add-expr-head t) (print-expr-expr-head-requires t) (print-expr-enum-known-p t) (print-expr-enum-told t) (print-expr-returns-3 t) (print-expr-put-head-requires t) (print-expr-sub-print-kids t) (print-expr-print-kids-requires t) (print-expr-enum-known-q t) (print-expr-enum-told-2 t) (print-expr-same-length t) (print-expr-returns-4 t) (print-expr-put-byte-requires t) (print-expr-same-length-2 t) (print-expr-returns-5 t))
     (λ t. print-exprs-lts.spec (print-exprs-calls t) (print-exprs-at t) print-exprs.Post print-exprs-Inv-loop print-exprs-μ-loop (print-exprs-loop-holds t) (print-exprs-put-byte-requires t) (print-exprs-print-expr-requires t) (print-exprs-enum-known-q t) (print-exprs-enum-told t) (print-exprs-same-length t) (print-exprs-returns t) (print-exprs-sub-left t) (print-exprs-loop-less t) (print-exprs-loop-again t) (print-exprs-same-length-2 t) (print-exprs-returns-2 t))
     (λ t. print-kids-lts.spec (print-kids-calls t) (print-kids-at t) print-kids.Post (print-kids-print-preds-requires t) (print-kids-enum-known-p t) (print-kids-enum-told t) (print-kids-same-length t) (print-kids-returns t) (print-kids-print-exprs-requires t) (print-kids-same-length-2 t) (print-kids-returns-2 t))
-    (λ t. print-pred-lts.spec (print-pred-calls t) (print-pred-at t) print-pred.Post (print-pred-returns t) (print-pred-returns-2 t) (print-pred-mul-tag t) (print-pred-shared-slice-read-tag t) (print-pred-add-own-words t) (print-pred-pred-shape-requires t) (print-pred-own-words-requires t) (print-pred-enum-known-p t) (print-pred-enum-told t) (print-pred-returns-3 t) (print-pred-put-head-requires t) (print-pred-sub-print-kids t) (print-pred-print-kids-requires t) (print-pred-enum-known-q t) (print-pred-enum-told-2 t) (print-pred-same-length t) (print-pred-returns-4 t) (print-pred-put-byte-requires t) (print-pred-same-length-2 t) (print-pred-returns-5 t))
+    (λ t. print-pred-lts.spec (print-pred-calls t) (print-pred-at t) print-pred.Post (print-pred-returns t) (print-pred-returns-2 t) (print-pred-mul-tag t) (print-pred-shared-slice-read-tag t) (print-pred-add-pred-head t) (print-pred-pred-head-requires t) (print-pred-enum-known-p t) (print-pred-enum-told t) (print-pred-returns-3 t) (print-pred-put-head-requires t) (print-pred-sub-print-kids t) (print-pred-print-kids-requires t) (print-pred-enum-known-q t) (print-pred-enum-told-2 t) (print-pred-same-length t) (print-pred-returns-4 t) (print-pred-put-byte-requires t) (print-pred-same-length-2 t) (print-pred-returns-5 t))
     (λ t. print-preds-lts.spec (print-preds-calls t) (print-preds-at t) print-preds.Post print-preds-Inv-loop print-preds-μ-loop (print-preds-loop-holds t) (print-preds-put-byte-requires t) (print-preds-print-pred-requires t) (print-preds-enum-known-q t) (print-preds-enum-told t) (print-preds-same-length t) (print-preds-returns t) (print-preds-sub-left t) (print-preds-loop-less t) (print-preds-loop-again t) (print-preds-same-length-2 t) (print-preds-returns-2 t))
