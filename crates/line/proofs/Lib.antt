@@ -1,10 +1,4 @@
-pub mod WriteLaws
-pub mod PrintLaws
-pub mod NodeLaws
 pub mod ScanLaws
 pub mod OffsetLaws
 pub mod LineLaws
-pub mod AnswerLaws
-pub mod EntryLaws
-pub mod FitLaws
 pub mod ReadBack

@@ -13,7 +13,7 @@ use Rattle.form.proofs.DecodeLaws.{clash}
 use Rattle.form.proofs.HeadLaws.{gone, here}
 use Rattle.line.specs.Scan.{Scan, ended, broken, scanWords, group, Signed, signed, unsigned, offset}
 use Rattle.line.specs.Line.{heads, prefix, startOf, closing, lastGroup, formArg, nextArg, noList, shiftArgs, listArgs, args, listWords, readLine, listRow, lineOf, formRow}
-use Rattle.line.specs.Put.{put}
+use Rattle.spell.specs.Put.{put}
 use Rattle.line.specs.Internal.Places.{groupAt, Grouped, offsetAt, FormRead}
 use Rattle.line.specs.declared.group.Group.{Group}
 use Rattle.line.specs.declared.group.Group.the-variants as grp

@@ -10,7 +10,7 @@ use borrow.Author.Tests.{eq-eqb, ne-eqb, le-leb, lt-leb, lt-ltb, le-ltb, ltb-tru
 use lib.Dec.{leb, ltb, eqb}
 use lib.ListN.{length, length-append}
 use Rattle.tree.specs.Form.{Leaf, free, bound, Form, leaf, node, Forms, none, more, pick, between, encode, encodeAll}
-use Rattle.line.specs.Spell.{digits, decimal, spaced, bracket, spellLeaf, spell, spellAll}
+use Rattle.spell.specs.Spell.{digits, decimal, spaced, bracket, spellLeaf, spell, spellAll}
 use Rattle.line.specs.Scan.{onOpen, onClose, onSpace, onDigit, turn, note, markWords, depthAfter, Scan, ended, broken, addByte, moved, scan, group}
 use Rattle.line.specs.declared.turn.State.{State}
 use Rattle.line.specs.declared.turn.State.the-variants.{Opened, Spaced, Closed, Digits}

@@ -10,8 +10,8 @@ use lib.ListN.{length, getD, drop}
 use Rattle.tree.specs.Form.{pick}
 use Rattle.form.proofs.HeadLaws.{gone, here}
 use Rattle.line.specs.Scan.{onDigit, turn, note, markWords, depthAfter, Scan, ended, broken, addByte, moved, scan, group, scanWords, Decimal, found, none, addDigit, finished, number}
-use Rattle.line.specs.Put.{put}
-use Rattle.line.specs.Internal.Writes.{Wrote}
+use Rattle.spell.specs.Put.{put}
+use Rattle.spell.specs.Internal.Writes.{Wrote}
 use Rattle.line.specs.Internal.Places.{groupAt, Grouped, numberAt}
 use Rattle.line.specs.declared.turn.State.{State}
 use Rattle.line.specs.declared.turn.State.the-variants.{Opened, Digits}
@@ -22,7 +22,7 @@ use Rattle.line.specs.declared.turn.Mark.the-variants.{Word, Nothing}
 use Rattle.line.specs.declared.group.Group.{Group}
 use Rattle.line.specs.declared.group.Group.the-variants.{End, Misspelled}
 use Rattle.line.specs.declared.number.Number.the-variants as num
-use Rattle.line.proofs.WriteLaws.{wrote-both}
+use Rattle.spell.proofs.WriteLaws.{wrote-both}
 
 -- decimal words
 digit-at : (p : ℕ) (z : Decimal) → numberAt p (addDigit z) ≡ numberAt (p + 1) z

@@ -1,3 +1,2 @@
--- What the contracts of private functions cite: positions, and what is written there. Nothing here is needed to read a public contract.
-pub mod Writes
+-- What the contracts of private functions cite: positions. Nothing here is needed to read a public contract.
 pub mod Places

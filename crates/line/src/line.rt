@@ -11,7 +11,7 @@ ghost use mathlib.Core.Bool.{false};
 ghost use lib.ListN.{drop};
 ghost use Rattle.line.specs.Scan.{group, scanWords};
 ghost use Rattle.line.specs.Line.{lastGroup, formArg, nextArg, shiftArgs, listArgs, readLine, listRow, lineOf, formRow};
-ghost use Rattle.line.specs.Put.{put};
+ghost use Rattle.spell.specs.Put.{put};
 ghost use Rattle.line.specs.Internal.Places.{Grouped, FormRead};
 
 // A group of the line: where it starts and ends, and the number of its words.

@@ -3,7 +3,7 @@ ghost use mathlib.Core.Path.{_≡_};
 ghost use mathlib.Core.Bool.{true};
 ghost use Prim.Native.Nat.{_+_, _<_, _≤_, _^_};
 ghost use Rattle.line.specs.Scan.{onOpen, onClose, onSpace, onDigit, turn, note, markWords, depthAfter};
-ghost use Rattle.line.specs.Internal.Writes.{Wrote};
+ghost use Rattle.spell.specs.Internal.Writes.{Wrote};
 
 // What stands before: '[', ' ', ']', or the digits of a word with this value.
 pub enum State {

@@ -27,10 +27,10 @@ use Rattle.replace.specs.Fill.{Quantified, quantifier, other, quantified, ofQua
 use Rattle.replace.specs.Prune.{usedPlaces, prune, pruneOutcome}
 use Rattle.one_point.specs.Point.{onePoint, ofResult, pointOutcome}
 use Rattle.one_point.specs.Member.{membership, memberOutcome}
-use Rattle.line.specs.Spell.{digits, decimal, spell, spellNo, printOutcome, printNo}
+use Rattle.spell.specs.Spell.{digits, decimal, spell, spellNo, printOutcome, printNo}
 use Rattle.line.specs.Line.{Formed, formed, readLine}
-use Rattle.line.proofs.PrintLaws.{spell-few}
-use Rattle.line.proofs.WriteLaws.{digits-few}
+use Rattle.spell.proofs.PrintLaws.{spell-few}
+use Rattle.spell.proofs.WriteLaws.{digits-few}
 use Rattle.line.specs.declared.head.Head.{Head}
 use Rattle.line.specs.declared.head.Head.the-variants.{Shift, Free, Bind, Fill, Prune, Point, Member}
 use Rattle.line.specs.declared.line.Line.the-variants.{Command, Misspelled}

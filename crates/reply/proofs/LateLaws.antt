@@ -26,7 +26,7 @@ use Rattle.form.proofs.CheckLaws.{form-of}
 use Rattle.form.proofs.RowLaws.{row-short, found-exact}
 use Rattle.tree.proofs.Ranges.{split}
 use Rattle.form.proofs.TableLaws.{listing-no, listing-yes}
-use Rattle.line.specs.Spell.{spells, fitsForm, fitsList, fitsNames}
+use Rattle.spell.specs.Spell.{spells, fitsForm, fitsList, fitsNames}
 use Rattle.line.specs.declared.line.Part.{Part}
 use Rattle.reply.specs.Reply.{spelledForm, spelledList, spelledNames}
 use Rattle.reply.specs.Internal.Parts.{Held}

@@ -12,9 +12,9 @@ use Rattle.form.specs.Answer.{Outcome, answer, refusal, told, written}
 use Rattle.form.specs.declared.answer.Answer.{Answer}
 use Rattle.form.specs.declared.answer.Answer.the-variants.{Done, No}
 use Rattle.form.proofs.DecodeLaws.{clash}
-use Rattle.line.specs.Put.{put}
+use Rattle.spell.specs.Put.{put}
 use Rattle.line.specs.Line.{Formed, formed, readLine, listRow, lineOf, formRow}
-use Rattle.line.proofs.AnswerLaws.{put-front}
+use Rattle.spell.proofs.AnswerLaws.{put-front}
 use Rattle.line.specs.declared.head.Head.{Head}
 use Rattle.line.specs.declared.line.Part.{Part}
 use Rattle.line.specs.declared.line.Parts.{Parts}

@@ -18,7 +18,7 @@ use Rattle.replace.specs.Fill.{fillOutcome}
 use Rattle.replace.specs.Prune.{pruneOutcome}
 use Rattle.one_point.specs.Point.{pointOutcome}
 use Rattle.one_point.specs.Member.{memberOutcome}
-use Rattle.line.specs.Spell.{fitsForm, fitsList, fitsNames, printOutcome, printNo}
+use Rattle.spell.specs.Spell.{fitsForm, fitsList, fitsNames, printOutcome, printNo}
 use Rattle.line.specs.Line.{Formed, formed, readLine, listRow}
 use Rattle.line.specs.declared.head.Head.{Head}
 use Rattle.line.specs.declared.head.Head.the-variants.{Shift, Free, Bind, Fill, Prune, Point, Member}

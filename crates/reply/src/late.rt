@@ -31,7 +31,7 @@ fn check_row(row: &[u32], kind: Kind, fits: bool) -> Answer
 pub fn check_text(text: &[u8], row: &[u32], kind: Kind) -> Answer
     ensures { λ r. ⌜ r ≡ told (spelledForm kind (now (text .entry)) (now (row .entry)) (answer [])) ⌝ }
 {
-    if !line::fits::fits_form(text, row) {
+    if !spell::fits::fits_form(text, row) {
         return check_row(row, kind, false);
     }
     let expression = is_expr(row, kind);
@@ -54,7 +54,7 @@ pub fn check_list_text(text: &[u8], row: &[u32], kind: ListKind) -> Answer
     if !listed.ok {
         return Answer::No(2);
     }
-    if !line::fits::fits_list(text, row, kind) {
+    if !spell::fits::fits_list(text, row, kind) {
         return Answer::No(8);
     }
     Answer::Done(0)
@@ -67,7 +67,7 @@ pub fn check_names_text(text: &[u8], row: &[u32]) -> Answer
     if Limit::WORDS < row.len() {
         return Answer::No(1);
     }
-    if !line::fits::fits_names(text, row) {
+    if !spell::fits::fits_names(text, row) {
         return Answer::No(8);
     }
     Answer::Done(0)

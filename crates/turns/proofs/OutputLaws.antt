@@ -10,7 +10,7 @@ use lib.ListN.{length, take, drop, length-append}
 use lib.Seq.{drop-length}
 use Rattle.tree.specs.Form.{pick}
 use Rattle.form.proofs.DecodeLaws.{clash}
-use Rattle.line.specs.Spell.{printNo}
+use Rattle.spell.specs.Spell.{printNo}
 use Rattle.line.specs.Line.{readLine}
 use Rattle.reply.specs.Reply.{lineOutcome, replyOutcome}
 use Rattle.reply.specs.Split.{newlineIn}

@@ -8,7 +8,7 @@ use borrow.Author.Tests.{ne-eqb}
 use lib.Dec.{ltb}
 use lib.ListN.{length, length-append}
 use Rattle.tree.specs.Form.{Leaf, free, bound, Form, leaf, node, Forms, none, more, pick}
-use Rattle.line.specs.Spell.{digits, decimal, spaced, bracket, spellLeaf, spell, spellAll, spellNo}
+use Rattle.spell.specs.Spell.{digits, decimal, spaced, bracket, spellLeaf, spell, spellAll, spellNo}
 use Rattle.reply.specs.Split.{newlineIn}
 use Rattle.reply.proofs.GoodLaws.{reply-answers}
 use Rattle.turns.specs.Output.{answerTo}

@@ -5,9 +5,9 @@ use Prim.Native.Nat.{ℕ, suc, _+_, _-_, _≤_, _<_}
 use native.Mathlib.Omega.{arith}
 use lib.ListN.{length, getD, take, drop, set, length-drop, take-append-drop}
 use lib.Seq.{sets, sets-eq, length-take-le, drop-append-le, drop-drop, getD-append-add, getD-drop, take-suc}
-use Rattle.line.specs.Put.{put}
-use Rattle.line.proofs.WriteLaws.{put-append, put-length}
-use Rattle.line.proofs.AnswerLaws.{put-front}
+use Rattle.spell.specs.Put.{put}
+use Rattle.spell.proofs.WriteLaws.{put-append, put-length}
+use Rattle.spell.proofs.AnswerLaws.{put-front}
 
 pub put-none : (l : List ℕ) (o : ℕ) → put l o [] ≡ l
 unfolding put

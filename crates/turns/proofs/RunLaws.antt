@@ -7,8 +7,8 @@ use native.Mathlib.Omega.{arith}
 use borrow.Author.Tests.{le-leb, leb-true}
 use lib.ListN.{length, take}
 use Rattle.form.proofs.DecodeLaws.{clash}
-use Rattle.line.specs.Put.{put}
-use Rattle.line.proofs.WriteLaws.{put-length}
+use Rattle.spell.specs.Put.{put}
+use Rattle.spell.proofs.WriteLaws.{put-length}
 use Rattle.turns.specs.Output.{outputOf}
 use Rattle.turns.specs.Turn.{pendingOf, piece, pieceOf, passed, fits, hasRoom, turnOf, printedBy, movable, movedState, movedBytes, readState, stillOf}
 use Rattle.turns.specs.Run.{Run, stops, goes-on, writes, reads, ends}

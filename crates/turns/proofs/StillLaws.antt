@@ -15,9 +15,9 @@ use Rattle.form.specs.Answer.{Outcome, answer, refusal, ofFound, needs}
 use Rattle.form.specs.Decode.{Found, found, missing, formOf}
 use Rattle.form.specs.declared.answer.Kind.the-variants.{Either}
 use Rattle.form.proofs.DecodeLaws.{clash}
-use Rattle.line.specs.Put.{put}
-use Rattle.line.specs.Spell.{spell, spellNo, printOutcome, printNo}
-use Rattle.line.proofs.AnswerLaws.{put-front}
+use Rattle.spell.specs.Put.{put}
+use Rattle.spell.specs.Spell.{spell, spellNo, printOutcome, printNo}
+use Rattle.spell.proofs.AnswerLaws.{put-front}
 use Rattle.reply.specs.Reply.{lineOutcome, replyOutcome, printed}
 use Rattle.reply.specs.Split.{newlineIn}
 use Rattle.turns.specs.Output.{withNewline, answerTo, outputOf}

@@ -13,7 +13,7 @@ use Rattle.form.specs.Answer.{Outcome, answer, refusal, told, written}
 use Rattle.form.specs.declared.answer.Answer.{Answer}
 use Rattle.form.specs.declared.answer.Answer.the-variants.{Done, No}
 use Rattle.form.proofs.DecodeLaws.{clash}
-use Rattle.line.specs.Put.{put}
+use Rattle.spell.specs.Put.{put}
 use Rattle.reply.specs.Reply.{replyOutcome}
 use Rattle.reply.specs.Split.{newlineIn, nextOf}
 use Rattle.reply.specs.declared.split.Next.{Next}

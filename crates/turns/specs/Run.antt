@@ -5,7 +5,7 @@ use mathlib.Core.Bool.{true}
 use mathlib.Core.List.{List, [], _++_}
 use Prim.Native.Nat.{ℕ, _+_, _-_, _≤_}
 use lib.ListN.{length, take}
-use Rattle.line.specs.Put.{put}
+use Rattle.spell.specs.Put.{put}
 use Rattle.turns.specs.Turn.{turnOf, printedBy, writtenState, movedState, movedBytes, readState}
 use Rattle.turns.specs.declared.state.State.{State}
 use Rattle.turns.specs.declared.turn.Turn.the-variants.{On, Write, Read, Stop}

@@ -3,7 +3,7 @@ ghost use mathlib.Core.Path.{_≡_};
 ghost use mathlib.Core.Bool.{false};
 ghost use Prim.Native.Nat.{_-_, _≤_};
 ghost use lib.ListN.{length, take, drop};
-ghost use Rattle.line.specs.Put.{put};
+ghost use Rattle.spell.specs.Put.{put};
 ghost use Rattle.turns.specs.Turn.{writtenState, movable, movedState, movedBytes, ending, readState};
 
 // The bytes of the input from start to end are not passed yet, the first `used` bytes of the output not written yet; whether a line that is

@@ -6,7 +6,7 @@ ghost use mathlib.Core.Path.{_≡_};
 ghost use mathlib.Core.List.{[]};
 ghost use Prim.Native.Nat.{_+_, _≤_};
 ghost use lib.ListN.{length, take};
-ghost use Rattle.line.specs.Put.{put};
+ghost use Rattle.spell.specs.Put.{put};
 ghost use Rattle.reply.specs.declared.split.Next.the-variants.{More};
 ghost use Rattle.turns.specs.Output.{answerTo};
 ghost use Rattle.turns.specs.Turn.{pendingOf, none, ofNext, pieceOf, printedOf, passed, waiting, ofPiece, fits, rowsFit, turnOf, printedBy};

@@ -6,7 +6,7 @@ use lib.ListN.{length}
 use Rattle.line.specs.Scan.{Scan, ended, broken, scanWords, Decimal, found, none, Signed, signed, unsigned}
 use Rattle.line.specs.Line.{Formed, lineOf, formRow}
 use Rattle.line.specs.declared.line.Line.{Line}
-use Rattle.line.specs.Put.{put}
+use Rattle.spell.specs.Put.{put}
 use Rattle.line.specs.declared.group.Group.{Group}
 use Rattle.line.specs.declared.group.Group.the-variants.{End, Misspelled}
 use Rattle.line.specs.declared.number.Number as num

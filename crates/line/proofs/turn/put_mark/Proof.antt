@@ -1,5 +1,5 @@
 -- `line::turn::put_mark` meets its contract. Assumes nothing.
-use Rattle.line.proofs.WriteLaws.{wrote-none, wrote-out, wrote-byte}
+use Rattle.spell.proofs.WriteLaws.{wrote-none, wrote-out, wrote-byte}
 use Rattle.line.specs.Scan.{markWords}
 use borrow.Author.Needs.{needs}
 use Rattle.line.proofs.turn.put_mark.Statement.{statement}

@@ -8,7 +8,7 @@ use Rattle.reply.proofs.late.check_names_text.Statement.{statement}
 use Rattle.reply.proofs.late.check_names_text.Tie as tie
 use Rattle.reply.proofs.late.check_names_text.Reads as reads
 use Rattle.reply.proofs.late.check_names_text.Lts as lts
-use Rattle.line.proofs.fits.fits_names.Reads as fits-names-reads
+use Rattle.spell.proofs.fits.fits_names.Reads as fits-names-reads
 
 returns : tie.Need-returns
 returns c = told-long _ _ (names-tests _ _) (c .if1 .taken) _

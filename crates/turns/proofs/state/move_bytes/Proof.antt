@@ -5,7 +5,7 @@ use native.Mathlib.Omega.{arith}
 use Prim.Native.Nat.{_≤_}
 use lib.ListN.{take, drop}
 use borrow.Author.Needs.{needs}
-use Rattle.line.specs.Put.{put}
+use Rattle.spell.specs.Put.{put}
 use Rattle.turns.proofs.PutLaws.{copied, copied-none, copied-long, copied-all}
 use Rattle.turns.proofs.state.move_bytes.Statement.{statement}
 use Rattle.turns.proofs.state.move_bytes.Tie as tie

@@ -1,0 +1,161 @@
+-- What is printed of a node, from its own words and its children. Assumes nothing.
+use mathlib.Core.Path.{_≡_, refl, ap, sym, _∙_}
+use mathlib.Core.Bool.{Bool, true, false}
+use mathlib.Core.List.{List, [], _∷_, _++_, append-assoc, append-nil}
+use Prim.Native.Nat.{ℕ, zero, suc, _+_, _-_, _*_, _≤_, _<_}
+use native.Mathlib.Numerals.{sub-one}
+use native.Mathlib.Omega.{arith}
+use lib.ListN.{length, getD, take, drop, length-append, length-take, length-drop}
+use lib.Seq.{take-at}
+use Rattle.tree.specs.Form.{Leaf, free, bound, leaf, node, Forms, none, pick, encode, encodeAll}
+use Rattle.tree.specs.Tag.{Sort, own, sorts}
+use Rattle.form.specs.Decode.{Head, head, bad, read, no-form, Gots, gots, no-forms, first, leafAt, isLeaf, make, close, decodeAll, branch, decode}
+use Rattle.form.specs.Internal.Reads.{headAt}
+use Rattle.form.specs.declared.head.Head as code
+use Rattle.form.specs.declared.head.Head.the-variants.{Kids, None}
+use Rattle.form.proofs.DecodeLaws.{clash, read-exact, read-at, all-sound, made}
+use Rattle.form.proofs.HeadLaws.{gone, here}
+use Rattle.spell.specs.Spell.{decimal, spaced, bracket, spellLeaf, spell, spellAll}
+use Rattle.spell.specs.Put.{put}
+use Rattle.spell.specs.Internal.Writes.{Wrote, Printed, PrintedAll}
+use Rattle.spell.specs.declared.print.Ends.{Ends}
+use Rattle.spell.specs.declared.print.Ends.the-variants.{End, Bad}
+use Rattle.spell.proofs.WriteLaws.{wrote-both, wrote-end, decimal-few, spaced-few}
+use Rattle.spell.proofs.PrintLaws.{bad-printed, all-bad}
+
+-- the bracket, the tag and the words of a node
+abbrev pub opening : ℕ → List ℕ → List ℕ
+opening t ws = 91 ∷ (decimal t ++ spaced ws)
+
+pub wrote-opening : (o p q r t : ℕ) (ws a b c e : List ℕ) → Wrote o (91 ∷ []) a b p → Wrote p (decimal t) b c q → Wrote q (spaced ws) c e r → Wrote o (opening t ws) a e r
+wrote-opening o p q r t ws a b c e w v u = wrote-both o p r (91 ∷ []) _ a b e w (wrote-both p q r _ _ b c e v u)
+
+pub opening-few : (o t n i : ℕ) (l a b : List ℕ) → Wrote o (opening t (take n l)) a b i → i ≤ o + 11 + 11 * n
+opening-few o t n i l a b w =
+    let e = wrote-end o i (opening t (take n l)) a b w in
+    let f = length-append (decimal t) (spaced (take n l)) in
+    let g = decimal-few t in
+    let h = spaced-few (take n l) in
+    let k = length-take n l in
+    omega arith
+
+bracket-is : (t : ℕ) (ws ks : List ℕ) → opening t ws ++ (ks ++ (93 ∷ [])) ≡ bracket t ws ks
+unfolding bracket
+bracket-is t ws ks = rw (append-assoc (decimal t))
+
+leaf-spell : (x : Leaf) (t : ℕ) (ws : List ℕ) → t ∷ ws ≡ encode (leaf x) → bracket t ws [] ≡ spellLeaf x
+unfolding spellLeaf encode
+leaf-spell (free n) t ws e =
+    let a : t ≡ 1 = cc in
+    let b : ws ≡ n ∷ [] = cc in
+    rw (a, b)
+leaf-spell (bound n) t ws e =
+    let a : t ≡ 2 = cc in
+    let b : ws ≡ n ∷ [] = cc in
+    rw (a, b)
+
+made-spell : (t : ℕ) (o ds : List ℕ) (ks : Forms) (b : Bool) (x : Leaf) → (b ≡ true → ks ≡ none)
+    → t ∷ (o ++ (ds ++ encodeAll ks)) ≡ encode (pick b (leaf x) (node t o ds ks)) → bracket t (o ++ ds) (spellAll ks) ≡ spell (pick b (leaf x) (node t o ds ks))
+unfolding spell encode
+made-spell t o ds ks true x l e = rw (l refl) (leaf-spell x t (o ++ ds) (rw (l refl, append-nil ds) at e))
+made-spell t o ds ks false x l e = refl
+
+module _ (s : Sort) (row : List ℕ) (at : ℕ) where
+  pub too-deep : (d o : ℕ) (a b : List ℕ) → d ≡ 0 → Printed at o (decode d s (drop at row)) a b Bad
+  unfolding decode
+  too-deep d o a b e = bad-printed at o _ a b (rw e refl)
+
+  no-word : (d : ℕ) → decode d s [] ≡ no-form
+  unfolding decode
+  no-word zero = refl
+  no-word (suc d) = refl
+
+  pub past-end : (d o : ℕ) (a b : List ℕ) → length row ≤ at → Printed at o (decode d s (drop at row)) a b Bad
+  past-end d o a b h = bad-printed at o _ a b (rw (gone row at h) (no-word d))
+
+  module _ (d t : ℕ) where
+    close-printed : (o ds : List ℕ) (x y p i j k u q : ℕ) (m m₁ m₂ m₃ : List ℕ) (r : Ends) (g : Gots) → decodeAll (λ s l. decode d s l) (sorts x y) (drop p row) ≡ g
+        → ((l : List ℕ) → read (own s t) (o ++ (ds ++ l)) ≡ head o ds x y l) → p ≡ at + 1 + (length o + length ds) → Wrote u (opening t (o ++ ds)) m m₁ i
+        → PrintedAll p i g m₁ m₂ r → r ≡ End q j → Wrote j (93 ∷ []) m₂ m₃ k → Printed at u (close t o ds g) m m₃ (End q k)
+    unfolding Printed PrintedAll Wrote
+    close-printed o ds x y p i j k u q m m₁ m₂ m₃ r (gots ks l) z h e w v c f =
+        let (a, n) = all-sound d (sorts x y) (drop p row) ks l z in
+        let (b, ok, only) = made d s t o ds x y ks (isLeaf t) refl h n in
+        let ej : j ≡ i + length (spellAll ks) = cc (v .0) in
+        let eq : q ≡ p + length (encodeAll ks) = cc (v .0) in
+        let all = wrote-both u i k (opening t (o ++ ds)) (spellAll ks ++ (93 ∷ [])) m m₁ m₃ w (wrote-both i j k (spellAll ks) (93 ∷ []) m₁ m₂ m₃ (ej, v .1) f) in
+        let sp : opening t (o ++ ds) ++ (spellAll ks ++ (93 ∷ [])) ≡ spell (make t o ds ks) = bracket-is t (o ++ ds) (spellAll ks) ∙ made-spell t o ds ks (isLeaf t) (leafAt t (first o)) only b in
+        let len : length (encode (make t o ds ks)) ≡ suc (length o + (length ds + length (encodeAll ks))) = rw (← b, length-append, length-append) refl in
+        let ek : k ≡ u + length (spell (make t o ds ks)) = all .0 ∙ ap (λ n. u + length n) sp in
+        let en : q ≡ at + length (encode (make t o ds ks)) = omega arith in
+        (cc, all .1 ∙ ap (λ n. put m u n) sp)
+    close-printed o ds x y p i j k u q m m₁ m₂ m₃ r no-forms z h e w v c f = absurd (clash cc)
+
+    branch-printed : (z : Head) (x y w p i j k u q : ℕ) (m m₁ m₂ m₃ : List ℕ) (r : Ends) → read (own s t) (drop (at + 1) row) ≡ z → headAt (at + 1) z ≡ Kids p x y w
+        → Wrote u (opening t (take (p - (at + 1)) (drop (at + 1) row))) m m₁ i
+        → PrintedAll p i (decodeAll (λ s l. decode d s l) (sorts x y) (drop p row)) m₁ m₂ r → r ≡ End q j → Wrote j (93 ∷ []) m₂ m₃ k
+        → Printed at u (branch (λ s l. decode d s l) t z) m m₃ (End q k)
+    unfolding headAt
+    branch-printed (head o ds x′ y′ l) x y w p i j k u q m m₁ m₂ m₃ r z e v t′ c f =
+        let ep : p ≡ at + 1 + (length o + length ds) = cc in
+        let ex : x′ ≡ x = cc in
+        let ey : y′ ≡ y = cc in
+        let (a, h) = read-exact (own s t) (drop (at + 1) row) o ds x′ y′ l z in
+        let el : l ≡ drop p row = read-at (own s t) row (at + 1) o ds x′ y′ l z ∙ ap (λ n. drop n row) (sym ep) in
+        let h′ : (l : List ℕ) → read (own s t) (o ++ (ds ++ l)) ≡ head o ds x y l = λ l. h l ∙ cc in
+        let n : length (o ++ ds) ≡ p - (at + 1) = length-append o ds ∙ omega arith in
+        let ew : take (p - (at + 1)) (drop (at + 1) row) ≡ o ++ ds = ap (λ n. take (p - (at + 1)) n) (a ∙ sym (append-assoc o ds l)) ∙ take-at (o ++ ds) l (p - (at + 1)) n in
+        rw (ex, ey, el) (close-printed o ds x y p i j k u q m m₁ m₂ m₃ r _ refl h′ ep (rw ew at v) t′ c f)
+    branch-printed bad x y w p i j k u q m m₁ m₂ m₃ r z e v t′ c f = absurd (clash cc)
+
+    branch-stop : (z : Head) (x y w p i u : ℕ) (m m₁ m₂ b : List ℕ) (r : Ends) → read (own s t) (drop (at + 1) row) ≡ z → headAt (at + 1) z ≡ Kids p x y w
+        → PrintedAll p i (decodeAll (λ s l. decode d s l) (sorts x y) (drop p row)) m₁ m₂ r → r ≡ Bad → Printed at u (branch (λ s l. decode d s l) t z) m b Bad
+    unfolding headAt
+    branch-stop (head o ds x′ y′ l) x y w p i u m m₁ m₂ b r z e v c =
+        let ep : p ≡ at + 1 + (length o + length ds) = cc in
+        let ex : x′ ≡ x = cc in
+        let ey : y′ ≡ y = cc in
+        let el : l ≡ drop p row = read-at (own s t) row (at + 1) o ds x′ y′ l z ∙ ap (λ n. drop n row) (sym ep) in
+        bad-printed at u _ m b (rw (ex, ey, el, all-bad p i (decodeAll (λ s l. decode d s l) (sorts x y) (drop p row)) m₁ m₂ r v c))
+    branch-stop bad x y w p i u m m₁ m₂ b r z e v c = absurd (clash cc)
+
+    branch-bad : (z : Head) (u : ℕ) (m b : List ℕ) → headAt (at + 1) z ≡ None → Printed at u (branch (λ s l. decode d s l) t z) m b Bad
+    unfolding headAt
+    branch-bad (head o ds x y l) u m b e = absurd (clash cc)
+    branch-bad bad u m b e = bad-printed at u no-form m b refl
+
+  node-here : (d : ℕ) → at < length row → decode (suc d) s (drop at row) ≡ branch (λ s l. decode d s l) (getD row at 0) (read (own s (getD row at 0)) (drop (at + 1) row))
+  unfolding decode
+  node-here d h = rw (here row at h) refl
+
+  within : (k : ℕ) (z : Head) (p x y w : ℕ) → at < length row → read (own s k) (drop (at + 1) row) ≡ z → headAt (at + 1) z ≡ Kids p x y w → (at < p) × (p ≤ length row)
+  unfolding headAt
+  within k (head o ds x′ y′ l) p x y w low q e =
+      let ep : p ≡ at + 1 + (length o + length ds) = cc in
+      let (a, h) = read-exact (own s k) (drop (at + 1) row) o ds x′ y′ l q in
+      let n = length-drop (at + 1) row in
+      let m = ap length a ∙ length-append o (ds ++ l) in
+      let v = length-append ds l in
+      (omega arith, omega arith)
+  within k bad p x y w low q e = absurd (clash cc)
+
+  module _ {h : code.Head} (low : at < length row) (hd : h ≡ headAt (at + 1) (read (own s (getD row at 0)) (drop (at + 1) row))) where
+    pub no-own : (d o : ℕ) (a b : List ℕ) → (d ≡ 0 → ⊥) → h ≡ None → Printed at o (decode d s (drop at row)) a b Bad
+    no-own zero o a b ne e = absurd (ne refl)
+    no-own (suc d) o a b ne e = rw (node-here d low) (branch-bad d (getD row at 0) _ o a b (sym hd ∙ e))
+
+    pub kids-stop : (d p x y w i u : ℕ) (m m₁ m₂ b : List ℕ) (r : Ends) → (d ≡ 0 → ⊥) → h ≡ Kids p x y w
+        → PrintedAll p i (decodeAll (λ s l. decode (d - 1) s l) (sorts x y) (drop p row)) m₁ m₂ r → r ≡ Bad → Printed at u (decode d s (drop at row)) m b Bad
+    kids-stop zero p x y w i u m m₁ m₂ b r ne e t c = absurd (ne refl)
+    kids-stop (suc d) p x y w i u m m₁ m₂ b r ne e t c = rw (node-here d low) (branch-stop d (getD row at 0) _ x y w p i u m m₁ m₂ b r refl (sym hd ∙ e) (rw sub-one at t) c)
+
+    pub a-form : (d p x y w i j k u q : ℕ) (m m₁ m₂ m₃ : List ℕ) (r : Ends) → (d ≡ 0 → ⊥) → h ≡ Kids p x y w
+        → Wrote u (opening (getD row at 0) (take (p - (at + 1)) (drop (at + 1) row))) m m₁ i
+        → PrintedAll p i (decodeAll (λ s l. decode (d - 1) s l) (sorts x y) (drop p row)) m₁ m₂ r → r ≡ End q j → Wrote j (93 ∷ []) m₂ m₃ k
+        → Printed at u (decode d s (drop at row)) m m₃ (End q k)
+    a-form zero p x y w i j k u q m m₁ m₂ m₃ r ne e v t c f = absurd (ne refl)
+    a-form (suc d) p x y w i j k u q m m₁ m₂ m₃ r ne e v t c f =
+        rw (node-here d low) (branch-printed d (getD row at 0) _ x y w p i j k u q m m₁ m₂ m₃ r refl (sym hd ∙ e) v (rw sub-one at t) c f)
+
+    pub kids-within : (p x y w : ℕ) → h ≡ Kids p x y w → (at < p) × (p ≤ length row)
+    kids-within p x y w e = within (getD row at 0) _ p x y w low refl (sym hd ∙ e)

@@ -1,0 +1,60 @@
+-- `spell::fits::fits_list_in` meets its contract. Assumes nothing.
+use mathlib.Core.Path.{_∙_}
+use native.Mathlib.Omega.{arith}
+use Rattle.spell.proofs.FitLaws.{list-row, list-not, list-other, list-same}
+use borrow.Author.Needs.{needs}
+use Rattle.spell.proofs.fits.fits_list_in.Statement.{statement}
+use Rattle.spell.proofs.fits.fits_list_in.Tie as tie
+use Rattle.spell.proofs.fits.fits_list_in.Reads as reads
+use Rattle.spell.proofs.fits.fits_list_in.Lts as lts
+use Rattle.spell.proofs.entries.print_list.Reads as print-list-reads
+use Rattle.spell.proofs.fits.same.Reads as same-reads
+
+returns : tie.Need-returns
+returns c = list-row _ _ _ (c .if1 .taken)
+
+print-list-requires : tie.Need-print-list-requires
+print-list-requires c κs = search needs
+
+enum-known-n : tie.Need-enum-known-n
+enum-known-n c = search needs
+
+enum-told : tie.Need-enum-told
+enum-told c = search needs
+
+same-length : tie.Need-same-length
+same-length c = search needs
+
+returns-2 : tie.Need-returns-2
+returns-2 c = list-not _ _ _ (c .before .before .before .before .before .before .before .before .before .before .pre .0) (c .before .before .before .before .before .before .if1 .left) _ _ _ (c .before .before .before .before .print-list .ensures) (c .enum-told .given .1)
+
+same-length-2 : tie.Need-same-length-2
+same-length-2 c = search needs
+
+returns-3 : tie.Need-returns-3
+returns-3 c = list-other _ _ _ (c .before .before .before .before .before .before .before .before .before .before .before .before .pre .0) (c .before .before .before .before .before .before .before .before .if1 .left) _ _ _ (c .before .before .before .before .before .before .print-list .ensures) _ (c .before .before .n .given .1) (c .if2 .taken)
+
+same-requires : tie.Need-same-requires
+same-requires c κs = let k = c .before .before .before .before .before .before .before .print-list .kept .1 .0 in let p = c .before .before .before .before .before .before .before .before .before .before .before .before .before .pre .1 in omega arith
+
+same-length-3 : tie.Need-same-length-3
+same-length-3 c = search needs
+
+returns-4 : tie.Need-returns-4
+returns-4 c = c .same .ensures ∙ list-same _ _ _ (c .before .before .before .before .before .before .before .before .before .before .before .before .before .before .pre .0) (c .before .before .before .before .before .before .before .before .before .before .if1 .left) _ _ _ (c .before .before .before .before .before .before .before .before .print-list .ensures) _ (c .before .before .before .before .n .given .1) (c .before .before .if2 .left) (c .before .before .before .before .before .before .before .before .before .before .before .before .before .before .pre .1)
+
+pub fits-list-in-spec : {M : Type 1} → statement M
+fits-list-in-spec =
+    tie.close
+    (tie.spec
+    returns
+    print-list-requires
+    enum-known-n
+    enum-told
+    same-length
+    returns-2
+    same-length-2
+    returns-3
+    same-requires
+    same-length-3
+    returns-4)

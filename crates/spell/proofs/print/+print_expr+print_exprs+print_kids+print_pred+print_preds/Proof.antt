@@ -1,0 +1,332 @@
+-- The proof of the cycle of calls {print_expr, print_exprs, print_kids, print_pred, print_preds}. The measure is three times the words that are left, and a little more for a function that calls another at the same place.
+-- Assumes nothing.
+use mathlib.Core.Path.{_≡_, refl, _∙_}
+use mathlib.Core.List.{List}
+use Prim.Native.Nat.{_+_, _-_, _*_, _≤_}
+use native.Mathlib.Nat.{le-refl, le-trans}
+use native.Mathlib.Omega.{arith}
+use borrow.Author.Needs.{needs}
+use lib.ListN.{length, drop, replicate}
+use Rattle.tree.specs.Tag.{expr, pred}
+use Rattle.form.specs.Decode.{decode, decodeAll}
+use Rattle.spell.specs.declared.print.Ends.{Ends}
+use Rattle.spell.specs.Internal.Writes.{PrintedAll}
+use Rattle.spell.proofs.WriteLaws.{wrote-end}
+use Rattle.spell.proofs.PrintLaws.{printed-within, all-within, all-more, all-stop, all-none, both-go, both-stop}
+use Rattle.spell.proofs.NodeLaws.{opening-few, too-deep, past-end, no-own, kids-stop, a-form, kids-within}
+use Prim.Native.Nat.{ℕ}
+use Prim.Native.Nat.{_<_}
+use borrow.Fn.Kinds.{In}
+use borrow.Fn.PlainCycle.{Measures, is, falls, and}
+use Rattle.spell.proofs.print.print_expr.Reads as print-expr
+use Rattle.spell.proofs.print.print_expr.Kinds as print-expr-kinds
+use Rattle.spell.proofs.print.+print_expr+print_exprs+print_kids+print_pred+print_preds.Lts-print_expr as print-expr-lts
+use Rattle.spell.proofs.print.print_exprs.Reads as print-exprs
+use Rattle.spell.proofs.print.print_exprs.Kinds as print-exprs-kinds
+use Rattle.spell.proofs.print.+print_expr+print_exprs+print_kids+print_pred+print_preds.Lts-print_exprs as print-exprs-lts
+use Rattle.spell.proofs.print.print_kids.Reads as print-kids
+use Rattle.spell.proofs.print.print_kids.Kinds as print-kids-kinds
+use Rattle.spell.proofs.print.+print_expr+print_exprs+print_kids+print_pred+print_preds.Lts-print_kids as print-kids-lts
+use Rattle.spell.proofs.print.print_pred.Reads as print-pred
+use Rattle.spell.proofs.print.print_pred.Kinds as print-pred-kinds
+use Rattle.spell.proofs.print.+print_expr+print_exprs+print_kids+print_pred+print_preds.Lts-print_pred as print-pred-lts
+use Rattle.spell.proofs.print.print_preds.Reads as print-preds
+use Rattle.spell.proofs.print.print_preds.Kinds as print-preds-kinds
+use Rattle.spell.proofs.print.+print_expr+print_exprs+print_kids+print_pred+print_preds.Lts-print_preds as print-preds-lts
+use Rattle.form.proofs.head.expr_head.Reads as expr-head-reads
+use Rattle.form.proofs.head.pred_head.Reads as pred-head-reads
+use Rattle.spell.proofs.decimal.put_byte.Reads as put-byte-reads
+use Rattle.spell.proofs.print.put_head.Reads as put-head-reads
+use Rattle.spell.proofs.print.+print_expr+print_exprs+print_kids+print_pred+print_preds.{statement}
+use Rattle.spell.proofs.print.+print_expr+print_exprs+print_kids+print_pred+print_preds.Tie.{close}
+
+abbrev μ-print-expr : Measures 2 print-expr-kinds.ps ℕ
+μ-print-expr κs a = 3 * (length (a .0 .now) - a .1 .1 .0)
+
+abbrev μ-print-exprs : Measures 2 print-exprs-kinds.ps ℕ
+μ-print-exprs κs a = 3 * (length (a .0 .now) - a .1 .1 .0) + 1
+
+abbrev μ-print-kids : Measures 2 print-kids-kinds.ps ℕ
+μ-print-kids κs a = 3 * (length (a .0 .now) - a .1 .1 .0) + 2
+
+abbrev μ-print-pred : Measures 2 print-pred-kinds.ps ℕ
+μ-print-pred κs a = 3 * (length (a .0 .now) - a .1 .1 .0)
+
+abbrev μ-print-preds : Measures 2 print-preds-kinds.ps ℕ
+μ-print-preds κs a = 3 * (length (a .0 .now) - a .1 .1 .0) + 1
+
+abbrev print-expr-at : ℕ → In 2 print-expr-kinds.ps
+print-expr-at t = and 2 print-expr-kinds.ps (is 2 print-expr-kinds.ps μ-print-expr t) print-expr.Pre
+
+abbrev print-expr-below : ℕ → In 2 print-expr-kinds.ps
+print-expr-below t = and 2 print-expr-kinds.ps (falls 2 print-expr-kinds.ps _<_ μ-print-expr t) print-expr.Pre
+
+abbrev print-exprs-at : ℕ → In 2 print-exprs-kinds.ps
+print-exprs-at t = and 2 print-exprs-kinds.ps (is 2 print-exprs-kinds.ps μ-print-exprs t) print-exprs.Pre
+
+abbrev print-exprs-below : ℕ → In 2 print-exprs-kinds.ps
+print-exprs-below t = and 2 print-exprs-kinds.ps (falls 2 print-exprs-kinds.ps _<_ μ-print-exprs t) print-exprs.Pre
+
+abbrev print-kids-at : ℕ → In 2 print-kids-kinds.ps
+print-kids-at t = and 2 print-kids-kinds.ps (is 2 print-kids-kinds.ps μ-print-kids t) print-kids.Pre
+
+abbrev print-kids-below : ℕ → In 2 print-kids-kinds.ps
+print-kids-below t = and 2 print-kids-kinds.ps (falls 2 print-kids-kinds.ps _<_ μ-print-kids t) print-kids.Pre
+
+abbrev print-pred-at : ℕ → In 2 print-pred-kinds.ps
+print-pred-at t = and 2 print-pred-kinds.ps (is 2 print-pred-kinds.ps μ-print-pred t) print-pred.Pre
+
+abbrev print-pred-below : ℕ → In 2 print-pred-kinds.ps
+print-pred-below t = and 2 print-pred-kinds.ps (falls 2 print-pred-kinds.ps _<_ μ-print-pred t) print-pred.Pre
+
+abbrev print-preds-at : ℕ → In 2 print-preds-kinds.ps
+print-preds-at t = and 2 print-preds-kinds.ps (is 2 print-preds-kinds.ps μ-print-preds t) print-preds.Pre
+
+abbrev print-preds-below : ℕ → In 2 print-preds-kinds.ps
+print-preds-below t = and 2 print-preds-kinds.ps (falls 2 print-preds-kinds.ps _<_ μ-print-preds t) print-preds.Pre
+
+abbrev print-expr-calls : ℕ → print-expr-lts.Claims
+print-expr-calls t = (expr-head-reads.Asked, expr-head-reads.Learnt, put-head-reads.Asked, put-head-reads.Learnt, print-kids-below t, print-kids.Post, put-byte-reads.Asked, put-byte-reads.Learnt)
+
+abbrev print-exprs-calls : ℕ → print-exprs-lts.Claims
+print-exprs-calls t = (put-byte-reads.Asked, put-byte-reads.Learnt, print-expr-below t, print-expr.Post)
+
+abbrev print-kids-calls : ℕ → print-kids-lts.Claims
+print-kids-calls t = (print-preds-below t, print-preds.Post, print-exprs-below t, print-exprs.Post)
+
+abbrev print-pred-calls : ℕ → print-pred-lts.Claims
+print-pred-calls t = (pred-head-reads.Asked, pred-head-reads.Learnt, put-head-reads.Asked, put-head-reads.Learnt, print-kids-below t, print-kids.Post, put-byte-reads.Asked, put-byte-reads.Learnt)
+
+abbrev print-preds-calls : ℕ → print-preds-lts.Claims
+print-preds-calls t = (put-byte-reads.Asked, put-byte-reads.Learnt, print-pred-below t, print-pred.Post)
+
+print-expr-returns : (t : ℕ) → print-expr-lts.Need-returns (print-expr-calls t) (print-expr-at t) print-expr.Post
+print-expr-returns t c = too-deep expr _ _ _ _ _ _ (c .if1 .taken)
+
+print-expr-returns-2 : (t : ℕ) → print-expr-lts.Need-returns-2 (print-expr-calls t) (print-expr-at t) print-expr.Post
+print-expr-returns-2 t c = past-end expr _ _ _ _ _ _ (c .if2 .taken)
+
+print-expr-mul-tag : (t : ℕ) → print-expr-lts.Need-mul-tag (print-expr-calls t) (print-expr-at t) print-expr.Post
+print-expr-mul-tag t c = search needs
+
+print-expr-shared-slice-read-tag : (t : ℕ) → print-expr-lts.Need-shared-slice-read-tag (print-expr-calls t) (print-expr-at t) print-expr.Post
+print-expr-shared-slice-read-tag t c = search needs
+
+print-expr-add-expr-head : (t : ℕ) → print-expr-lts.Need-add-expr-head (print-expr-calls t) (print-expr-at t) print-expr.Post
+print-expr-add-expr-head t c = search needs
+
+print-expr-expr-head-requires : (t : ℕ) → print-expr-lts.Need-expr-head-requires (print-expr-calls t) (print-expr-at t) print-expr.Post
+print-expr-expr-head-requires t c κs = search needs
+
+print-expr-enum-known-p : (t : ℕ) → print-expr-lts.Need-enum-known-p (print-expr-calls t) (print-expr-at t) print-expr.Post
+print-expr-enum-known-p t c = search needs
+
+print-expr-enum-told : (t : ℕ) → print-expr-lts.Need-enum-told (print-expr-calls t) (print-expr-at t) print-expr.Post
+print-expr-enum-told t c = search needs
+
+print-expr-returns-3 : (t : ℕ) → print-expr-lts.Need-returns-3 (print-expr-calls t) (print-expr-at t) print-expr.Post
+print-expr-returns-3 t c = no-own expr _ _ (c .before .before .before .before .if2 .left) (c .before .before .expr-head .ensures) _ _ _ _ (c .before .before .before .before .before .if1 .left) (c .enum-told .given .1)
+
+print-expr-put-head-requires : (t : ℕ) → print-expr-lts.Need-put-head-requires (print-expr-calls t) (print-expr-at t) print-expr.Post
+print-expr-put-head-requires t c κs = let (h, w) = kids-within expr (c .before .before .before .before .before .before .before .before .before .before .args .row .now) (c .before .before .before .before .before .before .before .before .before .before .args .at) (c .before .before .before .before .before .before .if2 .left) (c .before .before .before .before .expr-head .ensures) _ _ _ _ (c .before .before .p .given .1) in (h, w, omega arith)
+
+print-expr-sub-print-kids : (t : ℕ) → print-expr-lts.Need-sub-print-kids (print-expr-calls t) (print-expr-at t) print-expr.Post
+print-expr-sub-print-kids t c = search needs
+
+print-expr-print-kids-requires : (t : ℕ) → print-expr-lts.Need-print-kids-requires (print-expr-calls t) (print-expr-at t) print-expr.Post
+print-expr-print-kids-requires t c κs = let (h, w) = kids-within expr (c .before .before .before .before .before .before .before .before .before .before .before .before .before .before .args .row .now) (c .before .before .before .before .before .before .before .before .before .before .before .before .before .before .args .at) (c .before .before .before .before .before .before .before .before .before .before .if2 .left) (c .before .before .before .before .before .before .before .before .expr-head .ensures) _ _ _ _ (c .before .before .before .before .before .before .p .given .1) in let f : c .before .before .before .put-head .result ≤ c .before .before .before .before .before .before .before .before .before .before .before .before .before .before .args .o + 11 + 11 * (c .before .before .before .before .before .before .p .given .0 .0 - (c .before .before .before .before .before .before .before .before .before .before .before .before .before .before .args .at + 1)) = opening-few _ _ _ _ _ _ _ (c .before .before .before .put-head .ensures) in omega arith
+
+print-expr-enum-known-q : (t : ℕ) → print-expr-lts.Need-enum-known-q (print-expr-calls t) (print-expr-at t) print-expr.Post
+print-expr-enum-known-q t c = search needs
+
+print-expr-enum-told-2 : (t : ℕ) → print-expr-lts.Need-enum-told-2 (print-expr-calls t) (print-expr-at t) print-expr.Post
+print-expr-enum-told-2 t c = search needs
+
+print-expr-same-length : (t : ℕ) → print-expr-lts.Need-same-length (print-expr-calls t) (print-expr-at t) print-expr.Post
+print-expr-same-length t c = c .before .before .before .before .print-kids .kept .1 .0 ∙ c .before .before .before .before .before .before .before .before .put-head .kept .1 .0
+
+print-expr-returns-4 : (t : ℕ) → print-expr-lts.Need-returns-4 (print-expr-calls t) (print-expr-at t) print-expr.Post
+print-expr-returns-4 t c = kids-stop expr _ _ (c .before .before .before .before .before .before .before .before .before .before .before .before .before .before .before .if2 .left) (c .before .before .before .before .before .before .before .before .before .before .before .before .before .expr-head .ensures) _ _ _ _ _ _ _ _ _ _ _ _ (c .before .before .before .before .before .before .before .before .before .before .before .before .before .before .before .before .if1 .left) (c .before .before .before .before .before .before .before .before .before .before .before .p .given .1) (c .before .before .before .before .print-kids .ensures) (c .enum-told2 .given .1)
+
+print-expr-put-byte-requires : (t : ℕ) → print-expr-lts.Need-put-byte-requires (print-expr-calls t) (print-expr-at t) print-expr.Post
+print-expr-put-byte-requires t c κs = let (h, w) = kids-within expr (c .before .before .before .before .before .before .before .before .before .before .before .before .before .before .before .before .before .before .before .before .before .args .row .now) (c .before .before .before .before .before .before .before .before .before .before .before .before .before .before .before .before .before .before .before .before .before .args .at) (c .before .before .before .before .before .before .before .before .before .before .before .before .before .before .before .before .before .if2 .left) (c .before .before .before .before .before .before .before .before .before .before .before .before .before .before .before .expr-head .ensures) _ _ _ _ (c .before .before .before .before .before .before .before .before .before .before .before .before .before .p .given .1) in let f : c .before .before .before .before .before .before .before .before .before .before .put-head .result ≤ c .before .before .before .before .before .before .before .before .before .before .before .before .before .before .before .before .before .before .before .before .before .args .o + 11 + 11 * (c .before .before .before .before .before .before .before .before .before .before .before .before .before .p .given .0 .0 - (c .before .before .before .before .before .before .before .before .before .before .before .before .before .before .before .before .before .before .before .before .before .args .at + 1)) = opening-few _ _ _ _ _ _ _ (c .before .before .before .before .before .before .before .before .before .before .put-head .ensures) in let (g, k) = all-within _ _ _ _ _ _ _ _ _ _ (c .before .before .before .before .before .before .print-kids .ensures) (c .before .before .q .given .1) in omega arith
+
+print-expr-same-length-2 : (t : ℕ) → print-expr-lts.Need-same-length-2 (print-expr-calls t) (print-expr-at t) print-expr.Post
+print-expr-same-length-2 t c = c .before .before .put-byte .kept .0 ∙ c .before .before .before .before .before .before .before .before .before .print-kids .kept .1 .0 ∙ c .before .before .before .before .before .before .before .before .before .before .before .before .before .put-head .kept .1 .0
+
+print-expr-returns-5 : (t : ℕ) → print-expr-lts.Need-returns-5 (print-expr-calls t) (print-expr-at t) print-expr.Post
+print-expr-returns-5 t c = a-form expr _ _ (c .before .before .before .before .before .before .before .before .before .before .before .before .before .before .before .before .before .before .before .before .if2 .left) (c .before .before .before .before .before .before .before .before .before .before .before .before .before .before .before .before .before .before .expr-head .ensures) _ _ _ _ _ _ _ _ _ _ _ _ _ _ _ (c .before .before .before .before .before .before .before .before .before .before .before .before .before .before .before .before .before .before .before .before .before .if1 .left) (c .before .before .before .before .before .before .before .before .before .before .before .before .before .before .before .before .p .given .1) (c .before .before .before .before .before .before .before .before .before .before .before .before .before .put-head .ensures) (c .before .before .before .before .before .before .before .before .before .print-kids .ensures) (c .before .before .before .before .before .q .given .1) (c .before .before .put-byte .ensures)
+
+abbrev print-exprs-Inv-loop : print-exprs-lts.InvT-loop
+print-exprs-Inv-loop row out₀ at n depth o p₀ i₀ left₀ out p i left = ((b : List ℕ) (r : Ends) → PrintedAll p i (decodeAll (λ s l. decode depth s l) (replicate left expr) (drop p row)) out b r → PrintedAll at o (decodeAll (λ s l. decode depth s l) (replicate n expr) (drop at row)) out₀ b r) × (at ≤ p) × (i + 13 * (length row - p) ≤ o + 13 * (length row - at)) × (length out ≡ length out₀)
+
+abbrev print-exprs-μ-loop : print-exprs-lts.MeasureT-loop
+print-exprs-μ-loop row out₀ at n depth o p₀ i₀ left₀ out p i left = left
+
+print-exprs-loop-holds : (t : ℕ) → print-exprs-lts.Need-loop-holds (print-exprs-calls t) (print-exprs-at t) print-exprs.Post print-exprs-Inv-loop print-exprs-μ-loop
+print-exprs-loop-holds t c = (λ b r t. t, le-refl _, le-refl _, refl)
+
+print-exprs-put-byte-requires : (t : ℕ) → print-exprs-lts.Need-put-byte-requires (print-exprs-calls t) (print-exprs-at t) print-exprs.Post print-exprs-Inv-loop print-exprs-μ-loop
+print-exprs-put-byte-requires t c κs = omega arith
+
+print-exprs-print-expr-requires : (t : ℕ) → print-exprs-lts.Need-print-expr-requires (print-exprs-calls t) (print-exprs-at t) print-exprs.Post print-exprs-Inv-loop print-exprs-μ-loop
+print-exprs-print-expr-requires t c κs = let e : c .before .before .before .put-byte .result ≡ c .before .before .before .before .before .before .loop .i + 1 = wrote-end _ _ _ _ _ (c .before .before .before .put-byte .ensures) in omega arith
+
+print-exprs-enum-known-q : (t : ℕ) → print-exprs-lts.Need-enum-known-q (print-exprs-calls t) (print-exprs-at t) print-exprs.Post print-exprs-Inv-loop print-exprs-μ-loop
+print-exprs-enum-known-q t c = search needs
+
+print-exprs-enum-told : (t : ℕ) → print-exprs-lts.Need-enum-told (print-exprs-calls t) (print-exprs-at t) print-exprs.Post print-exprs-Inv-loop print-exprs-μ-loop
+print-exprs-enum-told t c = search needs
+
+print-exprs-same-length : (t : ℕ) → print-exprs-lts.Need-same-length (print-exprs-calls t) (print-exprs-at t) print-exprs.Post print-exprs-Inv-loop print-exprs-μ-loop
+print-exprs-same-length t c = c .before .before .before .before .print-expr .kept .1 .0 ∙ c .before .before .before .before .before .before .before .before .put-byte .kept .0 ∙ c .before .before .before .before .before .before .before .before .before .before .before .loop .inv .3
+
+print-exprs-returns : (t : ℕ) → print-exprs-lts.Need-returns (print-exprs-calls t) (print-exprs-at t) print-exprs.Post print-exprs-Inv-loop print-exprs-μ-loop
+print-exprs-returns t c = c .before .before .before .before .before .before .before .before .before .before .before .loop .inv .0 _ _ (all-stop _ _ expr _ _ _ _ _ _ _ _ _ (c .before .before .before .before .before .before .before .before .before .before .loop-test .taken) (c .before .before .before .before .print-expr .ensures) (c .enum-told .given .1))
+
+print-exprs-sub-left : (t : ℕ) → print-exprs-lts.Need-sub-left (print-exprs-calls t) (print-exprs-at t) print-exprs.Post print-exprs-Inv-loop print-exprs-μ-loop
+print-exprs-sub-left t c = search needs
+
+print-exprs-loop-less : (t : ℕ) → print-exprs-lts.Need-loop-less (print-exprs-calls t) (print-exprs-at t) print-exprs.Post print-exprs-Inv-loop print-exprs-μ-loop
+print-exprs-loop-less t c = search needs
+
+print-exprs-loop-again : (t : ℕ) → print-exprs-lts.Need-loop-again (print-exprs-calls t) (print-exprs-at t) print-exprs.Post print-exprs-Inv-loop print-exprs-μ-loop
+print-exprs-loop-again t c = let e : c .before .before .before .before .before .before .before .before .before .put-byte .result ≡ c .before .before .before .before .before .before .before .before .before .before .before .before .loop .i + 1 = wrote-end _ _ _ _ _ (c .before .before .before .before .before .before .before .before .before .put-byte .ensures) in let (g, k) = printed-within _ _ expr _ _ _ _ _ _ _ (c .before .before .before .before .before .print-expr .ensures) (c .before .q .given .1) in (λ b r t. c .before .before .before .before .before .before .before .before .before .before .before .before .loop .inv .0 b r (all-more _ _ expr _ _ _ _ _ _ _ _ _ _ (c .before .before .before .before .before .before .before .before .before .before .before .loop-test .taken) (c .before .before .before .before .before .before .before .before .before .put-byte .ensures) (c .before .before .before .before .before .print-expr .ensures) (c .before .q .given .1) b r t), le-trans (c .before .before .before .before .before .before .before .before .before .before .before .before .loop .inv .1) g, omega arith, c .before .before .before .before .before .print-expr .kept .1 .0 ∙ c .before .before .before .before .before .before .before .before .before .put-byte .kept .0 ∙ c .before .before .before .before .before .before .before .before .before .before .before .before .loop .inv .3)
+
+print-exprs-same-length-2 : (t : ℕ) → print-exprs-lts.Need-same-length-2 (print-exprs-calls t) (print-exprs-at t) print-exprs.Post print-exprs-Inv-loop print-exprs-μ-loop
+print-exprs-same-length-2 t c = c .before .loop .inv .3
+
+print-exprs-returns-2 : (t : ℕ) → print-exprs-lts.Need-returns-2 (print-exprs-calls t) (print-exprs-at t) print-exprs.Post print-exprs-Inv-loop print-exprs-μ-loop
+print-exprs-returns-2 t c = c .before .loop .inv .0 _ _ (all-none _ _ expr _ _ _ _ (c .loop-test .left))
+
+print-kids-print-preds-requires : (t : ℕ) → print-kids-lts.Need-print-preds-requires (print-kids-calls t) (print-kids-at t) print-kids.Post
+print-kids-print-preds-requires t c κs = omega arith
+
+print-kids-enum-known-p : (t : ℕ) → print-kids-lts.Need-enum-known-p (print-kids-calls t) (print-kids-at t) print-kids.Post
+print-kids-enum-known-p t c = search needs
+
+print-kids-enum-told : (t : ℕ) → print-kids-lts.Need-enum-told (print-kids-calls t) (print-kids-at t) print-kids.Post
+print-kids-enum-told t c = search needs
+
+print-kids-same-length : (t : ℕ) → print-kids-lts.Need-same-length (print-kids-calls t) (print-kids-at t) print-kids.Post
+print-kids-same-length t c = c .before .before .before .before .print-preds .kept .1 .0
+
+print-kids-returns : (t : ℕ) → print-kids-lts.Need-returns (print-kids-calls t) (print-kids-at t) print-kids.Post
+print-kids-returns t c = both-stop _ _ (replicate (c .before .before .before .before .before .before .before .before .args .preds) pred) (replicate (c .before .before .before .before .before .before .before .before .args .exprs) expr) _ _ _ _ _ _ (c .before .before .before .before .print-preds .ensures) (c .enum-told .given .1)
+
+print-kids-print-exprs-requires : (t : ℕ) → print-kids-lts.Need-print-exprs-requires (print-kids-calls t) (print-kids-at t) print-kids.Post
+print-kids-print-exprs-requires t c κs = let (g, k) = all-within _ _ _ _ _ _ _ _ _ _ (c .before .before .before .before .before .before .print-preds .ensures) (c .before .before .p .given .1) in omega arith
+
+print-kids-same-length-2 : (t : ℕ) → print-kids-lts.Need-same-length-2 (print-kids-calls t) (print-kids-at t) print-kids.Post
+print-kids-same-length-2 t c = c .before .before .print-exprs .kept .1 .0 ∙ c .before .before .before .before .before .before .before .before .before .print-preds .kept .1 .0
+
+print-kids-returns-2 : (t : ℕ) → print-kids-lts.Need-returns-2 (print-kids-calls t) (print-kids-at t) print-kids.Post
+print-kids-returns-2 t c = both-go _ _ (replicate (c .before .before .before .before .before .before .before .before .before .before .before .before .before .args .preds) pred) (replicate (c .before .before .before .before .before .before .before .before .before .before .before .before .before .args .exprs) expr) _ _ _ _ _ _ _ _ _ (c .before .before .before .before .before .before .before .before .before .print-preds .ensures) (c .before .before .before .before .before .p .given .1) (c .before .before .print-exprs .ensures)
+
+print-pred-returns : (t : ℕ) → print-pred-lts.Need-returns (print-pred-calls t) (print-pred-at t) print-pred.Post
+print-pred-returns t c = too-deep pred _ _ _ _ _ _ (c .if1 .taken)
+
+print-pred-returns-2 : (t : ℕ) → print-pred-lts.Need-returns-2 (print-pred-calls t) (print-pred-at t) print-pred.Post
+print-pred-returns-2 t c = past-end pred _ _ _ _ _ _ (c .if2 .taken)
+
+print-pred-mul-tag : (t : ℕ) → print-pred-lts.Need-mul-tag (print-pred-calls t) (print-pred-at t) print-pred.Post
+print-pred-mul-tag t c = search needs
+
+print-pred-shared-slice-read-tag : (t : ℕ) → print-pred-lts.Need-shared-slice-read-tag (print-pred-calls t) (print-pred-at t) print-pred.Post
+print-pred-shared-slice-read-tag t c = search needs
+
+print-pred-add-pred-head : (t : ℕ) → print-pred-lts.Need-add-pred-head (print-pred-calls t) (print-pred-at t) print-pred.Post
+print-pred-add-pred-head t c = search needs
+
+print-pred-pred-head-requires : (t : ℕ) → print-pred-lts.Need-pred-head-requires (print-pred-calls t) (print-pred-at t) print-pred.Post
+print-pred-pred-head-requires t c κs = search needs
+
+print-pred-enum-known-p : (t : ℕ) → print-pred-lts.Need-enum-known-p (print-pred-calls t) (print-pred-at t) print-pred.Post
+print-pred-enum-known-p t c = search needs
+
+print-pred-enum-told : (t : ℕ) → print-pred-lts.Need-enum-told (print-pred-calls t) (print-pred-at t) print-pred.Post
+print-pred-enum-told t c = search needs
+
+print-pred-returns-3 : (t : ℕ) → print-pred-lts.Need-returns-3 (print-pred-calls t) (print-pred-at t) print-pred.Post
+print-pred-returns-3 t c = no-own pred _ _ (c .before .before .before .before .if2 .left) (c .before .before .pred-head .ensures) _ _ _ _ (c .before .before .before .before .before .if1 .left) (c .enum-told .given .1)
+
+print-pred-put-head-requires : (t : ℕ) → print-pred-lts.Need-put-head-requires (print-pred-calls t) (print-pred-at t) print-pred.Post
+print-pred-put-head-requires t c κs = let (h, w) = kids-within pred (c .before .before .before .before .before .before .before .before .before .before .args .row .now) (c .before .before .before .before .before .before .before .before .before .before .args .at) (c .before .before .before .before .before .before .if2 .left) (c .before .before .before .before .pred-head .ensures) _ _ _ _ (c .before .before .p .given .1) in (h, w, omega arith)
+
+print-pred-sub-print-kids : (t : ℕ) → print-pred-lts.Need-sub-print-kids (print-pred-calls t) (print-pred-at t) print-pred.Post
+print-pred-sub-print-kids t c = search needs
+
+print-pred-print-kids-requires : (t : ℕ) → print-pred-lts.Need-print-kids-requires (print-pred-calls t) (print-pred-at t) print-pred.Post
+print-pred-print-kids-requires t c κs = let (h, w) = kids-within pred (c .before .before .before .before .before .before .before .before .before .before .before .before .before .before .args .row .now) (c .before .before .before .before .before .before .before .before .before .before .before .before .before .before .args .at) (c .before .before .before .before .before .before .before .before .before .before .if2 .left) (c .before .before .before .before .before .before .before .before .pred-head .ensures) _ _ _ _ (c .before .before .before .before .before .before .p .given .1) in let f : c .before .before .before .put-head .result ≤ c .before .before .before .before .before .before .before .before .before .before .before .before .before .before .args .o + 11 + 11 * (c .before .before .before .before .before .before .p .given .0 .0 - (c .before .before .before .before .before .before .before .before .before .before .before .before .before .before .args .at + 1)) = opening-few _ _ _ _ _ _ _ (c .before .before .before .put-head .ensures) in omega arith
+
+print-pred-enum-known-q : (t : ℕ) → print-pred-lts.Need-enum-known-q (print-pred-calls t) (print-pred-at t) print-pred.Post
+print-pred-enum-known-q t c = search needs
+
+print-pred-enum-told-2 : (t : ℕ) → print-pred-lts.Need-enum-told-2 (print-pred-calls t) (print-pred-at t) print-pred.Post
+print-pred-enum-told-2 t c = search needs
+
+print-pred-same-length : (t : ℕ) → print-pred-lts.Need-same-length (print-pred-calls t) (print-pred-at t) print-pred.Post
+print-pred-same-length t c = c .before .before .before .before .print-kids .kept .1 .0 ∙ c .before .before .before .before .before .before .before .before .put-head .kept .1 .0
+
+print-pred-returns-4 : (t : ℕ) → print-pred-lts.Need-returns-4 (print-pred-calls t) (print-pred-at t) print-pred.Post
+print-pred-returns-4 t c = kids-stop pred _ _ (c .before .before .before .before .before .before .before .before .before .before .before .before .before .before .before .if2 .left) (c .before .before .before .before .before .before .before .before .before .before .before .before .before .pred-head .ensures) _ _ _ _ _ _ _ _ _ _ _ _ (c .before .before .before .before .before .before .before .before .before .before .before .before .before .before .before .before .if1 .left) (c .before .before .before .before .before .before .before .before .before .before .before .p .given .1) (c .before .before .before .before .print-kids .ensures) (c .enum-told2 .given .1)
+
+print-pred-put-byte-requires : (t : ℕ) → print-pred-lts.Need-put-byte-requires (print-pred-calls t) (print-pred-at t) print-pred.Post
+print-pred-put-byte-requires t c κs = let (h, w) = kids-within pred (c .before .before .before .before .before .before .before .before .before .before .before .before .before .before .before .before .before .before .before .before .before .args .row .now) (c .before .before .before .before .before .before .before .before .before .before .before .before .before .before .before .before .before .before .before .before .before .args .at) (c .before .before .before .before .before .before .before .before .before .before .before .before .before .before .before .before .before .if2 .left) (c .before .before .before .before .before .before .before .before .before .before .before .before .before .before .before .pred-head .ensures) _ _ _ _ (c .before .before .before .before .before .before .before .before .before .before .before .before .before .p .given .1) in let f : c .before .before .before .before .before .before .before .before .before .before .put-head .result ≤ c .before .before .before .before .before .before .before .before .before .before .before .before .before .before .before .before .before .before .before .before .before .args .o + 11 + 11 * (c .before .before .before .before .before .before .before .before .before .before .before .before .before .p .given .0 .0 - (c .before .before .before .before .before .before .before .before .before .before .before .before .before .before .before .before .before .before .before .before .before .args .at + 1)) = opening-few _ _ _ _ _ _ _ (c .before .before .before .before .before .before .before .before .before .before .put-head .ensures) in let (g, k) = all-within _ _ _ _ _ _ _ _ _ _ (c .before .before .before .before .before .before .print-kids .ensures) (c .before .before .q .given .1) in omega arith
+
+print-pred-same-length-2 : (t : ℕ) → print-pred-lts.Need-same-length-2 (print-pred-calls t) (print-pred-at t) print-pred.Post
+print-pred-same-length-2 t c = c .before .before .put-byte .kept .0 ∙ c .before .before .before .before .before .before .before .before .before .print-kids .kept .1 .0 ∙ c .before .before .before .before .before .before .before .before .before .before .before .before .before .put-head .kept .1 .0
+
+print-pred-returns-5 : (t : ℕ) → print-pred-lts.Need-returns-5 (print-pred-calls t) (print-pred-at t) print-pred.Post
+print-pred-returns-5 t c = a-form pred _ _ (c .before .before .before .before .before .before .before .before .before .before .before .before .before .before .before .before .before .before .before .before .if2 .left) (c .before .before .before .before .before .before .before .before .before .before .before .before .before .before .before .before .before .before .pred-head .ensures) _ _ _ _ _ _ _ _ _ _ _ _ _ _ _ (c .before .before .before .before .before .before .before .before .before .before .before .before .before .before .before .before .before .before .before .before .before .if1 .left) (c .before .before .before .before .before .before .before .before .before .before .before .before .before .before .before .before .p .given .1) (c .before .before .before .before .before .before .before .before .before .before .before .before .before .put-head .ensures) (c .before .before .before .before .before .before .before .before .before .print-kids .ensures) (c .before .before .before .before .before .q .given .1) (c .before .before .put-byte .ensures)
+
+abbrev print-preds-Inv-loop : print-preds-lts.InvT-loop
+print-preds-Inv-loop row out₀ at n depth o p₀ i₀ left₀ out p i left = ((b : List ℕ) (r : Ends) → PrintedAll p i (decodeAll (λ s l. decode depth s l) (replicate left pred) (drop p row)) out b r → PrintedAll at o (decodeAll (λ s l. decode depth s l) (replicate n pred) (drop at row)) out₀ b r) × (at ≤ p) × (i + 13 * (length row - p) ≤ o + 13 * (length row - at)) × (length out ≡ length out₀)
+
+abbrev print-preds-μ-loop : print-preds-lts.MeasureT-loop
+print-preds-μ-loop row out₀ at n depth o p₀ i₀ left₀ out p i left = left
+
+print-preds-loop-holds : (t : ℕ) → print-preds-lts.Need-loop-holds (print-preds-calls t) (print-preds-at t) print-preds.Post print-preds-Inv-loop print-preds-μ-loop
+print-preds-loop-holds t c = (λ b r t. t, le-refl _, le-refl _, refl)
+
+print-preds-put-byte-requires : (t : ℕ) → print-preds-lts.Need-put-byte-requires (print-preds-calls t) (print-preds-at t) print-preds.Post print-preds-Inv-loop print-preds-μ-loop
+print-preds-put-byte-requires t c κs = omega arith
+
+print-preds-print-pred-requires : (t : ℕ) → print-preds-lts.Need-print-pred-requires (print-preds-calls t) (print-preds-at t) print-preds.Post print-preds-Inv-loop print-preds-μ-loop
+print-preds-print-pred-requires t c κs = let e : c .before .before .before .put-byte .result ≡ c .before .before .before .before .before .before .loop .i + 1 = wrote-end _ _ _ _ _ (c .before .before .before .put-byte .ensures) in omega arith
+
+print-preds-enum-known-q : (t : ℕ) → print-preds-lts.Need-enum-known-q (print-preds-calls t) (print-preds-at t) print-preds.Post print-preds-Inv-loop print-preds-μ-loop
+print-preds-enum-known-q t c = search needs
+
+print-preds-enum-told : (t : ℕ) → print-preds-lts.Need-enum-told (print-preds-calls t) (print-preds-at t) print-preds.Post print-preds-Inv-loop print-preds-μ-loop
+print-preds-enum-told t c = search needs
+
+print-preds-same-length : (t : ℕ) → print-preds-lts.Need-same-length (print-preds-calls t) (print-preds-at t) print-preds.Post print-preds-Inv-loop print-preds-μ-loop
+print-preds-same-length t c = c .before .before .before .before .print-pred .kept .1 .0 ∙ c .before .before .before .before .before .before .before .before .put-byte .kept .0 ∙ c .before .before .before .before .before .before .before .before .before .before .before .loop .inv .3
+
+print-preds-returns : (t : ℕ) → print-preds-lts.Need-returns (print-preds-calls t) (print-preds-at t) print-preds.Post print-preds-Inv-loop print-preds-μ-loop
+print-preds-returns t c = c .before .before .before .before .before .before .before .before .before .before .before .loop .inv .0 _ _ (all-stop _ _ pred _ _ _ _ _ _ _ _ _ (c .before .before .before .before .before .before .before .before .before .before .loop-test .taken) (c .before .before .before .before .print-pred .ensures) (c .enum-told .given .1))
+
+print-preds-sub-left : (t : ℕ) → print-preds-lts.Need-sub-left (print-preds-calls t) (print-preds-at t) print-preds.Post print-preds-Inv-loop print-preds-μ-loop
+print-preds-sub-left t c = search needs
+
+print-preds-loop-less : (t : ℕ) → print-preds-lts.Need-loop-less (print-preds-calls t) (print-preds-at t) print-preds.Post print-preds-Inv-loop print-preds-μ-loop
+print-preds-loop-less t c = search needs
+
+print-preds-loop-again : (t : ℕ) → print-preds-lts.Need-loop-again (print-preds-calls t) (print-preds-at t) print-preds.Post print-preds-Inv-loop print-preds-μ-loop
+print-preds-loop-again t c = let e : c .before .before .before .before .before .before .before .before .before .put-byte .result ≡ c .before .before .before .before .before .before .before .before .before .before .before .before .loop .i + 1 = wrote-end _ _ _ _ _ (c .before .before .before .before .before .before .before .before .before .put-byte .ensures) in let (g, k) = printed-within _ _ pred _ _ _ _ _ _ _ (c .before .before .before .before .before .print-pred .ensures) (c .before .q .given .1) in (λ b r t. c .before .before .before .before .before .before .before .before .before .before .before .before .loop .inv .0 b r (all-more _ _ pred _ _ _ _ _ _ _ _ _ _ (c .before .before .before .before .before .before .before .before .before .before .before .loop-test .taken) (c .before .before .before .before .before .before .before .before .before .put-byte .ensures) (c .before .before .before .before .before .print-pred .ensures) (c .before .q .given .1) b r t), le-trans (c .before .before .before .before .before .before .before .before .before .before .before .before .loop .inv .1) g, omega arith, c .before .before .before .before .before .print-pred .kept .1 .0 ∙ c .before .before .before .before .before .before .before .before .before .put-byte .kept .0 ∙ c .before .before .before .before .before .before .before .before .before .before .before .before .loop .inv .3)
+
+print-preds-same-length-2 : (t : ℕ) → print-preds-lts.Need-same-length-2 (print-preds-calls t) (print-preds-at t) print-preds.Post print-preds-Inv-loop print-preds-μ-loop
+print-preds-same-length-2 t c = c .before .loop .inv .3
+
+print-preds-returns-2 : (t : ℕ) → print-preds-lts.Need-returns-2 (print-preds-calls t) (print-preds-at t) print-preds.Post print-preds-Inv-loop print-preds-μ-loop
+print-preds-returns-2 t c = c .before .loop .inv .0 _ _ (all-none _ _ pred _ _ _ _ (c .loop-test .left))
+
+pub +print-expr+print-exprs+print-kids+print-pred+print-preds-spec : {M : Type 1} → statement M
++print-expr+print-exprs+print-kids+print-pred+print-preds-spec =
+    close μ-print-expr μ-print-exprs μ-print-kids μ-print-pred μ-print-preds
+    (λ t. print-expr-lts.spec (print-expr-calls t) (print-expr-at t) print-expr.Post (print-expr-returns t) (print-expr-returns-2 t) (print-expr-mul-tag t) (print-expr-shared-slice-read-tag t) (print-expr-add-expr-head t) (print-expr-expr-head-requires t) (print-expr-enum-known-p t) (print-expr-enum-told t) (print-expr-returns-3 t) (print-expr-put-head-requires t) (print-expr-sub-print-kids t) (print-expr-print-kids-requires t) (print-expr-enum-known-q t) (print-expr-enum-told-2 t) (print-expr-same-length t) (print-expr-returns-4 t) (print-expr-put-byte-requires t) (print-expr-same-length-2 t) (print-expr-returns-5 t))
+    (λ t. print-exprs-lts.spec (print-exprs-calls t) (print-exprs-at t) print-exprs.Post print-exprs-Inv-loop print-exprs-μ-loop (print-exprs-loop-holds t) (print-exprs-put-byte-requires t) (print-exprs-print-expr-requires t) (print-exprs-enum-known-q t) (print-exprs-enum-told t) (print-exprs-same-length t) (print-exprs-returns t) (print-exprs-sub-left t) (print-exprs-loop-less t) (print-exprs-loop-again t) (print-exprs-same-length-2 t) (print-exprs-returns-2 t))
+    (λ t. print-kids-lts.spec (print-kids-calls t) (print-kids-at t) print-kids.Post (print-kids-print-preds-requires t) (print-kids-enum-known-p t) (print-kids-enum-told t) (print-kids-same-length t) (print-kids-returns t) (print-kids-print-exprs-requires t) (print-kids-same-length-2 t) (print-kids-returns-2 t))
+    (λ t. print-pred-lts.spec (print-pred-calls t) (print-pred-at t) print-pred.Post (print-pred-returns t) (print-pred-returns-2 t) (print-pred-mul-tag t) (print-pred-shared-slice-read-tag t) (print-pred-add-pred-head t) (print-pred-pred-head-requires t) (print-pred-enum-known-p t) (print-pred-enum-told t) (print-pred-returns-3 t) (print-pred-put-head-requires t) (print-pred-sub-print-kids t) (print-pred-print-kids-requires t) (print-pred-enum-known-q t) (print-pred-enum-told-2 t) (print-pred-same-length t) (print-pred-returns-4 t) (print-pred-put-byte-requires t) (print-pred-same-length-2 t) (print-pred-returns-5 t))
+    (λ t. print-preds-lts.spec (print-preds-calls t) (print-preds-at t) print-preds.Post print-preds-Inv-loop print-preds-μ-loop (print-preds-loop-holds t) (print-preds-put-byte-requires t) (print-preds-print-pred-requires t) (print-preds-enum-known-q t) (print-preds-enum-told t) (print-preds-same-length t) (print-preds-returns t) (print-preds-sub-left t) (print-preds-loop-less t) (print-preds-loop-again t) (print-preds-same-length-2 t) (print-preds-returns-2 t))

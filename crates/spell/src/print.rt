@@ -1,0 +1,134 @@
+// The printers of expressions and of predicates, which call one another over the word row and write its spelling.
+use crate::decimal::put_byte;
+use crate::decimal::put_decimal;
+use crate::decimal::put_spaced;
+use form::head::Head;
+use form::head::expr_head;
+use form::head::pred_head;
+ghost use mathlib.Core.Path.{_≡_};
+ghost use mathlib.Core.List.{[], _∷_, _++_};
+ghost use Prim.Native.Nat.{_+_, _-_, _*_, _^_, _<_, _≤_};
+ghost use lib.ListN.{length, getD, take, drop, replicate};
+ghost use Rattle.tree.specs.Tag.{expr, pred, sorts};
+ghost use Rattle.form.specs.Decode.{decode, decodeAll};
+ghost use Rattle.spell.specs.Spell.{decimal, spaced};
+ghost use Rattle.spell.specs.Internal.Writes.{Wrote, Printed, PrintedAll};
+
+// Where a part ends, in the row and in the output, or that it is no such part.
+pub enum Ends {
+    End(usize, usize),
+    Bad,
+}
+
+// The bracket, the tag at `at` and the words up to `end`.
+fn put_head(row: &[u32], out: &mut [u8], at: usize, end: usize, o: usize) -> usize
+    requires { ⌜ (at < end) × (end ≤ length (now row)) × (o + 11 * (end - at) < 2 ^ 64) ⌝ }
+    ensures { λ r. ⌜ Wrote o (91 ∷ (decimal (getD (now (row .entry)) at 0) ++ spaced (take (end - (at + 1)) (drop (at + 1) (now (row .entry)))))) (now (out .entry)) (now (out .exit)) r ⌝ }
+{
+    let p = put_byte(out, o, b'[');
+    let q = put_decimal(out, p, row[at]);
+    put_spaced(row, out, at + 1, end, q)
+}
+
+// An expression at `at`, written at `o`.
+pub(crate) fn print_expr(row: &[u32], out: &mut [u8], at: usize, depth: u32, o: usize) -> Ends
+    requires { ⌜ o + 13 * (length (now row) - at) < 2 ^ 64 ⌝ }
+    ensures { λ r. ⌜ Printed at o (decode depth expr (drop at (now (row .entry)))) (now (out .entry)) (now (out .exit)) r ⌝ }
+{
+    if depth == 0 {
+        return Ends::Bad;
+    }
+    if row.len() <= at {
+        return Ends::Bad;
+    }
+    let tag = row[at];
+    let Head::Kids(p, preds, exprs, binds) = expr_head(row, at + 1, tag) else {
+        return Ends::Bad;
+    };
+    let i = put_head(row, out, at, p, o);
+    let Ends::End(q, j) = print_kids(row, out, p, preds, exprs, depth - 1, i) else {
+        return Ends::Bad;
+    };
+    Ends::End(q, put_byte(out, j, b']'))
+}
+
+// A predicate at `at`, written at `o`.
+pub(crate) fn print_pred(row: &[u32], out: &mut [u8], at: usize, depth: u32, o: usize) -> Ends
+    requires { ⌜ o + 13 * (length (now row) - at) < 2 ^ 64 ⌝ }
+    ensures { λ r. ⌜ Printed at o (decode depth pred (drop at (now (row .entry)))) (now (out .entry)) (now (out .exit)) r ⌝ }
+{
+    if depth == 0 {
+        return Ends::Bad;
+    }
+    if row.len() <= at {
+        return Ends::Bad;
+    }
+    let tag = row[at];
+    let Head::Kids(p, preds, exprs, binds) = pred_head(row, at + 1, tag) else {
+        return Ends::Bad;
+    };
+    let i = put_head(row, out, at, p, o);
+    let Ends::End(q, j) = print_kids(row, out, p, preds, exprs, depth - 1, i) else {
+        return Ends::Bad;
+    };
+    Ends::End(q, put_byte(out, j, b']'))
+}
+
+// So many predicates, then so many expressions, each after a space.
+fn print_kids(
+    row: &[u32],
+    out: &mut [u8],
+    at: usize,
+    preds: u32,
+    exprs: u32,
+    depth: u32,
+    o: usize,
+) -> Ends
+    requires { ⌜ o + 1 + 13 * (length (now row) - at) < 2 ^ 64 ⌝ }
+    ensures { λ r. ⌜ PrintedAll at o (decodeAll (λ s l. decode depth s l) (sorts preds exprs) (drop at (now (row .entry)))) (now (out .entry)) (now (out .exit)) r ⌝ }
+{
+    let Ends::End(p, i) = print_preds(row, out, at, preds, depth, o) else {
+        return Ends::Bad;
+    };
+    print_exprs(row, out, p, exprs, depth, i)
+}
+
+// n expressions, each after a space.
+fn print_exprs(row: &[u32], out: &mut [u8], at: usize, n: u32, depth: u32, o: usize) -> Ends
+    requires { ⌜ o + 1 + 13 * (length (now row) - at) < 2 ^ 64 ⌝ }
+    ensures { λ r. ⌜ PrintedAll at o (decodeAll (λ s l. decode depth s l) (replicate n expr) (drop at (now (row .entry)))) (now (out .entry)) (now (out .exit)) r ⌝ }
+{
+    let mut p = at;
+    let mut i = o;
+    let mut left = n;
+    while 0 < left {
+        let k = put_byte(out, i, b' ');
+        let Ends::End(q, j) = print_expr(row, out, p, depth, k) else {
+            return Ends::Bad;
+        };
+        p = q;
+        i = j;
+        left -= 1;
+    }
+    Ends::End(p, i)
+}
+
+// n predicates, each after a space.
+fn print_preds(row: &[u32], out: &mut [u8], at: usize, n: u32, depth: u32, o: usize) -> Ends
+    requires { ⌜ o + 1 + 13 * (length (now row) - at) < 2 ^ 64 ⌝ }
+    ensures { λ r. ⌜ PrintedAll at o (decodeAll (λ s l. decode depth s l) (replicate n pred) (drop at (now (row .entry)))) (now (out .entry)) (now (out .exit)) r ⌝ }
+{
+    let mut p = at;
+    let mut i = o;
+    let mut left = n;
+    while 0 < left {
+        let k = put_byte(out, i, b' ');
+        let Ends::End(q, j) = print_pred(row, out, p, depth, k) else {
+            return Ends::Bad;
+        };
+        p = q;
+        i = j;
+        left -= 1;
+    }
+    Ends::End(p, i)
+}
