@@ -1,21 +1,20 @@
 -- What is printed of a form reads back as the same row: the spelling of a form, read as a group, gives the form's words. Assumes nothing.
 use mathlib.Core.Path.{_≡_, refl, ap, sym, _∙_}
-use mathlib.Core.Bool.{Bool, true, false, _&&_}
+use mathlib.Core.Bool.{Bool, true, false}
 use mathlib.Core.List.{List, [], _∷_, _++_, append-assoc, append-nil}
 use Prim.Native.Nat.{ℕ, zero, suc, _+_, _-_, _*_, _/_, _%_, _^_, _≤_, _<_}
 use native.Mathlib.Nat.{zero-add, div-add-mod', mod-lt}
 use native.Mathlib.Numerals.{add-one, sub-one}
 use native.Mathlib.Omega.{arith}
-use borrow.Author.Tests.{eq-eqb, ne-eqb, le-leb, lt-leb, lt-ltb, le-ltb, ltb-true, ltb-false}
-use lib.Dec.{leb, ltb, eqb}
+use borrow.Author.Tests.{ne-eqb, le-leb, ltb-true, ltb-false}
+use lib.Dec.{ltb}
 use lib.ListN.{length, length-append}
-use Rattle.tree.specs.Form.{Leaf, free, bound, Form, leaf, node, Forms, none, more, pick, between, encode, encodeAll}
+use Rattle.tree.specs.Form.{free, bound, Form, leaf, node, Forms, none, more, pick, between, encode, encodeAll}
 use Rattle.spell.specs.Spell.{digits, decimal, spaced, bracket, spellLeaf, spell, spellAll}
-use Rattle.line.specs.Scan.{onOpen, onClose, onSpace, onDigit, turn, note, markWords, depthAfter, Scan, ended, broken, addByte, moved, scan, group}
+use Rattle.line.specs.Scan.{onDigit, turn, note, markWords, depthAfter, Scan, ended, broken, addByte, scan, group}
 use Rattle.line.specs.declared.turn.State.{State}
 use Rattle.line.specs.declared.turn.State.the-variants.{Opened, Spaced, Closed, Digits}
-use Rattle.line.specs.declared.turn.Turn.the-variants.{To, Bad}
-use Rattle.line.specs.declared.turn.Mark.the-variants.{Word, Nothing}
+use Rattle.line.specs.declared.turn.Mark.the-variants.{Nothing}
 
 -- words and bytes put before what is read later
 abbrev pub prepend : List ℕ → ℕ → Scan → Scan

@@ -1,7 +1,7 @@
 // One byte of a group: where the reader stands after it, and the word that it gives.
 ghost use mathlib.Core.Path.{_≡_};
 ghost use mathlib.Core.Bool.{true};
-ghost use Prim.Native.Nat.{_+_, _<_, _≤_, _^_};
+ghost use Prim.Native.Nat.{_+_, _<_, _^_};
 ghost use Rattle.line.specs.Scan.{onOpen, onClose, onSpace, onDigit, turn, note, markWords, depthAfter};
 ghost use Rattle.spell.specs.Internal.Writes.{Wrote};
 

@@ -1,38 +1,37 @@
 -- The body of a membership: where its parts stand in the row, and what is written of it. Assumes nothing.
 use mathlib.Core.Path.{_≡_, refl, ap, sym, _∙_}
-use mathlib.Core.Bool.{Bool, true, false, _&&_}
-use mathlib.Core.List.{List, [], _∷_, _++_, append-nil, append-assoc, map}
-use Prim.Native.Nat.{ℕ, zero, suc, _+_, _-_, _*_, _≤_, _<_}
-use native.Mathlib.Nat.{add-zero}
+use mathlib.Core.Bool.{Bool, true, false}
+use mathlib.Core.List.{List, [], _∷_, _++_, append-nil, map}
+use Prim.Native.Nat.{ℕ, zero, suc, _+_, _-_, _≤_}
 use native.Mathlib.Omega.{arith}
-use lib.Dec.{leb, ltb, eqb}
-use lib.ListN.{length, getD, take, drop, set, replicate, length-append, length-map}
+use lib.Dec.{leb, ltb}
+use lib.ListN.{length, take, drop, set, replicate, length-append, length-map}
 use lib.Seq.{drop-drop, drop-at, take-at}
-use Rattle.tree.specs.Form.{Leaf, free, bound, Form, leaf, node, Forms, none, more, pick, count, encode, encodeAll}
+use Rattle.tree.specs.Form.{free, bound, Form, leaf, node, Forms, none, more, pick, count, encode, encodeAll}
 use Rattle.tree.specs.Tag.{expr, pred, shapeOf, predTags}
-use Rattle.form.specs.Decode.{Got, got, gots, decode}
+use Rattle.form.specs.Decode.{got, gots, decode}
 use Rattle.form.specs.Lists.{Place, kept, filled}
 use Rattle.form.specs.Internal.Reads.{mark}
 use Rattle.form.specs.declared.lists.Table.{Table}
-use Rattle.form.proofs.DecodeLaws.{Ok, OkAll, ok-none, ok-more, decode-encode, decodeAll-encode, decode-sound}
+use Rattle.form.proofs.DecodeLaws.{Ok, OkAll, ok-none, ok-more, decodeAll-encode, decode-sound}
 use Rattle.subst.specs.Walk.{Binding, inside, outside, binding, Outer, named, dangling, walkIndex, walk, walkAll, up, lift, collect, each, eachAll}
 use Rattle.subst.proofs.WalkLaws.{binding-add, self, always, each-always, each-all, walk-agree}
 use Rattle.subst.proofs.TreeLaws.{walk-self, each-walk}
 use Rattle.subst.proofs.RowLaws.{zeros, marksOf, marksAll, marks-length}
 use Rattle.replace.proofs.FillTree.{ok-flat}
+use Rattle.replace.proofs.OkLaws.{ok-deep}
 use Rattle.one_point.specs.Replacement.{indexOf}
 use Rattle.one_point.specs.Split.{equal, parts}
 use Rattle.one_point.specs.Scan.{joined}
-use Rattle.one_point.specs.Partial.{noPlaces, front}
-use Rattle.one_point.specs.Member.{Offers, offers, offerAll, anyFilled, withGuard, fillOffers, memberOf}
+use Rattle.one_point.specs.Partial.{noPlaces}
+use Rattle.one_point.specs.Member.{offerAll, anyFilled, withGuard, fillOffers, memberOf}
 use Rattle.one_point.specs.Internal.Writes.{Wrote, leftWords, isGone}
 use Rattle.one_point.specs.Internal.Parts.{readAll, Beside, partsAt}
-use Rattle.one_point.specs.Internal.Member.{Shares, shares, keepPart, spotAt, shareNext, share, equalities, MarkedAt, TableIs, Shared, Sharing, SetIn, BodyTold, Membering, lifted, filledBody, shallow, Shaped, well-formed, conjunction, leftParts, unshifted}
+use Rattle.one_point.specs.Internal.Member.{Shares, shares, keepPart, spotAt, share, equalities, MarkedAt, Shared, Sharing, SetIn, BodyTold, lifted, filledBody, shallow, Shaped, well-formed, conjunction, leftParts}
 use Rattle.one_point.specs.declared.member.Comprehension.{Comprehension}
-use Rattle.one_point.proofs.ViewLaws.{ok-deep}
 use Rattle.one_point.proofs.WriteLaws.{wrote-end, wrote-on}
 use Rattle.one_point.proofs.EqualityLaws.{wrote-in, wrote-self, based}
-use Rattle.one_point.proofs.ScanLimits.{OkParts, equal-ok, counted-ok, parts-ok, parts-few}
+use Rattle.one_point.proofs.ScanLimits.{OkParts, equal-ok, counted-ok, parts-few}
 use Rattle.one_point.proofs.PartialLaws.{mark-front}
 use Rattle.one_point.proofs.MemberTree.{shiftRight, parts-lift, offersOf, share-offers, front-lift}
 
@@ -102,9 +101,6 @@ module _ {row : List ℕ} {c : Comprehension} (x : SetIn row c) where
 
   pub ok-value : Ok 62 expr (x .value)
   ok-value = ok-of (x .is-value)
-
-  pub ok-guard : Ok 62 pred (x .guard)
-  ok-guard = decode-sound 62 pred (encode (x .guard)) (x .guard) [] (x .is-guard) .1
 
   module _ (short : length row ≤ 8192) where
     read-left : readAll 1 (drop (c .value) row) ≡ gots (more (x .value) none) []

@@ -4,7 +4,7 @@ use mathlib.Core.List.{List, _∷_, _++_, append-assoc}
 use Prim.Native.Nat.{ℕ, zero, suc, _+_, _-_, _*_, _≤_, _<_}
 use native.Mathlib.Numerals.{sub-one}
 use native.Mathlib.Omega.{arith}
-use lib.ListN.{length, take, drop, replicate, length-append, length-drop}
+use lib.ListN.{length, take, drop, replicate}
 use lib.Seq.{drop-drop, drop-append-seam}
 use Rattle.tree.specs.Form.{Form, Forms, none, more, count, encode, encodeAll}
 use Rattle.tree.specs.Tag.{pred}
@@ -14,6 +14,7 @@ use Rattle.one_point.specs.Internal.Writes.{Wrote, Neats, no-more, and-m
 use Rattle.one_point.specs.Internal.Scans.{kidsAt, Kids, KidsCopied}
 use Rattle.one_point.proofs.SidesLaws.{part-words}
 use Rattle.one_point.proofs.ScanLaws.{pred-neat}
+use Rattle.one_point.proofs.PartsLaws.{first-length}
 
 -- the first child
 pub record KidIs (row : List ℕ) (d q n w words : ℕ) : Type 0 where
@@ -22,10 +23,6 @@ pub record KidIs (row : List ℕ) (d q n w words : ℕ) : Type 0 where
   pub split : kidsAt row d q n ≡ more form (kidsAt row d (q + length (encode form)) (n - 1))
   pub room : w + 2 * length (encode form) ≤ words
   pub next : (w′ : ℕ) → w′ ≤ w + 2 * length (encode form) → Kids row d (q + length (encode form)) (n - 1) w′ words
-
-first-length : (f : Form) (fs : Forms) → length (encodeAll (more f fs)) ≡ length (encode f) + length (encodeAll fs)
-unfolding encode
-first-length f fs = length-append (encode f) (encodeAll fs)
 
 pub kid-length : {row : List ℕ} {d q n w words : ℕ} (x : KidIs row d q n w words) → length (encodeAll (kidsAt row d q n)) ≡ length (encode (x .form)) + length (encodeAll (kidsAt row d (q + length (encode (x .form))) (n - 1)))
 kid-length {row} {d} {q} {n} x = ap (λ z. length (encodeAll z)) (x .split) ∙ first-length (x .form) (kidsAt row d (q + length (encode (x .form))) (n - 1))
@@ -80,13 +77,6 @@ module _ (row : List ℕ) (d : ℕ) where
       let l : to ≡ q + length (encodeAll (b .forms)) = rw f at e in
       let c : take (to - q) (drop q row) ≡ encodeAll (b .forms) = part-words row (encodeAll (b .forms)) (b .after) q to v l in
       rw f (rw c at t, ap (λ z. k + z) (sym (counted n o)), neats n o)
-
-  pub kids-in : (q n w words : ℕ) (b : Kids row d q n w words) → q ≤ length row → q + length (encodeAll (kidsAt row d q n)) ≤ length row
-  kids-in q n w words b h =
-      let (v, o) = all-sound d (replicate n pred) (drop q row) (b .forms) (b .after) (b .is) in
-      let f = ap (λ z. length (encodeAll z)) (kids-are q n w words b) in
-      let l = ap length v ∙ length-append (encodeAll (b .forms)) (b .after) in
-      omega (arith, length-drop q row)
 
 pub words-zero : length (encodeAll none) ≡ 0
 unfolding encode

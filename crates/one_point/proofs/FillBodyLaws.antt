@@ -1,14 +1,14 @@
 -- Declarations round a body with the places of a table filled: the words are the definition's. Assumes nothing.
 use mathlib.Core.Path.{_≡_, refl, ap, sym, _∙_}
-use mathlib.Core.Bool.{Bool, true, false, not, _||_}
+use mathlib.Core.Bool.{Bool, true, false}
 use mathlib.Core.List.{List, [], _∷_, _++_, append-nil, map}
-use Prim.Native.Nat.{ℕ, zero, suc, _+_, _-_, _*_, _≤_, _<_}
+use Prim.Native.Nat.{ℕ, suc, _+_, _-_, _≤_, _<_}
 use native.Mathlib.Nat.{zero-add}
 use native.Mathlib.Omega.{arith}
 use borrow.Author.Tests.{lt-ltb, le-ltb, eq-eqb, ne-eqb, eqb-true, eqb-false}
 use lib.Dec.{leb, ltb, eqb}
 use lib.ListN.{length, getD, take, drop, replicate, length-drop, take-append-drop}
-use Rattle.tree.specs.Form.{Form, node, Forms, pick, encode}
+use Rattle.tree.specs.Form.{Form, encode}
 use Rattle.tree.specs.Tag.{expr, pred}
 use Rattle.form.specs.Decode.{got, decode}
 use Rattle.form.specs.Lists.{Place, kept, filled}
@@ -21,20 +21,19 @@ use Rattle.subst.specs.Internal.Items.{items, rewritten}
 use Rattle.subst.proofs.LimitLaws.{ok-small}
 use Rattle.subst.proofs.RowLaws.{itemsOf, marksOf, items-encode, marked-items}
 use Rattle.replace.specs.Fill.{quantify, keptNames, fillFor, fill}
-use Rattle.replace.specs.Internal.Pieces.{planned, keptWords, headWords, emitted, replaced, InRow, Ready, downPlan, placedRow}
+use Rattle.replace.specs.Internal.Pieces.{planned, keptWords, headWords, replaced, InRow, Ready, downPlan, placedRow}
 use Rattle.replace.proofs.EntryLaws.{PlaceAt}
 use Rattle.replace.proofs.BuildLaws.{emit-form}
-use Rattle.replace.proofs.FillTree.{wordFor, lowPlace, low-same, small-moves, ok-flat, fill-tree-flat}
-use Rattle.replace.proofs.NameLaws.{kept-names, encode-quantify, kept-short}
+use Rattle.replace.proofs.FillTree.{wordFor, low-same, small-moves, ok-flat, fill-tree-flat}
+use Rattle.replace.proofs.NameLaws.{kept-names, encode-quantify}
 use Rattle.replace.proofs.QuantLaws.{Quant, quant-items-in}
 use Rattle.replace.proofs.ReadyLaws.{ready-is}
+use Rattle.replace.proofs.OkLaws.{ok-deep}
 use Rattle.one_point.specs.Partial.{front, putRound, instantiatePartial}
 use Rattle.one_point.specs.Member.{anyFilled}
 use Rattle.one_point.specs.Internal.Rest.{innerEnd, innerNames}
-use Rattle.one_point.specs.Internal.Reduce.{Inner, innerStart}
-use Rattle.one_point.specs.Internal.Member.{PlacedAt, PlaceIs, TableIs, lifted, filledBody, shallow, Shaped, well-formed, conjunction, Filling, zerosBefore, innerFrom, keptRow}
-use Rattle.one_point.proofs.ViewLaws.{ok-deep}
-use Rattle.one_point.proofs.PartsLaws.{some-words}
+use Rattle.one_point.specs.Internal.Reduce.{Inner}
+use Rattle.one_point.specs.Internal.Member.{PlaceIs, TableIs, lifted, filledBody, shallow, Shaped, well-formed, conjunction, Filling, zerosBefore, keptRow}
 use Rattle.one_point.proofs.PartialLaws.{mark-front, Heads, ok-heads, node-heads, round-words}
 use Rattle.one_point.proofs.RestLaws.{inner-words}
 use Rattle.one_point.proofs.PlaceLaws.{inner-of}

@@ -1,9 +1,8 @@
 -- The names that are kept round a body, by the words of the table. Assumes nothing.
-use mathlib.Core.Path.{_≡_, refl, ap, sym, _∙_}
+use mathlib.Core.Path.{_≡_, refl, ap, _∙_}
 use mathlib.Core.Bool.{Bool, true, false, not}
-use mathlib.Core.List.{List, [], _∷_, _++_, append-nil, append-assoc}
+use mathlib.Core.List.{List, [], _∷_, _++_, append-assoc}
 use Prim.Native.Nat.{ℕ, zero, suc, _+_, _-_, _≤_, _<_}
-use native.Mathlib.Nat.{add-zero}
 use native.Mathlib.Numerals.{add-one}
 use native.Mathlib.Omega.{arith}
 use borrow.Author.Tests.{eq-eqb, ne-eqb}
@@ -15,7 +14,6 @@ use Rattle.form.proofs.HeadLaws.{here, gone}
 use Rattle.form.specs.declared.lists.Table.{Table}
 use Rattle.replace.specs.Internal.Pieces.{keptWords, headWords, placedRow}
 use Rattle.replace.proofs.BuildLaws.{rest-part}
-use Rattle.replace.proofs.NameLaws.{kept-yes, kept-no}
 use Rattle.one_point.specs.Internal.Rest.{innerEnd}
 use Rattle.one_point.specs.Internal.Reduce.{Inner, innerStart}
 use Rattle.one_point.specs.Internal.Member.{zerosBefore, innerFrom, keptRow}

@@ -1,17 +1,14 @@
 -- Membership: the body before and after the shift, the places filled in it, and the whole call. Assumes nothing.
 use mathlib.Core.Path.{_≡_, refl, ap, sym, _∙_}
-use mathlib.Core.Bool.{Bool, true, false}
 use mathlib.Core.List.{List, [], _∷_, _++_, append-nil, append-assoc}
-use mathlib.Core.Option.{Option, none as absent, some}
 use Prim.Native.Nat.{ℕ, _+_, _-_, _≤_, _<_}
 use native.Mathlib.Omega.{arith}
 use borrow.Author.Tests.{le-leb, lt-leb}
 use lib.ListN.{length, take, drop, replicate, length-take, length-replicate}
 use lib.Seq.{drop-at, drop-drop}
-use Rattle.tree.specs.Form.{Form, node, Forms, none, more, encode}
+use Rattle.tree.specs.Form.{Form, node, none, more, encode}
 use Rattle.tree.specs.Tag.{Sort, expr, pred}
-use Rattle.form.specs.Decode.{Found, found, got, decode, formOf}
-use Rattle.form.specs.Lists.{Place}
+use Rattle.form.specs.Decode.{got, decode, formOf}
 use Rattle.form.specs.Answer.{Outcome, refusal, told, finish, checkOutcome}
 use Rattle.form.specs.Internal.Reads.{mark, Marked}
 use Rattle.form.specs.declared.answer.Kind.the-variants.{Predicate}
@@ -20,25 +17,25 @@ use Rattle.form.specs.declared.answer.Answer.the-variants.{No}
 use Rattle.form.specs.declared.lists.Table.{Table}
 use Rattle.form.proofs.DecodeLaws.{Ok, decode-encode, decode-sound}
 use Rattle.subst.proofs.CheckedLaws.{is-missing, too-long, no-form-there, form-there}
-use Rattle.subst.proofs.RowLaws.{marksOf, marks-length}
+use Rattle.subst.proofs.RowLaws.{marksOf}
 use Rattle.replace.proofs.MarkLaws.{only-mark}
+use Rattle.replace.proofs.OkLaws.{ok-deep}
 use Rattle.one_point.specs.Split.{parts}
 use Rattle.one_point.specs.Partial.{noPlaces}
 use Rattle.one_point.specs.Point.{ofResult}
 use Rattle.one_point.specs.Member.{withGuard, memberOf, membership, memberOutcome}
 use Rattle.one_point.specs.Internal.Writes.{Wrote}
 use Rattle.one_point.specs.Internal.Reduce.{Cleared}
-use Rattle.one_point.specs.Internal.Member.{Shares, shares, share, equalities, formMarks, MarksAre, MarkedAt, TableIs, SetIn, SetTold, BodyTold, Membering, filledBody, Filling, leftParts, unshifted, Unshifted}
+use Rattle.one_point.specs.Internal.Member.{Shares, shares, share, equalities, formMarks, MarksAre, MarkedAt, SetIn, SetTold, BodyTold, Membering, filledBody, Filling, leftParts, unshifted, Unshifted}
 use Rattle.one_point.specs.declared.member.Comprehension.{Comprehension}
 use Rattle.one_point.specs.declared.member.Membership.{Membership}
 use Rattle.one_point.specs.declared.member.Membership.the-variants.{In, Not}
-use Rattle.one_point.proofs.ViewLaws.{ok-deep}
 use Rattle.one_point.proofs.EqualityLaws.{wrote-in}
 use Rattle.one_point.proofs.ScanLimits.{OkParts, parts-ok}
 use Rattle.one_point.proofs.PartialLaws.{mark-front}
 use Rattle.one_point.proofs.PartsLaws.{same-forms, marks-long}
 use Rattle.one_point.proofs.PlacesLaws.{PredRow}
-use Rattle.one_point.proofs.BodyLaws.{behind, read-right, names-part, ok-element, ok-value, ok-guard, set-count, left-ok, guard-ok, guard-shape, guard-flat, marks-same, guard-length, member-shares}
+use Rattle.one_point.proofs.BodyLaws.{read-right, names-part, ok-element, ok-value, set-count, left-ok, guard-ok, guard-shape, guard-flat, marks-same, guard-length, member-shares}
 
 -- the body as it was written
 module _ (row lm : List ℕ) (n u : ℕ) (g : Form) (out : List ℕ) (t : Table) (end : ℕ) (o : List ℕ) where

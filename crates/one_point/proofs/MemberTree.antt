@@ -1,38 +1,33 @@
 -- Membership on trees: the parts of a shifted element, the places that they fill, and the declarations before the outermost filled place.
 -- Assumes nothing.
 use mathlib.Core.Path.{_≡_, refl, ap, sym, _∙_}
-use mathlib.Core.Bool.{Bool, true, false, _&&_}
-use mathlib.Core.List.{List, [], _∷_, _++_, append-nil, append-assoc, map, reverse, reverse-append, reverse-cons}
+use mathlib.Core.Bool.{Bool, true, false, _&&_, and-false}
+use mathlib.Core.List.{List, [], _∷_, _++_, map, map-append, reverse, reverse-append, reverse-cons}
 use mathlib.Core.Option.{Option, none as absent, some}
 use Prim.Native.Nat.{ℕ, zero, suc, _+_, _-_, _≤_, _<_}
-use native.Mathlib.Nat.{zero-add, add-zero, suc-add}
+use native.Mathlib.Nat.{zero-add}
 use native.Mathlib.Omega.{arith}
 use borrow.Author.Tests.{ltb-true, ltb-false, lt-ltb, le-ltb, le-leb}
-use lib.Dec.{leb, ltb, eqb}
-use lib.ListN.{length, getD, take, drop, set, replicate, length-set, length-map, List·getD-map}
-use Rattle.tree.specs.Form.{Leaf, free, bound, Form, leaf, node, Forms, none, more, pick, encode}
+use lib.Dec.{ltb, eqb}
+use lib.ListN.{length, getD, take, drop, set, replicate, List·getD-map}
+use Rattle.tree.specs.Form.{free, bound, Form, leaf, node, Forms, none, more, pick}
 use Rattle.form.specs.Lists.{Place, kept, filled}
-use Rattle.form.proofs.DecodeLaws.{clash}
 use Rattle.subst.specs.Walk.{Outer, named, dangling, walk, walkAll, up, lift, put, subst, collect, each}
 use Rattle.subst.specs.Shift.{reaches, fall, lower}
 use Rattle.subst.proofs.WalkLaws.{binding-add, fuse-level, shift-shift, self, always, each-always, each-all, walk-agree}
 use Rattle.subst.proofs.TreeLaws.{walk-self, each-walk}
-use Rattle.replace.specs.Fill.{quantify, keptCount, keptNames, fillIndex, fillFor, fill}
+use Rattle.replace.specs.Fill.{keptCount, keptNames, fillIndex, fillFor}
+use Rattle.replace.proofs.FillTree.{kept-reverse}
 use Rattle.one_point.specs.Replacement.{Taken, taken, nothing, indexOf, above, accept}
-use Rattle.one_point.specs.Split.{isTwo, isNil, isPair, parts, partsAll, equal}
-use Rattle.one_point.specs.Partial.{front, lowerPlace, putRound, instantiatePartial}
+use Rattle.one_point.specs.Split.{isTwo, isPair, parts, partsAll, equal}
+use Rattle.one_point.specs.Partial.{front, lowerPlace}
 use Rattle.one_point.specs.Member.{Offers, offers, isFree, leave, freeAt, offerNext, offerAll}
 use Rattle.one_point.specs.Internal.Member.{Shares, shares, keepPart, spotAt, shareNext, share, equalities, lifted}
 use Rattle.one_point.proofs.PlacesLaws.{place-from}
-use Rattle.one_point.proofs.PartsLaws.{and-false}
 
 -- the parts of a value and a shifted element
 abbrev pub shiftRight : ℕ → Form × Form → Form × Form
 shiftRight n p = (p .0, lift n (p .1))
-
-map-append : (n : ℕ) (a b : List (Form × Form)) → map (shiftRight n) (a ++ b) ≡ map (shiftRight n) a ++ map (shiftRight n) b
-map-append n [] b = refl
-map-append n (p ∷ a) b = ap (λ z. shiftRight n p ∷ z) (map-append n a b)
 
 two-walk : (act : ℕ → Outer → Form) (k : ℕ) (js : Forms) → isTwo (walkAll act k js) ≡ isTwo js
 unfolding walk
@@ -58,7 +53,7 @@ mutual
   partsAll-lift : (n : ℕ) (ks js : Forms) → partsAll ks (walkAll (up n) 0 js) ≡ map (shiftRight n) (partsAll ks js)
   partsAll-lift n none js = refl
   partsAll-lift n (more f fs) none = refl
-  partsAll-lift n (more f fs) (more g gs) = rw (parts-lift n f g, partsAll-lift n fs gs) (sym (map-append n (parts f g) (partsAll fs gs)))
+  partsAll-lift n (more f fs) (more g gs) = rw (parts-lift n f g, partsAll-lift n fs gs) (sym (map-append (shiftRight n) (parts f g) (partsAll fs gs)))
 
 -- no index of a shifted form is below the shift, so that only the value's side can be a target
 up-reaches : (i n : ℕ) → i < n → (k : ℕ) (x : Outer) → each (reaches (suc i)) k (up n k x) ≡ true
@@ -77,13 +72,6 @@ module _ (n i : ℕ) (r : Form) where
   allowed-lift : (b : Bool) → ltb i n ≡ b → pick b (pick (above i (lift n r)) (taken i (lift n r)) nothing) nothing ≡ pick b (taken i (lift n r)) nothing
   allowed-lift true h = rw (above-lift i n r (ltb-true i n h))
   allowed-lift false h = refl
-
-both-lift : (n i j : ℕ) (l r : Form) → (b c : Bool) → ltb i n ≡ b → ltb i (0 + (j + n)) ≡ c
-    → pick c (pick b (pick (above i (lift n r)) (taken i (lift n r)) nothing) nothing) nothing ≡ pick b (taken i (lift n r)) nothing
-both-lift n i j l r true true h k = allowed-lift n i r true h
-both-lift n i j l r true false h k = let a = ltb-true i n h in let b = ltb-false i (0 + (j + n)) k in absurd (omega arith)
-both-lift n i j l r false true h k = refl
-both-lift n i j l r false false h k = refl
 
 high : (n j : ℕ) → ltb (0 + (j + n)) n ≡ false
 high n j = le-ltb (0 + (j + n)) n (omega arith)
@@ -196,23 +184,9 @@ kept-count-lift j [] = refl
 kept-count-lift j (kept ∷ qs) = ap suc (kept-count-lift j qs)
 kept-count-lift j (filled e ∷ qs) = kept-count-lift j qs
 
-kept-append : (a b : List Place) → keptCount (a ++ b) ≡ keptCount a + keptCount b
-kept-append [] b = omega arith
-kept-append (kept ∷ a) b = let h = kept-append a b in omega arith
-kept-append (filled x ∷ a) b = kept-append a b
-
-kept-reverse : (qs : List Place) → keptCount (reverse qs) ≡ keptCount qs
-kept-reverse [] = refl
-kept-reverse (kept ∷ qs) = rw (reverse-cons kept qs, kept-append (reverse qs) (kept ∷ [])) (let h = kept-reverse qs in omega arith)
-kept-reverse (filled x ∷ qs) = rw (reverse-cons (filled x) qs, kept-append (reverse qs) (filled x ∷ [])) (let h = kept-reverse qs in omega arith)
-
-lift-append : (j : ℕ) (a b : List Place) → map (lifted j) (a ++ b) ≡ map (lifted j) a ++ map (lifted j) b
-lift-append j [] b = refl
-lift-append j (p ∷ a) b = ap (λ z. lifted j p ∷ z) (lift-append j a b)
-
 lift-reverse : (j : ℕ) (qs : List Place) → map (lifted j) (reverse qs) ≡ reverse (map (lifted j) qs)
 lift-reverse j [] = refl
-lift-reverse j (p ∷ qs) = rw (reverse-cons p qs, lift-append j (reverse qs) (p ∷ []), lift-reverse j qs, reverse-cons (lifted j p) (map (lifted j) qs))
+lift-reverse j (p ∷ qs) = rw (reverse-cons p qs, map-append (lifted j) (reverse qs) (p ∷ []), lift-reverse j qs, reverse-cons (lifted j p) (map (lifted j) qs))
 
 kept-snoc : (j : ℕ) → replicate j kept ++ (kept ∷ []) ≡ kept ∷ replicate j kept
 kept-snoc zero = refl

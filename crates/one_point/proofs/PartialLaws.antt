@@ -28,10 +28,10 @@ use Rattle.replace.proofs.BuildLaws.{emit-form}
 use Rattle.replace.proofs.FillTree.{wordFor, lowPlace, low-words, Above, fill-tree-lower}
 use Rattle.replace.proofs.NameLaws.{kept-names, encode-quantify}
 use Rattle.replace.proofs.QuantLaws.{Quant, quant-by-tag, quant-tag, quant-names, quant-items-in}
+use Rattle.replace.proofs.OkLaws.{ok-deep}
 use Rattle.one_point.specs.Replacement.{above}
 use Rattle.one_point.specs.Partial.{noPlaces, setPlace, front, lowerPlace, joinWith, putRound, instantiatePartial}
 use Rattle.one_point.specs.Internal.Rest.{restPlan, restKept, joins, innerEnd, innerNames, partialWords, partialRow}
-use Rattle.one_point.proofs.ViewLaws.{ok-deep}
 use Rattle.one_point.proofs.SidesLaws.{part-words}
 
 -- the marks that a reader makes in a row of zeros, under u declarations
@@ -157,9 +157,6 @@ module _ (t : ℕ) (which : (eqb t 851 || eqb t 852) ≡ true) (rest : List ℕ)
   pub partial-words : (ns : List ℕ) → partialWords t ns rest tb list lm (encode g) marks ≡ encode (putRound t ns (fill t rest (map (lowerPlace (length rest)) ps) g))
   unfolding partialWords fill
   partial-words ns = rw stays (round-words t which lowered g (ok-heads t which (omega arith) ok) restFrom whole-body inner-body ns (keptNames lowered rest))
-
-  pub partial-row : (ns : List ℕ) (room : ℕ) → partialRow t ns rest tb list lm (encode g) marks room ≡ finish pred room (putRound t ns (fill t rest (map (lowerPlace (length rest)) ps) g))
-  partial-row ns room = rw (partial-words ns) (emit-form pred room _)
 
 -- one place filled, j before it and i after it
 front-filled : (j : ℕ) (e : Form) (ps : List Place) → front (replicate j kept ++ (filled e ∷ ps)) ≡ j

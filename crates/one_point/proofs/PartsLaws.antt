@@ -8,7 +8,7 @@ use native.Mathlib.Numerals.{sub-one}
 use native.Mathlib.Omega.{arith}
 use borrow.Author.Tests.{eqb-true}
 use lib.Dec.{eqb}
-use lib.ListN.{length, getD, drop, replicate, length-append, length-drop}
+use lib.ListN.{length, getD, drop, replicate, length-append, length-drop, length-replicate}
 use lib.Seq.{drop-drop, drop-append-seam, drop-at, getD-drop}
 use Rattle.tree.specs.Form.{free, bound, Form, leaf, node, Forms, none, more, encode, encodeAll}
 use Rattle.tree.specs.Tag.{Sort, expr, shapeOf, exprTags}
@@ -16,10 +16,11 @@ use Rattle.form.specs.Decode.{got, Gots, gots, decode}
 use Rattle.form.proofs.DecodeLaws.{clash, Ok, ok-free, ok-bound, ok-node, OkAll, ok-none, ok-more, decode-encode, decodeAll-encode, all-sound}
 use Rattle.subst.proofs.RowLaws.{marksOf, marks-length}
 use Rattle.replace.proofs.MarkLaws.{only-mark}
+use Rattle.replace.proofs.OkLaws.{ok-deep}
 use Rattle.one_point.specs.Split.{isTwo, isNil, parts, partsAll}
 use Rattle.one_point.specs.Internal.Parts.{readAll, Beside, partsOf, partsAt, bothPairs}
 use Rattle.one_point.specs.Internal.Member.{formMarks, MarksAre, MarkedAt}
-use Rattle.one_point.proofs.ViewLaws.{ok-deep, plain-node, two-more}
+use Rattle.one_point.proofs.ViewLaws.{plain-node, two-more}
 
 -- the first word of a form
 abbrev pub tagOf : Form → ℕ
@@ -186,7 +187,7 @@ pub record PartIs (row : List ℕ) (p q n w k words : ℕ) : Type 0 where
   pub split : partsAt row p q n ≡ (l, r) ∷ partsAt row (p + length (encode l)) (q + length (encode r)) (n - 1)
   pub next : (w′ k′ : ℕ) → w′ ≤ w + 1 + (length (encode l) + length (encode r)) → k′ ≤ k + 1 → Beside row (p + length (encode l)) (q + length (encode r)) (n - 1) w′ k′ words
 
-first-length : (f : Form) (fs : Forms) → length (encodeAll (more f fs)) ≡ length (encode f) + length (encodeAll fs)
+pub first-length : (f : Form) (fs : Forms) → length (encodeAll (more f fs)) ≡ length (encode f) + length (encodeAll fs)
 unfolding encode
 first-length f fs = length-append (encode f) (encodeAll fs)
 
@@ -247,14 +248,10 @@ unfolding encode
 counted ok-none = omega arith
 counted (ok-more {f = f} {fs = fs} h k) = let a = counted k in let s = some-words f in rw length-append (omega arith)
 
-replicate-length : (n : ℕ) → length (replicate n expr) ≡ n
-replicate-length zero = refl
-replicate-length (suc n) = ap suc (replicate-length n)
-
 expressions-in : (row : List ℕ) (p n : ℕ) (fs : Forms) (x : List ℕ) → readAll n (drop p row) ≡ gots fs x → 0 < n → (n ≤ length (encodeAll fs)) × (p + length (encodeAll fs) ≤ length row)
 expressions-in row p n fs x e h =
     let (w, k) = all-sound 64 (replicate n expr) (drop p row) fs x e in
-    let c : n ≤ length (encodeAll fs) = rw replicate-length at (counted k) in
+    let c : n ≤ length (encodeAll fs) = rw length-replicate at (counted k) in
     (c, in-row row (encodeAll fs) x p w (omega arith))
 
 pub beside-in : {row : List ℕ} {p q n w k words : ℕ} (b : Beside row p q n w k words) → 0 < n → (p + n ≤ length row) × (q + n ≤ length row)
@@ -263,15 +260,11 @@ beside-in {row} {p} {q} {n} b h =
     let (d, e) = expressions-in row q n (b .rights) (b .right-rest) (b .is-right) h in
     (omega arith, omega arith)
 
-pub and-false : (b : Bool) → (b && false) ≡ false
-and-false true = refl
-and-false false = refl
-
 -- the marks of the expressions at q
 pub same-forms : {fs gs : Forms} {x y : List ℕ} → gots fs x ≡ gots gs y → fs ≡ gs
 same-forms e = cc
 
-same-form : {f g : Form} {x y : List ℕ} → got f x ≡ got g y → f ≡ g
+pub same-form : {f g : Form} {x y : List ℕ} → got f x ≡ got g y → f ≡ g
 same-form e = cc
 
 pair-marks : (a b : Form) → formMarks (node 201 [] [] (more a (more b none))) ≡ 0 ∷ (formMarks a ++ formMarks b)

@@ -20,10 +20,10 @@ use Rattle.subst.specs.Internal.Items.{items}
 use Rattle.subst.proofs.RowLaws.{itemsOf, marksOf}
 use Rattle.replace.specs.Internal.Pieces.{part as part-of, declaredIn}
 use Rattle.replace.proofs.QuantLaws.{Quant, quant-by-tag, quant-long}
+use Rattle.replace.proofs.OkLaws.{ok-deep}
 use Rattle.one_point.specs.Internal.Rest.{partialRow}
 use Rattle.one_point.specs.Internal.Reduce.{isQuantifier, quantifierIn, Inner, oneTable, Resting, placedForm, placedOutcome, Placing, Cleared, Marking}
 use Rattle.one_point.specs.declared.one_point_inference.Quantifier.the-variants.{Of, None}
-use Rattle.one_point.proofs.ViewLaws.{ok-deep}
 use Rattle.one_point.proofs.PartsLaws.{some-words}
 use Rattle.one_point.proofs.PlacesLaws.{place-from}
 use Rattle.one_point.proofs.PartialLaws.{mark-front, first-filled, part-items, point-row}

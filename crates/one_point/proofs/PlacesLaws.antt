@@ -17,6 +17,7 @@ use Rattle.form.specs.declared.answer.Answer.{Answer}
 use Rattle.form.specs.declared.answer.Answer.the-variants.{Done, No}
 use Rattle.form.proofs.DecodeLaws.{clash, Ok, decode-encode}
 use Rattle.subst.proofs.CheckedLaws.{row-one, is-missing}
+use Rattle.replace.proofs.OkLaws.{ok-deep}
 use Rattle.one_point.specs.Replacement.{left, right, Offer, offer, no-offer, offered}
 use Rattle.one_point.specs.Split.{equal}
 use Rattle.one_point.specs.Places.{says, offerForm, offerAnswer}
@@ -25,7 +26,7 @@ use Rattle.one_point.specs.declared.sides.Sides.{Sides}
 use Rattle.one_point.specs.declared.sides.Equality.the-variants.{Of, None}
 use Rattle.one_point.specs.declared.sides.Replacement.the-variants.{Is, Not}
 use Rattle.one_point.specs.declared.replacements.Replacements.{Replacements}
-use Rattle.one_point.proofs.ViewLaws.{ok-deep, Equal, equal-node, pred-node}
+use Rattle.one_point.proofs.ViewLaws.{Equal, equal-node, pred-node}
 use Rattle.one_point.proofs.SidesLaws.{placed, rule-words, above-words, part-words}
 
 -- what is no equality offers nothing

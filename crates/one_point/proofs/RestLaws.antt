@@ -17,8 +17,9 @@ use Rattle.replace.proofs.BuildLaws.{rest-part}
 use Rattle.replace.proofs.NameLaws.{head-none}
 use Rattle.replace.proofs.ReadyLaws.{ready-is}
 use Rattle.one_point.specs.Internal.Writes.{Wrote}
-use Rattle.one_point.specs.Internal.Rest.{restKept, isEmpty, joins, innerEnd, innerNames, partialWords, partialRow}
+use Rattle.one_point.specs.Internal.Rest.{restKept, joins, innerEnd, innerNames, partialWords, partialRow}
 use Rattle.one_point.specs.Internal.Reduce.{Inner, innerStart, oneTable}
+use Rattle.one_point.specs.Split.{isNil}
 use Rattle.one_point.proofs.WriteLaws.{headed, wrote-end, wrote-on}
 use Rattle.one_point.proofs.EqualityLaws.{wrote-self}
 use Rattle.one_point.proofs.PartialLaws.{first-filled}
@@ -75,7 +76,7 @@ module _ (t : ℕ) (row : List ℕ) where
         go true q =
             let e : from ≡ 2 + getD row 1 0 = is ∙ rw q in
             let s : innerStart from ≡ 2 = rw e (at-two (getD row 1 0)) in
-            let r = and-right (not (isEmpty front)) (eqb (getD row 0 0) t) (and-right (isEmpty stay) (not (isEmpty front) && eqb (getD row 0 0) t) q) in
+            let r = and-right (not (isNil front)) (eqb (getD row 0 0) t) (and-right (isNil stay) (not (isNil front) && eqb (getD row 0 0) t) q) in
             let same = eqb-true (getD row 0 0) t r in
             let l = i .long same in
             let f = i .few same in

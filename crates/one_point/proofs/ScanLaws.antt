@@ -15,6 +15,7 @@ use Rattle.form.specs.Decode.{got, gots, decode}
 use Rattle.form.specs.declared.head.Step.{Step}
 use Rattle.form.specs.declared.head.Step.the-variants.{End, Bad}
 use Rattle.form.proofs.DecodeLaws.{clash, Ok, ok-node, OkAll, ok-none, ok-more, decode-encode, decodeAll-encode, decode-sound}
+use Rattle.replace.proofs.OkLaws.{ok-deep}
 use Rattle.one_point.specs.Replacement.{nothing}
 use Rattle.one_point.specs.Split.{parts, equal}
 use Rattle.one_point.specs.Scan.{scanned}
@@ -23,7 +24,7 @@ use Rattle.one_point.specs.Internal.Writes.{Wrote, Neat, neat-not, neat-
 use Rattle.one_point.specs.Internal.Parts.{readAll, Beside, partsAt, partWords, TookIs}
 use Rattle.one_point.specs.Internal.Scans.{Left, Became}
 use Rattle.one_point.specs.declared.sides.Replacement.the-variants.{Not}
-use Rattle.one_point.proofs.ViewLaws.{ok-deep, plain-node, Equal, equal-node}
+use Rattle.one_point.proofs.ViewLaws.{plain-node, Equal, equal-node}
 use Rattle.one_point.proofs.SidesLaws.{part-words}
 use Rattle.one_point.proofs.WriteLaws.{wrote-end}
 use Rattle.one_point.proofs.PartsLaws.{tagOf, tag-at, some-words, in-row}

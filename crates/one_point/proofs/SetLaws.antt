@@ -1,55 +1,31 @@
 -- An element in a comprehension, as the code finds it in the row. Assumes nothing.
 use mathlib.Core.Path.{_≡_, refl, ap, sym, _∙_}
-use mathlib.Core.Bool.{Bool, true, false, _&&_}
-use mathlib.Core.List.{List, [], _∷_, _++_, append-nil, append-assoc}
-use mathlib.Core.Option.{Option, none as absent, some}
-use Prim.Native.Nat.{ℕ, zero, suc, _+_, _-_, _≤_, _<_}
-use native.Mathlib.Nat.{add-zero}
+use mathlib.Core.Bool.{true}
+use mathlib.Core.List.{List, [], _∷_, _++_, append-nil}
+use mathlib.Core.Option.{none as absent, some}
+use Prim.Native.Nat.{ℕ, _+_, _≤_, _<_}
 use native.Mathlib.Omega.{arith}
 use borrow.Author.Tests.{leb-true, ne-eqb}
-use lib.Dec.{leb, eqb}
-use lib.ListN.{length, getD, take, drop, length-append}
+use lib.Dec.{leb}
+use lib.ListN.{length, getD, drop, length-append}
 use lib.Seq.{drop-drop, drop-at, getD-drop}
-use Rattle.tree.specs.Form.{Leaf, free, bound, Form, leaf, node, Forms, none, more, pick, between, encode, encodeAll}
-use Rattle.tree.specs.Tag.{Sort, expr, pred, Own, ask, kids, own, ownOf, shapeOf, exprTags, predTags, sorts}
-use Rattle.form.specs.Decode.{Head, head, bad, addWord, addName, only, names, read, Got, got, decode}
+use Rattle.tree.specs.Form.{Form, leaf, node, Forms, none, more, between, encode}
+use Rattle.tree.specs.Tag.{Sort, expr, pred, ask, kids, own, ownOf, shapeOf, exprTags, predTags, sorts}
+use Rattle.form.specs.Decode.{head, bad, addWord, only, names, read, got, decode}
 use Rattle.form.specs.declared.head.Step.{Step}
 use Rattle.form.specs.declared.head.Step.the-variants.{End, Bad}
-use Rattle.form.proofs.DecodeLaws.{clash, Ok, ok-free, ok-bound, ok-node, OkAll, ok-none, ok-more, decode-encode, decode-sound}
+use Rattle.form.proofs.DecodeLaws.{clash, Ok, ok-free, ok-bound, ok-node, OkAll, decode-encode, decode-sound}
 use Rattle.subst.proofs.WalkLaws.{and-left, and-right}
-use Rattle.one_point.specs.Split.{isNil}
+use Rattle.replace.proofs.OkLaws.{ok-deep}
+use Rattle.replace.proofs.QuantLaws.{only-word, names-count}
 use Rattle.one_point.specs.Member.{memberOf, inSet, membership}
 use Rattle.one_point.specs.Internal.Sides.{endAt}
 use Rattle.one_point.specs.Internal.Parts.{partWords}
-use Rattle.one_point.specs.Internal.Member.{SetIn, SetTold}
-use Rattle.one_point.specs.declared.member.Comprehension.{Comprehension}
-use Rattle.one_point.proofs.ViewLaws.{ok-deep, plain-node, two-more, pred-node}
-use Rattle.one_point.proofs.PartsLaws.{tagOf, tag-at, some-words, in-row}
+use Rattle.one_point.specs.Internal.Member.{SetIn}
+use Rattle.one_point.proofs.ViewLaws.{plain-node, two-more}
+use Rattle.one_point.proofs.PartsLaws.{tagOf, tag-at, some-words, in-row, same-form}
 
 -- what was read after a comprehension's tag
-only-word : (b : Bool) (w : ℕ) (h : Head) (o ds : List ℕ) (p e : ℕ) (r : List ℕ) → only b (addWord w h) ≡ head o ds p e r → (b ≡ true) × (o′ : List ℕ) × (w ∷ o′ ≡ o) × (h ≡ head o′ ds p e r)
-only-word true w (head o′ ds′ p′ e′ r′) o ds p e r q = (refl, o′, cc, cc)
-only-word true w bad o ds p e r q = absurd (clash cc)
-only-word false w h o ds p e r q = absurd (clash cc)
-
-only-named : (b : Bool) (w : ℕ) (h : Head) (o ds : List ℕ) (p e : ℕ) (r : List ℕ) → only b (addName w h) ≡ head o ds p e r → (ds′ : List ℕ) × (w ∷ ds′ ≡ ds) × (h ≡ head o ds′ p e r)
-only-named true w (head o′ ds′ p′ e′ r′) o ds p e r q = (ds′, cc, cc)
-only-named true w bad o ds p e r q = absurd (clash cc)
-only-named false w h o ds p e r q = absurd (clash cc)
-
-names-count : (n p e : ℕ) (ws o ds : List ℕ) (p′ e′ : ℕ) (r : List ℕ) → names n p e ws ≡ head o ds p′ e′ r → (o ≡ []) × (length ds ≡ n) × (p′ ≡ p) × (e′ ≡ e)
-names-count zero p e ws o ds p′ e′ r q =
-    let a : [] ≡ o = cc in
-    let b : [] ≡ ds = cc in
-    let c : p ≡ p′ = cc in
-    let d : e ≡ e′ = cc in
-    (sym a, ap length (sym b), sym c, sym d)
-names-count (suc n) p e [] o ds p′ e′ r q = absurd (clash cc)
-names-count (suc n) p e (w ∷ ws) o ds p′ e′ r q =
-    let (ds′, a, h) = only-named (between 0 65535 w) w (names n p e ws) o ds p′ e′ r q in
-    let (x, y, z, v) = names-count n p e ws o ds′ p′ e′ r h in
-    (x, ap length (sym a) ∙ ap suc y, z, v)
-
 record Heading (o ds : List ℕ) (p e : ℕ) : Type 0 where
   form : ℕ
   words : o ≡ form ∷ length ds ∷ []
@@ -148,9 +124,6 @@ member-shape : (f l r : Form) (k : ℕ) (ds : List ℕ) (g v : Form) → f ≡ n
 unfolding membership
 member-shape f l r k ds g v a b = rw (a, b)
 
-same-got : {f g : Form} {x y : List ℕ} → got f x ≡ got g y → f ≡ g
-same-got e = cc
-
 module _ (row : List ℕ) (f : Form) (is : decode 64 pred row ≡ got f []) where
   row-is : (row ≡ encode f ++ []) × Ok 64 pred f
   row-is = decode-sound 64 pred row f [] is
@@ -162,7 +135,7 @@ module _ (row : List ℕ) (f : Form) (is : decode 64 pred row ≡ got f []) wher
   row-some = let s = some-words f in let l = ap length (row-is .0) ∙ length-append (encode f) [] in omega arith
 
   pub not-in : (getD row 0 0 ≡ 107 → ⊥) → (g : Form) → decode 64 pred row ≡ got g [] → membership g ≡ absent
-  not-in h g e = rw (← same-got (sym is ∙ e)) (other-pred (row-is .1) (λ q. h (first-is ∙ q)))
+  not-in h g e = rw (← same-form (sym is ∙ e)) (other-pred (row-is .1) (λ q. h (first-is ∙ q)))
 
   module _ (tag : getD row 0 0 ≡ 107) where
     view : InView f
@@ -197,7 +170,7 @@ module _ (row : List ℕ) (f : Form) (is : decode 64 pred row ≡ got f []) wher
       not-set-view h = rw (view .is) (other-right (view .l) (view .r) (λ q. h (right-tag ∙ q)))
 
       pub not-set : (getD row at 0 ≡ 803 → ⊥) → (g : Form) → decode 64 pred row ≡ got g [] → membership g ≡ absent
-      not-set h g e = rw (← same-got (sym is ∙ e)) (not-set-view h)
+      not-set h g e = rw (← same-form (sym is ∙ e)) (not-set-view h)
 
       module _ (there : getD row at 0 ≡ 803) where
         set : SetView (view .r)
@@ -266,6 +239,6 @@ module _ (row : List ℕ) (f : Form) (is : decode 64 pred row ≡ got f []) wher
                     is-element = self (view .ok-l);
                     is-guard = self (set .ok-guard);
                     is-value = self (set .ok-value);
-                    shape = λ g k. (view .r, sym (same-got (sym is ∙ k)) ∙ view .is);
-                    is = λ g k. rw (← same-got (sym is ∙ k)) member-is;
+                    shape = λ g k. (view .r, sym (same-form (sym is ∙ k)) ∙ view .is);
+                    is = λ g k. rw (← same-form (sym is ∙ k)) member-is;
                   }

@@ -1,20 +1,19 @@
 -- The parts that are offered to the places, by the words: the table of places, and the equalities that are written. Assumes nothing.
 use mathlib.Core.Path.{_≡_, refl, ap, sym, _∙_}
 use mathlib.Core.Bool.{Bool, true, false}
-use mathlib.Core.List.{List, [], _∷_, _++_, append-nil, append-assoc}
+use mathlib.Core.List.{List, [], _++_, append-nil, append-assoc}
 use mathlib.Core.Option.{Option, none as absent, some}
-use Prim.Native.Nat.{ℕ, zero, suc, _+_, _-_, _*_, _≤_, _<_}
+use Prim.Native.Nat.{ℕ, suc, _+_, _-_, _≤_, _<_}
 use native.Mathlib.Omega.{arith}
-use borrow.Author.Tests.{le-leb, ltb-true, lt-ltb, le-ltb, eq-eqb, eqb-true, eqb-false}
+use borrow.Author.Tests.{le-leb, ltb-true, lt-ltb, le-ltb, eqb-true, eqb-false}
 use lib.Dec.{leb, ltb, eqb}
 use lib.ListN.{length, getD, take, drop, set, replicate, getD-replicate, length-append, length-set, length-drop, length-replicate, take-append-drop}
 use lib.Seq.{getD-set-same, getD-set-other, length-take-le, take-append-seam}
-use Rattle.tree.specs.Form.{Form, Forms, none, more, pick, count, encode, encodeAll}
+use Rattle.tree.specs.Form.{Form, pick, count, encode, encodeAll}
 use Rattle.tree.specs.Tag.{expr}
-use Rattle.form.specs.Decode.{got, decode}
 use Rattle.form.specs.Lists.{Place, kept, filled}
 use Rattle.form.specs.declared.lists.Table.{Table}
-use Rattle.form.proofs.DecodeLaws.{clash, Ok, decode-encode}
+use Rattle.form.proofs.DecodeLaws.{Ok, decode-encode}
 use Rattle.subst.specs.Walk.{lift}
 use Rattle.subst.specs.Internal.Items.{items, rewritten, movedWords, store}
 use Rattle.subst.proofs.LimitLaws.{ok-small}
@@ -30,13 +29,12 @@ use Rattle.one_point.specs.Member.{isFree}
 use Rattle.one_point.specs.Internal.Sides.{indexWords}
 use Rattle.one_point.specs.Internal.Writes.{Wrote}
 use Rattle.one_point.specs.Internal.Parts.{partsAt, partWords, Within}
-use Rattle.one_point.specs.Internal.Member.{Shares, shares, keepPart, spotAt, shareNext, share, equalities, formMarks, PlacedAt, PlaceIs, TableIs, noTable, withPlace, spotIn, shiftedWords, Shared}
+use Rattle.one_point.specs.Internal.Member.{Shares, shares, keepPart, spotAt, share, equalities, formMarks, PlacedAt, PlaceIs, TableIs, noTable, withPlace, spotIn, shiftedWords, Shared}
 use Rattle.one_point.specs.declared.sides.Sides.{Sides}
-use Rattle.one_point.specs.declared.sides.Index.{Index}
 use Rattle.one_point.proofs.SidesLaws.{asIndex, index-is, part-words}
 use Rattle.one_point.proofs.WriteLaws.{wrote-end, wrote-on, wrote-equal, nothing-written}
 use Rattle.one_point.proofs.PartsLaws.{in-row, PartIs}
-use Rattle.one_point.proofs.PartsStepLaws.{equal-length, left-is, middle-is, right-is, end-is, rest-is}
+use Rattle.one_point.proofs.PartsStepLaws.{left-is, middle-is, right-is, end-is, rest-is}
 
 -- an empty table
 pub no-table : (row lm : List ℕ) (n : ℕ) (t : Table) → n ≤ 32 → t ≡ noTable n → TableIs row lm n t (noPlaces n)

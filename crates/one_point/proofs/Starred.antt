@@ -1,8 +1,7 @@
 -- Document 01's starred cases, from row to row: one table, one statement about the definitions. Assumes nothing.
 use mathlib.Core.Path.{_≡_, refl}
 use mathlib.Core.List.{List, [], _∷_, map}
-use Prim.Native.Nat.{ℕ}
-use lib.IntN.{ℤ, negsuc}
+use lib.IntN.{negsuc}
 use Rattle.tree.specs.Form.{encode}
 use Rattle.tree.specs.Tag.{own, ownOf, shapeOf, exprTags, predTags}
 use Rattle.form.specs.Decode.{read, decode, decodeAll, rowForm, formOf}

@@ -1,28 +1,13 @@
 -- What a well-formed predicate is, by its tag. Assumes nothing.
 use mathlib.Core.Path.{_≡_, refl, sym}
 use mathlib.Core.List.{List, [], _∷_, _++_}
-use Prim.Native.Nat.{ℕ, zero, suc, _≤_}
-use native.Mathlib.Omega.{arith}
+use Prim.Native.Nat.{ℕ, suc}
 use Rattle.tree.specs.Form.{Form, node, Forms, none, more}
 use Rattle.tree.specs.Tag.{Sort, expr, pred, own, ownOf, shapeOf, predTags, sorts}
 use Rattle.form.specs.Decode.{head, read}
 use Rattle.tree.specs.declared.tag.Shape.the-variants.{Plain}
-use Rattle.form.proofs.DecodeLaws.{Ok, ok-free, ok-bound, ok-node, OkAll, ok-none, ok-more}
+use Rattle.form.proofs.DecodeLaws.{Ok, ok-node, OkAll, ok-none, ok-more}
 use Rattle.one_point.specs.Split.{equal}
-
--- a form within one depth is within a greater one
-mutual
-  pub ok-deep : {d : ℕ} {s : Sort} {f : Form} → Ok d s f → (e : ℕ) → d ≤ e → Ok e s f
-  ok-deep (ok-free h) zero l = absurd (omega arith)
-  ok-deep (ok-free h) (suc e) l = ok-free h
-  ok-deep (ok-bound h) zero l = absurd (omega arith)
-  ok-deep (ok-bound h) (suc e) l = ok-bound h
-  ok-deep (ok-node t h k) zero l = absurd (omega arith)
-  ok-deep (ok-node t h k) (suc e) l = ok-node t h (ok-deepAll k e (omega arith))
-
-  ok-deepAll : {d : ℕ} {ss : List Sort} {fs : Forms} → OkAll d ss fs → (e : ℕ) → d ≤ e → OkAll e ss fs
-  ok-deepAll ok-none e l = ok-none
-  ok-deepAll (ok-more h k) e l = ok-more (ok-deep h e l) (ok-deepAll k e l)
 
 -- a tag with no own words
 pub plain-node : {d : ℕ} {s : Sort} {t : ℕ} {o ds : List ℕ} {ks : Forms} → Ok (suc d) s (node t o ds ks) → (p e : ℕ) → shapeOf s t ≡ Plain p e

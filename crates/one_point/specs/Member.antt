@@ -5,7 +5,7 @@ use mathlib.Core.Option.{Option, none as absent, some}
 use Prim.Native.Nat.{ℕ, suc, _-_}
 use lib.Dec.{eqb}
 use lib.ListN.{length, getD}
-use Rattle.tree.specs.Form.{Leaf, Form, leaf, node, Forms, none, more, pick, count}
+use Rattle.tree.specs.Form.{Form, leaf, node, Forms, none, more, pick, count}
 use Rattle.form.specs.Lists.{Place, kept, filled}
 use Rattle.form.specs.Answer.{Outcome, withWork, withForm}
 use Rattle.form.specs.declared.answer.Kind.the-variants.{Predicate}

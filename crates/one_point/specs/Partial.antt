@@ -1,7 +1,6 @@
 -- Filling a set of places: the declarations before the outermost filled place stand in front, the rest is filled, the front put round it.
-use mathlib.Core.Bool.{Bool, true, false}
 use mathlib.Core.List.{List, [], _∷_, _++_, map}
-use Prim.Native.Nat.{ℕ, zero, suc, _-_}
+use Prim.Native.Nat.{ℕ, suc, _-_}
 use lib.Dec.{eqb}
 use lib.ListN.{length, take, drop, set, replicate}
 use Rattle.tree.specs.Form.{Form, pick}

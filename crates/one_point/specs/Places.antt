@@ -1,10 +1,9 @@
 -- The set of places as the code holds it: a new set, and what an offer answers.
-use mathlib.Core.Bool.{Bool, true, false}
-use mathlib.Core.List.{List, [], _∷_}
+use mathlib.Core.List.{List}
 use Prim.Native.Nat.{ℕ, suc, _+_, _-_}
 use lib.Dec.{leb, ltb, eqb}
 use lib.ListN.{length, getD, set, replicate}
-use Rattle.tree.specs.Form.{Leaf, Form, leaf, node, Forms, none, more, pick, encode}
+use Rattle.tree.specs.Form.{Form, leaf, node, none, more, pick, encode}
 use Rattle.form.specs.Decode.{Found, found, missing, formOf}
 use Rattle.form.specs.declared.answer.Kind.the-variants.{Predicate}
 use Rattle.one_point.specs.Replacement.{Side, left, right, sideOf, Offer, offer, no-offer, offered, above}

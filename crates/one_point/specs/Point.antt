@@ -10,7 +10,7 @@ use Rattle.tree.specs.Tag.{pred}
 use Rattle.form.specs.Answer.{Outcome, refusal, withWork, withForm, finish}
 use Rattle.form.specs.declared.answer.Kind.the-variants.{Predicate}
 use Rattle.replace.specs.Fill.{Quantified, quantifier, other, quantified}
-use Rattle.one_point.specs.Replacement.{Taken, taken, nothing}
+use Rattle.one_point.specs.Replacement.{taken, nothing}
 use Rattle.one_point.specs.Scan.{Scan, scanned, scan}
 use Rattle.one_point.specs.Partial.{noPlaces, setPlace, instantiatePartial}
 

@@ -1,9 +1,9 @@
 -- The rule of Places: the target and the replacement that an equality offers, and when it is accepted.
-use mathlib.Core.Bool.{Bool, true, false}
+use mathlib.Core.Bool.{Bool}
 use mathlib.Core.Option.{Option, none as absent, some}
 use Prim.Native.Nat.{ℕ, suc}
 use lib.Dec.{ltb}
-use Rattle.tree.specs.Form.{Leaf, free, bound, Form, leaf, node, pick}
+use Rattle.tree.specs.Form.{free, bound, Form, leaf, node, pick}
 use Rattle.subst.specs.Walk.{each}
 use Rattle.subst.specs.Shift.{reaches}
 

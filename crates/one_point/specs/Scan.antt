@@ -1,11 +1,11 @@
 -- One point's scan of the body: the first equality that the rule of Places accepts, and what is left of the body. What is passed before it
 -- is rebuilt, what follows it is copied.
-use mathlib.Core.Bool.{Bool, true, false, not, _&&_, _||_}
+use mathlib.Core.Bool.{Bool, true, not, _&&_, _||_}
 use mathlib.Core.List.{List, [], _∷_}
 use mathlib.Core.Option.{Option, none as absent, some}
 use Prim.Native.Nat.{ℕ}
 use lib.Dec.{eqb}
-use Rattle.tree.specs.Form.{Leaf, Form, leaf, node, Forms, none, more, pick, count}
+use Rattle.tree.specs.Form.{Form, leaf, node, Forms, none, more, pick, count}
 use Rattle.one_point.specs.Replacement.{Taken, taken, nothing, accept}
 use Rattle.one_point.specs.Split.{isTwo, isNil, parts, equal}
 

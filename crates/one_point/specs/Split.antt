@@ -3,7 +3,7 @@ use mathlib.Core.Bool.{Bool, true, false, _&&_}
 use mathlib.Core.List.{List, [], _∷_, _++_}
 use Prim.Native.Nat.{ℕ}
 use lib.Dec.{eqb}
-use Rattle.tree.specs.Form.{Leaf, Form, leaf, node, Forms, none, more, pick}
+use Rattle.tree.specs.Form.{Form, leaf, node, Forms, none, more, pick}
 
 abbrev pub isTwo : Forms → Bool
 isTwo none = false

@@ -1,14 +1,12 @@
 // Children of an associative node: those that are copied, and where a search among them stopped.
 use crate::scan::skip_pred;
 use crate::sides::Replacement;
-use crate::writes::copy_part;
 use form::head::Step;
 ghost use mathlib.Core.Path.{_≡_};
 ghost use Prim.Native.Nat.{_+_, _*_, _≤_, _<_};
 ghost use lib.ListN.{length};
-ghost use Rattle.one_point.specs.Internal.Scans.{Kids, kidsAt, oneMore, KidsCopied};
+ghost use Rattle.one_point.specs.Internal.Scans.{Kids, kidsAt, oneMore};
 ghost use Rattle.tree.specs.Form.{encodeAll, count};
-ghost use Rattle.one_point.specs.Internal.Writes.{Wrote};
 
 // What a search took, where it stopped in the row and how many children are left there, and what was written.
 pub struct Stopped {
@@ -20,7 +18,7 @@ pub struct Stopped {
 }
 
 // The count of written children, one more unless the child is gone.
-pub fn one_more(k: u32, gone: bool) -> u32
+pub(crate) fn one_more(k: u32, gone: bool) -> u32
     requires { ⌜ k < 4294967295 ⌝ }
     ensures { λ r. ⌜ r ≡ oneMore k gone ⌝ }
 {
@@ -31,7 +29,7 @@ pub fn one_more(k: u32, gone: bool) -> u32
 }
 
 // Where n predicates end.
-pub fn skip_preds(row: &[u32], at: usize, n: u32, depth: u32) -> usize
+pub(crate) fn skip_preds(row: &[u32], at: usize, n: u32, depth: u32) -> usize
     requires { ⌜ Kids (now row) depth at n 0 (2 * length (now row)) × (depth ≤ 64) ⌝ }
     ensures { λ r. ⌜ r ≡ at + length (encodeAll (kidsAt (now (row .entry)) depth at n)) ⌝ }
 {

@@ -12,7 +12,6 @@ ghost use lib.ListN.{length, take};
 ghost use Rattle.tree.specs.Tag.{pred};
 ghost use Rattle.form.specs.Answer.{told, written, finish};
 ghost use Rattle.replace.specs.Internal.Pieces.{keptWords};
-ghost use Rattle.one_point.specs.Internal.Rest.{innerEnd};
 ghost use Rattle.one_point.specs.Internal.Reduce.{Inner};
 ghost use Rattle.one_point.specs.Internal.Member.{Filling, filledBody, zerosBefore, innerFrom, keptRow};
 
@@ -91,7 +90,7 @@ fn fill_kept(
 }
 
 // The names round the body, with the places of the table filled by parts of the row.
-pub fn fill_body(
+pub(crate) fn fill_body(
     row: &[u32],
     row_marks: &[u32],
     names: &[u32],

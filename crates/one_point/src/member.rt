@@ -24,7 +24,7 @@ pub enum Membership {
 }
 
 // The comprehension on the right of 107.
-pub fn membership_of(row: &[u32]) -> Membership
+pub(crate) fn membership_of(row: &[u32]) -> Membership
     requires { ⌜ ((f : Form) × (decode 64 pred (now row) ≡ got f [])) ⌝ }
     ensures { λ r. ⌜ SetTold (now (row .entry)) r ⌝ }
 {

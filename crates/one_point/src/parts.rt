@@ -8,7 +8,7 @@ use crate::writes::copy_part;
 use form::head::Step;
 use tree::tag::Tag;
 ghost use mathlib.Core.Path.{_≡_};
-ghost use Prim.Native.Nat.{_+_, _-_, _*_, _<_, _≤_};
+ghost use Prim.Native.Nat.{_+_, _-_, _<_, _≤_};
 ghost use lib.ListN.{length};
 ghost use Rattle.one_point.specs.Internal.Writes.{Wrote};
 ghost use Rattle.one_point.specs.Internal.Parts.{Beside, Within, partsAt, bothPairs, partWords, acceptWords, equalWords, isTaken, PartsCopied, Searched};
@@ -94,7 +94,7 @@ fn write_equal(row: &[u32], sides: Sides, out: &mut [u32], pos: usize) -> usize
 }
 
 // The parts of the expressions at p and q, copied.
-pub fn copy_parts(
+pub(crate) fn copy_parts(
     row: &[u32],
     at: usize,
     beside: usize,
@@ -141,7 +141,7 @@ pub fn is_taken(found: Replacement) -> bool
 }
 
 // The parts of the equality whose sides stand at `at` and `beside`, offered in order for n declarations; those that are passed are written.
-pub fn search_parts(
+pub(crate) fn search_parts(
     row: &[u32],
     at: usize,
     beside: usize,

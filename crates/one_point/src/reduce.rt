@@ -126,7 +126,13 @@ fn rest_end(tag: u32, gone: bool, end: usize, work: &mut [u32]) -> usize
 }
 
 // The body of a quantifier with these names, reduced by the first equality that its scan takes.
-pub fn reduce(tag: u32, names: &[u32], body: &[u32], work: &mut [u32], out: &mut [u32]) -> Answer
+pub(crate) fn reduce(
+    tag: u32,
+    names: &[u32],
+    body: &[u32],
+    work: &mut [u32],
+    out: &mut [u32],
+) -> Answer
     requires { ⌜ Reducing tag (now names) (now body) (length (now work)) ⌝ }
     ensures { λ r. ⌜ r ≡ told (bodyOutcome tag (now (names .entry)) (now (body .entry)) (length (now (out .entry)))) ⌝ }
     ensures { λ _. ⌜ now (out .exit) ≡ written (bodyOutcome tag (now (names .entry)) (now (body .entry)) (length (now (out .entry)))) (now (out .entry)) ⌝ }

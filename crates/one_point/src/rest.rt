@@ -13,7 +13,7 @@ ghost use Rattle.one_point.specs.Internal.Rest.{innerEnd, partialRow};
 ghost use Rattle.one_point.specs.Internal.Reduce.{Inner, innerStart, oneTable, Resting};
 
 // Where the head of the body's own quantifier ends, if its declarations join those in front; else 0.
-pub fn inner_end(tag: u32, front: &[u32], stay: &[u32], body: &[u32]) -> usize
+pub(crate) fn inner_end(tag: u32, front: &[u32], stay: &[u32], body: &[u32]) -> usize
     requires { ⌜ Inner tag (now body) ⌝ }
     ensures { λ r. ⌜ r ≡ innerEnd tag (now (front .entry)) (now (stay .entry)) (now (body .entry)) ⌝ }
 {
@@ -40,7 +40,13 @@ pub fn inner_start(end: usize) -> usize
 }
 
 // The head of a quantifier with the names of three rows, none where there is none: its length.
-pub fn write_head(tag: u32, front: &[u32], stay: &[u32], inner: &[u32], head: &mut [u32]) -> usize
+pub(crate) fn write_head(
+    tag: u32,
+    front: &[u32],
+    stay: &[u32],
+    inner: &[u32],
+    head: &mut [u32],
+) -> usize
     requires { ⌜ (2 + (length (now front) + (length (now stay) + length (now inner))) ≤ length (now head)) × (length (now head) ≤ 72) ⌝ }
     ensures { λ r. ⌜ r ≤ length (now (head .entry)) ⌝ }
     ensures { λ r. ⌜ take r (now (head .exit)) ≡ headWords tag (now (front .entry) ++ (now (stay .entry) ++ now (inner .entry))) ⌝ }
@@ -73,7 +79,7 @@ fn one_table(n: usize, end: usize) -> Table
 }
 
 // The declarations from place p on: the first replaced by the expression, the others kept.
-pub fn put_rest(
+pub(crate) fn put_rest(
     tag: u32,
     names: &[u32],
     p: usize,

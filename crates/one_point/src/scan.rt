@@ -16,7 +16,7 @@ use tree::tag::Tag;
 ghost use mathlib.Core.Path.{_≡_};
 ghost use mathlib.Core.Bool.{true, false};
 ghost use mathlib.Core.Option.{some};
-ghost use Prim.Native.Nat.{_+_, _*_, _^_, _<_, _≤_};
+ghost use Prim.Native.Nat.{_+_, _<_, _≤_};
 ghost use lib.ListN.{length, getD, drop};
 ghost use Rattle.tree.specs.Form.{Form, pick, encode};
 ghost use Rattle.tree.specs.Tag.{pred};
@@ -36,7 +36,7 @@ pub struct Scanned {
 }
 
 // Where the predicate at `at` ends.
-pub fn skip_pred(row: &[u32], at: usize, depth: u32) -> Step
+pub(crate) fn skip_pred(row: &[u32], at: usize, depth: u32) -> Step
     requires { ⌜ depth ≤ 64 ⌝ }
     ensures { λ r. ⌜ r ≡ endAt at (decode depth pred (drop at (now (row .entry)))) ⌝ }
 {
@@ -102,7 +102,7 @@ fn start_of(gone: bool, pos: usize, end: usize) -> usize
 }
 
 // The predicate at `at`, for n declarations and with a polarity; what is left of it is written at `pos`.
-pub fn scan_pred(
+pub(crate) fn scan_pred(
     row: &[u32],
     at: usize,
     depth: u32,

@@ -147,7 +147,13 @@ fn offer_parts(
 }
 
 // The guard and the equalities that are left, the element shifted up, at the start of the output row.
-pub fn write_body(row: &[u32], marks: &[u32], set: Comprehension, up: u32, out: &mut [u32]) -> Body
+pub(crate) fn write_body(
+    row: &[u32],
+    marks: &[u32],
+    set: Comprehension,
+    up: u32,
+    out: &mut [u32],
+) -> Body
     requires { ⌜ Membering (now row) (now marks) set (length (now out)) × (up ≤ 32) ⌝ }
     ensures { λ r. ⌜ ((x : SetIn (now (row .entry)) set) → BodyTold (now (row .entry)) (now (marks .entry)) (set .n) up (x .guard) (now (out .entry)) (share (set .n) (parts (x .value) (x .element)) (noPlaces (set .n))) (r .table) (r .end) (now (out .exit))) ⌝ }
 {

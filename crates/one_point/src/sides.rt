@@ -6,7 +6,7 @@ use form::head::Step;
 use form::reader::expr_at;
 use subst::items::all_in;
 ghost use mathlib.Core.Path.{_≡_};
-ghost use Prim.Native.Nat.{_*_, _^_, _<_, _≤_};
+ghost use Prim.Native.Nat.{_<_, _≤_};
 ghost use lib.ListN.{length, drop};
 ghost use Rattle.tree.specs.Tag.{expr};
 ghost use Rattle.form.specs.Decode.{decode};
@@ -39,7 +39,7 @@ pub enum Replacement {
 }
 
 // Where the expression at `at` ends.
-pub fn skip_expr(row: &[u32], at: usize, depth: u32) -> Step
+pub(crate) fn skip_expr(row: &[u32], at: usize, depth: u32) -> Step
     requires { ⌜ depth ≤ 64 ⌝ }
     ensures { λ r. ⌜ r ≡ endAt at (decode depth expr (drop at (now (row .entry)))) ⌝ }
 {
@@ -115,7 +115,7 @@ fn above_marked(part: &[u32], target: u32, marks: &mut [u32]) -> bool
     all_in(part, marks, target + 1, 65536)
 }
 
-pub fn is_above(part: &[u32], target: u32) -> bool
+pub(crate) fn is_above(part: &[u32], target: u32) -> bool
     requires { ⌜ (target < 32) × (length (now part) ≤ 8192) ⌝ }
     ensures { λ r. ⌜ r ≡ aboveWords target (now (part .entry)) ⌝ }
 {

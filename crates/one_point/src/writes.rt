@@ -14,7 +14,7 @@ pub struct Left {
 }
 
 // Copies a part of the row to `pos`.
-pub fn copy_part(row: &[u32], from: usize, to: usize, out: &mut [u32], pos: usize) -> usize
+pub(crate) fn copy_part(row: &[u32], from: usize, to: usize, out: &mut [u32], pos: usize) -> usize
     requires { ⌜ (from ≤ to) × (to ≤ length (now row)) × (pos + (to - from) ≤ length (now out)) ⌝ }
     ensures { λ r. ⌜ Wrote pos (now (out .entry)) (take (to - from) (drop from (now (row .entry)))) r (now (out .exit)) ⌝ }
     ensures { λ r. ⌜ r ≡ pos + (to - from) ⌝ }
@@ -44,7 +44,7 @@ fn move_down(out: &mut [u32], pos: usize, end: usize) -> usize
 }
 
 // An associative node of k children that stand two words behind `pos`: of none it is gone, of one it is that child.
-pub fn finish_junction(out: &mut [u32], pos: usize, end: usize, tag: u32, k: u32) -> Left
+pub(crate) fn finish_junction(out: &mut [u32], pos: usize, end: usize, tag: u32, k: u32) -> Left
     requires { ⌜ (pos + 2 ≤ end) × (end ≤ length (now out)) ⌝ }
     ensures { λ r. ⌜ ((fs : Forms) → k ≡ count fs → Wrote (pos + 2) (now (out .entry)) (encodeAll fs) end (now (out .entry)) → (r .gone ≡ isGone (joined tag fs)) × Wrote pos (now (out .entry)) (leftWords (joined tag fs)) (r .end) (now (out .exit))) ⌝ }
 {
@@ -70,7 +70,7 @@ pub fn finish_junction(out: &mut [u32], pos: usize, end: usize, tag: u32, k: u32
 }
 
 // The predicate that stands behind `pos`, negated.
-pub fn finish_not(out: &mut [u32], pos: usize, end: usize) -> usize
+pub(crate) fn finish_not(out: &mut [u32], pos: usize, end: usize) -> usize
     requires { ⌜ (pos + 2 ≤ end) × (end ≤ length (now out)) ⌝ }
     ensures { λ r. ⌜ ((f : Form) → Neat f → Wrote (pos + 1) (now (out .entry)) (encode f) end (now (out .entry)) → Wrote pos (now (out .entry)) (encode (negate f)) r (now (out .exit))) ⌝ }
 {

@@ -6,7 +6,8 @@ use mathlib.Core.Bool.{Bool, true, false, not, _&&_, _||_, or-assoc, or-false, a
 use Prim.Native.Nat.{ℕ, suc, _+_}
 use native.Mathlib.Nat.{zero-add}
 use native.Mathlib.Omega.{arith}
-use lib.Dec.{eqb, eqb→eq}
+use borrow.Author.Tests.{eqb-true, not-false}
+use lib.Dec.{eqb}
 use lib.IntN.{ℤ}
 use lib.ListN.{length}
 use Rattle.tree.specs.Form.{Form, leaf, node, none, more, pick}
@@ -121,10 +122,6 @@ or-none : (a b : Bool) → (a || b) ≡ false → (a ≡ false) × (b ≡ false)
 or-none true b e = (cc, cc)
 or-none false b e = (refl, e)
 
-not-false : (a : Bool) → not a ≡ false → a ≡ true
-not-false true e = refl
-not-false false e = cc
-
 exIn-on : (n a b : ℤ → Bool) (vs : List ℤ) → exIn vs n ≡ false → ((v : ℤ) → n v ≡ false → a v ≡ b v) → exIn vs a ≡ exIn vs b
 exIn-on n a b [] e h = refl
 exIn-on n a b (v ∷ vs) e h = rw (h v (or-none (n v) (exIn vs n) e .0), exIn-on n a b vs (or-none (n v) (exIn vs n) e .1) h)
@@ -210,7 +207,7 @@ module _ (b : Bool) (R : Reading) (ρ : Env) (ns : List ℕ) (g : Form) where
           → truth (value R ρ (pick z (quantify (tagOf b) (ns ++ ds) f) (quantify (tagOf b) ns g))) ≡ asks b R ρ ns (λ θ. truth (value R θ g))
       by true z =
           let (o, q, h) = quantified-node g u ds f e in
-          joined (eqb→eq u (tagOf b) (rw z tt)) o q
+          joined (eqb-true u (tagOf b) z) o q
       by false z = quantify-truth b R ρ ns g
 
 pub putRound-truth : (b : Bool) (R : Reading) (ρ : Env) (ns : List ℕ) (g : Form)

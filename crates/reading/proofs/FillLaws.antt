@@ -5,7 +5,7 @@ use mathlib.Core.List.{List, [], _∷_, _++_, reverse, reverseAux, reverseAux-eq
 use Prim.Native.Nat.{ℕ, zero, suc, _+_, _-_, _≤_}
 use native.Mathlib.Nat.{zero-add, add-zero}
 use native.Mathlib.Omega.{arith}
-use lib.Dec.{leb→le}
+use borrow.Author.Tests.{leb-true}
 use lib.IntN.{ℤ, pos}
 use lib.ListN.{length, replicate, length-replicate}
 use Rattle.tree.specs.Form.{bound, Form, leaf}
@@ -71,7 +71,7 @@ unfolding walk
 fall-lift n k (named m) q = refl
 fall-lift n k (dangling j) q =
     let a : 0 + (j - n + k) ≡ k + (j - n) = omega arith in
-    let l : n ≤ j = leb→le n j (rw q tt) in
+    let l : n ≤ j = leb-true n j q in
     rw (a, binding-add) (ap (λ z. leaf (bound z)) (omega arith))
 
 pub lift-lower : (i : ℕ) (e : Form) → above i e ≡ true → lift (suc i) (lower (suc i) e) ≡ e

@@ -3,7 +3,8 @@ use mathlib.Core.Path.{_≡_, refl, _∙_, sym}
 use mathlib.Core.List.{List, [], _∷_, _++_}
 use mathlib.Core.Bool.{Bool, true, false, _&&_, and-true, and-assoc}
 use Prim.Native.Nat.{ℕ}
-use lib.Dec.{eqb, eqb→eq}
+use borrow.Author.Tests.{eqb-true}
+use lib.Dec.{eqb}
 use lib.IntN.{ℤ}
 use Rattle.tree.specs.Form.{Form, leaf, node, Forms, none, more, pick}
 use Rattle.one_point.specs.Split.{isTwo, isNil, isPair, parts, partsAll}
@@ -52,7 +53,7 @@ module _ (R : Reading) (θ : Env) where
       → value R θ (node t o [] (more l (more r none))) ≡ R .pair (value R θ l) (value R θ r)
   unfolding value valueOf meaning
   pair-value t o l r q =
-      let z : t ≡ 201 = eqb→eq t 201 (rw q tt) in
+      let z : t ≡ 201 = eqb-true t 201 q in
       rw z
 
   two-alike : (t u : ℕ) (o p ds es : List ℕ) (ks js : Forms) → eqb t 201 ≡ true → eqb u 201 ≡ true → (isNil ds && isTwo ks) ≡ true

@@ -6,7 +6,8 @@ use mathlib.Core.Option.{Option, none as absent, some}
 use mathlib.Core.Bool.{Bool, true, false, not, _||_, or-false, Bool·not-not}
 use Prim.Native.Nat.{ℕ, suc, _-_, _<_}
 use native.Mathlib.Omega.{arith}
-use lib.Dec.{eqb, eqb→eq, ltb→lt}
+use borrow.Author.Tests.{eqb-true, ltb-true}
+use lib.Dec.{eqb}
 use lib.ListN.{length, take, drop, getD, replicate, length-drop}
 use lib.Seq.{split-at, drop-cons}
 use Rattle.tree.specs.Form.{Form, node, none, more}
@@ -84,7 +85,7 @@ module _ (R : Reading) where
       let n = length ns in
       let j = n - suc i in
       let g = tied-at b R n body i e x found (R .index) .0 in
-      let lt : i < n = ltb→lt i n (rw (g .0) tt) in
+      let lt : i < n = ltb-true i n (g .0) in
       let len = after-length t ns i e body lt in
       let after : Form → Form = λ z. putRound (tagOf b) (take j ns) (quantify (tagOf b) (drop (suc j) ns) z) in
       rw (q, reduced-is (tagOf b) ns i e (restOf b x) lt)
@@ -94,8 +95,8 @@ module _ (R : Reading) where
       ∙ ap (λ m. holds R (after (subst (fillFor (filled (lower (suc i) e) ∷ replicate m kept)) (restOf b x)))) len)
 
   polarity-tag : (t : ℕ) (b : Bool) → eqb t 852 ≡ b → (eqb t 851 || b) ≡ true → t ≡ tagOf b
-  polarity-tag t true q h = eqb→eq t 852 (rw q tt)
-  polarity-tag t false q h = eqb→eq t 851 (rw (sym (or-false (eqb t 851)) ∙ h) tt)
+  polarity-tag t true q h = eqb-true t 852 q
+  polarity-tag t false q h = eqb-true t 851 (sym (or-false (eqb t 851)) ∙ h)
 
   scan-keeps : (t : ℕ) (o ns : List ℕ) (body g : Form) → (eqb t 851 || eqb t 852) ≡ true → (s : Scan) → scan (length ns) (polarity t) body ≡ s
       → reduce t ns s ≡ some g → premiseOf R (quantifier t ns body) (takenIn (quantifier t ns body)) ≡ true → holds R (node t o ns (more body none)) ≡ holds R g

@@ -2,7 +2,8 @@
 use mathlib.Core.Path.{_≡_, refl, ap}
 use mathlib.Core.Bool.{Bool, true, false}
 use Prim.Native.Nat.{ℕ, zero, suc}
-use lib.Dec.{T, eqb, eqb→eq, eqb-refl, eqb·zero-suc, eqb·suc-zero, eqb·suc-suc}
+use borrow.Author.Tests.{eqb-true, eq-eqb}
+use lib.Dec.{eqb, eqb·zero-suc, eqb·suc-zero, eqb·suc-suc}
 use lib.IntN.{ℤ, pos, negsuc}
 use Rattle.form.proofs.DecodeLaws.{clash}
 use Rattle.reading.specs.Reading.{bit, truth, same}
@@ -11,23 +12,19 @@ pub truth-bit : (b : Bool) → truth (bit b) ≡ b
 truth-bit true = refl
 truth-bit false = refl
 
-T-true : (b : Bool) → T b → b ≡ true
-T-true true t = refl
-T-true false t = absurd t
-
 pub not-true : (b : Bool) → (b ≡ true → ⊥) → b ≡ false
 not-true true h = absurd (h refl)
 not-true false h = refl
 
 pub same-refl : (a : ℤ) → same a a ≡ true
-same-refl (pos a) = T-true (eqb a a) (eqb-refl a)
-same-refl (negsuc a) = T-true (eqb a a) (eqb-refl a)
+same-refl (pos a) = eq-eqb a a refl
+same-refl (negsuc a) = eq-eqb a a refl
 
 pub same-equal : (a b : ℤ) → same a b ≡ true → a ≡ b
-same-equal (pos a) (pos b) e = ap pos (eqb→eq a b (rw e tt))
+same-equal (pos a) (pos b) e = ap pos (eqb-true a b e)
 same-equal (pos a) (negsuc b) e = absurd (clash cc)
 same-equal (negsuc a) (pos b) e = absurd (clash cc)
-same-equal (negsuc a) (negsuc b) e = ap negsuc (eqb→eq a b (rw e tt))
+same-equal (negsuc a) (negsuc b) e = ap negsuc (eqb-true a b e)
 
 pub different : (a b : ℤ) → same a b ≡ false → a ≡ b → ⊥
 different a b q e =

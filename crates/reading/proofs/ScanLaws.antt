@@ -5,7 +5,8 @@ use mathlib.Core.List.{List, [], _∷_}
 use mathlib.Core.Option.{Option, none as absent, some}
 use mathlib.Core.Bool.{Bool, true, false, not, _&&_, _||_, and-true, or-false, and-assoc, or-assoc, Bool·not-not}
 use Prim.Native.Nat.{ℕ}
-use lib.Dec.{ltb, eqb, eqb→eq}
+use borrow.Author.Tests.{eqb-true}
+use lib.Dec.{ltb, eqb}
 use lib.IntN.{ℤ}
 use Rattle.tree.specs.Form.{free, bound, Form, leaf, node, Forms, none, more, pick, count}
 use Rattle.one_point.specs.Replacement.{left, right, offer, indexOf, offerOf, above, Taken, taken, nothing, allowed, ofOffer, accept}
@@ -148,7 +149,7 @@ module _ (R : Reading) (θ : Env) (n : ℕ) where
   negate-node : (t : ℕ) (o : List ℕ) (f : Form) (fs : Forms) (z : Bool) → eqb t 8 ≡ z
       → truth (value R θ (pick z f (node 8 [] [] (more (node t o [] (more f fs)) none)))) ≡ not (truth (value R θ (node t o [] (more f fs))))
   negate-node t o f fs true q =
-      let z : t ≡ 8 = eqb→eq t 8 (rw q tt) in
+      let z : t ≡ 8 = eqb-true t 8 q in
       rw (z, not-value o f fs, Bool·not-not)
   negate-node t o f fs false q = not-value [] (node t o [] (more f fs)) none
 

@@ -4,7 +4,8 @@ use mathlib.Core.List.{List, [], _∷_}
 use mathlib.Core.Bool.{Bool, true, false, not, _&&_, _||_, and-true, and-false, or-false}
 use Prim.Native.Nat.{ℕ, suc}
 use native.Mathlib.Omega.{arith}
-use lib.Dec.{eqb, eqb→eq}
+use borrow.Author.Tests.{eqb-true}
+use lib.Dec.{eqb}
 use Rattle.tree.specs.Form.{Form, leaf, node, Forms, none, more, pick, count}
 use Rattle.form.proofs.DecodeLaws.{clash}
 use Rattle.subst.proofs.WalkLaws.{and-left}
@@ -14,16 +15,13 @@ use Rattle.reading.specs.Reading.{Reading, meaning, Env, value, values}
 use Rattle.reading.proofs.ScanLaws.{Tied, TiedAll, all, junctionOf, junction-value, rejoin-tied, follow-tied, negated-tied, implied-tied, equality-tied}
 
 -- the tags that have a role
-tag-of : (t u : ℕ) → eqb t u ≡ true → t ≡ u
-tag-of t u q = eqb→eq t u (rw q tt)
-
 junction-tag : (b : Bool) (R : Reading) (θ : Env) (n t : ℕ) → (eqb t 351 && b || eqb t 352 && not b) ≡ true → meaning t ≡ junctionOf R θ n b
 unfolding meaning
 junction-tag true R θ n t q =
-    let z : t ≡ 351 = tag-of t 351 (rw (and-true, and-false, or-false) at q) in
+    let z : t ≡ 351 = eqb-true t 351 (rw (and-true, and-false, or-false) at q) in
     rw z
 junction-tag false R θ n t q =
-    let z : t ≡ 352 = tag-of t 352 (rw (and-false, and-true) at q) in
+    let z : t ≡ 352 = eqb-true t 352 (rw (and-false, and-true) at q) in
     rw z
 
 module _ (R : Reading) (θ : Env) (n : ℕ) where
@@ -47,9 +45,9 @@ module _ (R : Reading) (θ : Env) (n : ℕ) where
       → Tied R θ n b (node t o [] ks) (with (λ gs. negated (firstOf gs)) (scanAll n (not b) b ks))
   unfolding scan
   negation-tied b t o none q s h = absurd (clash cc)
-  negation-tied b t o (more f none) q s h = negated-tied R θ n b t o f (scan n (not b) f) (tag-of t 8 q) (h .0 (not b))
+  negation-tied b t o (more f none) q s h = negated-tied R θ n b t o f (scan n (not b) f) (eqb-true t 8 q) (h .0 (not b))
   negation-tied b t o (more f (more g gs)) q s h =
-      let z : suc (suc (count gs)) ≡ 1 = tag-of (suc (suc (count gs))) 1 s in
+      let z : suc (suc (count gs)) ≡ 1 = eqb-true (suc (suc (count gs))) 1 s in
       absurd (omega arith)
 
   implication-tied : (b : Bool) (t : ℕ) (o : List ℕ) (ks : Forms) → (eqb t 251 && not b) ≡ true → isTwo ks ≡ true → Children ks
@@ -61,7 +59,7 @@ module _ (R : Reading) (θ : Env) (n : ℕ) where
   implication-tied false t o none q s h = absurd (clash cc)
   implication-tied false t o (more l none) q s h = absurd (clash cc)
   implication-tied false t o (more l (more r none)) q s h =
-      implied-tied R θ n t o l r (scan n true l) (scan n false r) (tag-of t 251 (and-left (eqb t 251) true q)) (h .0 true) (h .1 .0 false)
+      implied-tied R θ n t o l r (scan n true l) (scan n false r) (eqb-true t 251 (and-left (eqb t 251) true q)) (h .0 true) (h .1 .0 false)
   implication-tied false t o (more l (more r (more f fs))) q s h = absurd (clash cc)
 
   tie-tied : (b : Bool) (t : ℕ) (o : List ℕ) (ks : Forms) → (eqb t 101 && b) ≡ true → isTwo ks ≡ true
@@ -71,7 +69,7 @@ module _ (R : Reading) (θ : Env) (n : ℕ) where
       absurd (clash cc)
   tie-tied true t o none q s = absurd (clash cc)
   tie-tied true t o (more l none) q s = absurd (clash cc)
-  tie-tied true t o (more l (more r none)) q s = equality-tied R θ n t o l r (tag-of t 101 (and-left (eqb t 101) true q))
+  tie-tied true t o (more l (more r none)) q s = equality-tied R θ n t o l r (eqb-true t 101 (and-left (eqb t 101) true q))
   tie-tied true t o (more l (more r (more f fs))) q s = absurd (clash cc)
 
   -- what the scan makes of a node that declares nothing, in a role

@@ -2,48 +2,50 @@
 use mathlib.Core.Path.{_≡_, refl, ap, sym, _∙_}
 use mathlib.Core.Bool.{Bool, true, false, _||_}
 use mathlib.Core.List.{List, [], _∷_, _++_, append-assoc, append-nil}
-use Prim.Native.Nat.{ℕ, zero, suc, _+_, _-_, _≤_, _<_}
+use Prim.Native.Nat.{ℕ, zero, suc, _+_, _≤_, _<_}
 use native.Mathlib.Nat.{add-zero}
 use native.Mathlib.Omega.{arith}
 use borrow.Author.Tests.{eqb-true, leb-true, le-ltb}
 use lib.Dec.{leb, eqb, ltb}
 use lib.ListN.{length, getD, take, drop, replicate, length-append, take-append-drop}
 use lib.Seq.{drop-at}
-use Rattle.tree.specs.Form.{Form, leaf, node, Forms, none, more, pick, between, encode, encodeAll}
-use Rattle.tree.specs.Tag.{Sort, expr, pred, Own, ask, kids, own, ownOf, shapeOf, predTags, sorts}
+use Rattle.tree.specs.Form.{Form, node, Forms, none, more, pick, between, encode, encodeAll}
+use Rattle.tree.specs.Tag.{pred, ask, kids, own, ownOf, shapeOf, predTags, sorts}
 use Rattle.form.specs.Decode.{Head, head, bad, addWord, addName, only, names, read, isLeaf}
 use Rattle.form.specs.Internal.Reads.{mark}
 use Rattle.form.proofs.DecodeLaws.{clash, Ok, ok-node, OkAll, ok-none, ok-more}
 use Rattle.subst.specs.Internal.Items.{items}
 use Rattle.subst.proofs.WalkLaws.{and-left, and-right}
 use Rattle.subst.proofs.RowLaws.{itemsOf, marksOf, zeros, zeros-length, items-encode}
-use Rattle.replace.specs.Fill.{Quantified, quantifier, other, quantified}
+use Rattle.replace.specs.Fill.{quantifier, other, quantified}
 use Rattle.replace.specs.Internal.Pieces.{declaredIn}
 use Rattle.replace.proofs.MarkLaws.{only-mark}
 
--- what was read after a quantifier's tag
-name-count : (b : Bool) (w : ℕ) (h : Head) (o ds : List ℕ) (p e n : ℕ) (r : List ℕ) → only b (addName w h) ≡ head o ds p e r
-    → ((o′ ds′ : List ℕ) (p′ e′ : ℕ) (r′ : List ℕ) → h ≡ head o′ ds′ p′ e′ r′ → (o′ ≡ []) × (length ds′ ≡ n) × (p′ ≡ 1) × (e′ ≡ 0)) → (o ≡ []) × (length ds ≡ suc n) × (p ≡ 1) × (e ≡ 0)
-name-count true w (head o′ ds′ p′ e′ r′) o ds p e n r q k =
-    let z = k o′ ds′ p′ e′ r′ refl in
-    let a : o′ ≡ o = cc in
-    let b : w ∷ ds′ ≡ ds = cc in
-    let c : p′ ≡ p = cc in
-    let d : e′ ≡ e = cc in
-    rw (← a, ← b, ← c, ← d) (z .0, ap suc (z .1), z .2, z .3)
-name-count true w bad o ds p e n r q k = absurd (clash cc)
-name-count false w h o ds p e n r q k = absurd (clash cc)
+-- a word or a name was read: what it was, and what was read after it
+pub only-word : (b : Bool) (w : ℕ) (h : Head) (o ds : List ℕ) (p e : ℕ) (r : List ℕ) → only b (addWord w h) ≡ head o ds p e r → (b ≡ true) × (o′ : List ℕ) × (w ∷ o′ ≡ o) × (h ≡ head o′ ds p e r)
+only-word true w (head o′ ds′ p′ e′ r′) o ds p e r q = (refl, o′, cc, cc)
+only-word true w bad o ds p e r q = absurd (clash cc)
+only-word false w h o ds p e r q = absurd (clash cc)
 
-names-count : (n : ℕ) (ws o ds : List ℕ) (p e : ℕ) (r : List ℕ) → names n 1 0 ws ≡ head o ds p e r → (o ≡ []) × (length ds ≡ n) × (p ≡ 1) × (e ≡ 0)
-names-count zero ws o ds p e r q =
+only-named : (b : Bool) (w : ℕ) (h : Head) (o ds : List ℕ) (p e : ℕ) (r : List ℕ) → only b (addName w h) ≡ head o ds p e r → (ds′ : List ℕ) × (w ∷ ds′ ≡ ds) × (h ≡ head o ds′ p e r)
+only-named true w (head o′ ds′ p′ e′ r′) o ds p e r q = (ds′, cc, cc)
+only-named true w bad o ds p e r q = absurd (clash cc)
+only-named false w h o ds p e r q = absurd (clash cc)
+
+pub names-count : (n p e : ℕ) (ws o ds : List ℕ) (p′ e′ : ℕ) (r : List ℕ) → names n p e ws ≡ head o ds p′ e′ r → (o ≡ []) × (length ds ≡ n) × (p′ ≡ p) × (e′ ≡ e)
+names-count zero p e ws o ds p′ e′ r q =
     let a : [] ≡ o = cc in
     let b : [] ≡ ds = cc in
-    let c : 1 ≡ p = cc in
-    let d : 0 ≡ e = cc in
-    rw (← a, ← b, ← c, ← d) (refl, refl, refl, refl)
-names-count (suc n) [] o ds p e r q = absurd (clash cc)
-names-count (suc n) (w ∷ ws) o ds p e r q = name-count (between 0 65535 w) w (names n 1 0 ws) o ds p e n r q (λ o′ ds′ p′ e′ r′ h. names-count n ws o′ ds′ p′ e′ r′ h)
+    let c : p ≡ p′ = cc in
+    let d : e ≡ e′ = cc in
+    (sym a, ap length (sym b), sym c, sym d)
+names-count (suc n) p e [] o ds p′ e′ r q = absurd (clash cc)
+names-count (suc n) p e (w ∷ ws) o ds p′ e′ r q =
+    let (ds′, a, h) = only-named (between 0 65535 w) w (names n p e ws) o ds p′ e′ r q in
+    let (x, y, z, v) = names-count n p e ws o ds′ p′ e′ r h in
+    (x, ap length (sym a) ∙ ap suc y, z, v)
 
+-- what was read after a quantifier's tag
 pub record Heading (o ds : List ℕ) (p e : ℕ) : Type 0 where
   pub words : o ≡ length ds ∷ []
   pub least : 1 ≤ length ds
@@ -51,25 +53,18 @@ pub record Heading (o ds : List ℕ) (p e : ℕ) : Type 0 where
   pub preds : p ≡ 1
   pub exprs : e ≡ 0
 
-heading-of : (b : Bool) (w : ℕ) (h : Head) (o ds : List ℕ) (p e : ℕ) (r : List ℕ) → between 1 32 w ≡ b → only b (addWord w h) ≡ head o ds p e r
-    → ((o′ ds′ : List ℕ) (p′ e′ : ℕ) (r′ : List ℕ) → h ≡ head o′ ds′ p′ e′ r′ → (o′ ≡ []) × (length ds′ ≡ w) × (p′ ≡ 1) × (e′ ≡ 0)) → Heading o ds p e
-heading-of true w (head o′ ds′ p′ e′ r′) o ds p e r i q k =
-    let z = k o′ ds′ p′ e′ r′ refl in
-    let a : w ∷ o′ ≡ o = cc in
-    let b : ds′ ≡ ds = cc in
-    let c : p′ ≡ p = cc in
-    let d : e′ ≡ e = cc in
-    let x = leb-true 1 w (and-left (leb 1 w) (leb w 32) i) in
-    let y = leb-true w 32 (and-right (leb 1 w) (leb w 32) i) in
-    let n = z .1 in
-    rw (← a, ← b, ← c, ← d) (record { words = rw (z .0, n); least = omega arith; most = omega arith; preds = z .2; exprs = z .3 })
-heading-of true w bad o ds p e r i q k = absurd (clash cc)
-heading-of false w h o ds p e r i q k = absurd (clash cc)
+heading-of : (w : ℕ) (o o′ ds : List ℕ) (p e : ℕ) → between 1 32 w ≡ true → w ∷ o′ ≡ o → (o′ ≡ []) × (length ds ≡ w) × (p ≡ 1) × (e ≡ 0) → Heading o ds p e
+heading-of w o o′ ds p e b x (z, n, s, t) =
+    let l = leb-true 1 w (and-left (leb 1 w) (leb w 32) b) in
+    let m = leb-true w 32 (and-right (leb 1 w) (leb w 32) b) in
+    record { words = sym x ∙ rw (z, n); least = omega arith; most = omega arith; preds = s; exprs = t }
 
 read-heading : (ws o ds : List ℕ) (p e : ℕ) (r : List ℕ) → read (ask 1 32 (λ n. kids n 1 0)) ws ≡ head o ds p e r → Heading o ds p e
 unfolding read
 read-heading [] o ds p e r q = absurd (clash cc)
-read-heading (w ∷ ws) o ds p e r q = heading-of (between 1 32 w) w (names w 1 0 ws) o ds p e r refl q (λ o′ ds′ p′ e′ r′ h. names-count w ws o′ ds′ p′ e′ r′ h)
+read-heading (w ∷ ws) o ds p e r q =
+    let (b, o′, x, h) = only-word (between 1 32 w) w (names w 1 0 ws) o ds p e r q in
+    heading-of w o o′ ds p e b x (names-count w 1 0 ws o′ ds p e r h)
 
 tag-851 : own pred 851 ≡ ask 1 32 (λ n. kids n 1 0)
 unfolding own ownOf shapeOf predTags

@@ -66,7 +66,7 @@ fn replace_in(
 }
 
 // The head and what stands for the items from `from` on, as a form of the kind.
-pub fn replace(
+pub(crate) fn replace(
     kind: Kind,
     head: &[u32],
     plan: Plan,

@@ -24,7 +24,7 @@ fn clear(work: &mut [u32], at: usize, n: usize)
 }
 
 // The check of the row, which marks it at the start of the work row.
-pub fn mark_row(row: &[u32], kind: Kind, work: &mut [u32]) -> Answer
+pub(crate) fn mark_row(row: &[u32], kind: Kind, work: &mut [u32]) -> Answer
     requires { ⌜ length (now row) ≤ length (now work) ⌝ }
     ensures { λ r. ⌜ r ≡ told (checkOutcome kind (now (row .entry))) ⌝ }
     ensures { λ _. ⌜ Marked (formOf kind (now (row .entry))) (replicate (length (now (row .entry))) 0) (take (length (now (row .entry))) (now (work .exit))) ⌝ }
@@ -34,7 +34,7 @@ pub fn mark_row(row: &[u32], kind: Kind, work: &mut [u32]) -> Answer
 }
 
 // The entries of the list, which are marked from word 8,192 of the work row on.
-pub fn mark_entries(list: &[u32], kind: ListKind, work: &mut [u32]) -> Listed
+pub(crate) fn mark_entries(list: &[u32], kind: ListKind, work: &mut [u32]) -> Listed
     requires { ⌜ 8192 + length (now list) ≤ length (now work) ⌝ }
     ensures { λ r. ⌜ Listing (listOf kind (now (list .entry))) (replicate (length (now (list .entry))) 0) (take (length (now (list .entry))) (drop 8192 (now (work .exit)))) r ⌝ }
     ensures { λ _. ⌜ take 8192 (now (work .exit)) ≡ take 8192 (now (work .entry)) ⌝ }

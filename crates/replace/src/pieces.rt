@@ -61,7 +61,7 @@ fn one_if(w: u32) -> u32
 }
 
 // How many of the words from `from` on are not 0.
-pub fn filled_from(words: &[u32], from: usize) -> u32
+pub(crate) fn filled_from(words: &[u32], from: usize) -> u32
     requires { ⌜ length (now words) ≤ 32 ⌝ }
     ensures { λ r. ⌜ r ≡ filledWords (drop from (now (words .entry))) ⌝ }
 {
@@ -150,7 +150,7 @@ fn piece_size(piece: Piece, it: Item) -> usize
 }
 
 // How many words stand for the items from `from` on; 8,193 for any number above 8,192.
-pub fn words_needed(plan: Plan, row: &[u32], marks: &[u32], from: usize) -> usize
+pub(crate) fn words_needed(plan: Plan, row: &[u32], marks: &[u32], from: usize) -> usize
     requires { ⌜ Tabled plan ⌝ }
     ensures { λ r. ⌜ r ≡ capped (sizes plan (items (drop from (now (row .entry))) (drop from (now (marks .entry))))) ⌝ }
 {
@@ -169,7 +169,7 @@ pub fn words_needed(plan: Plan, row: &[u32], marks: &[u32], from: usize) -> usiz
 }
 
 // The words of a row with its dangling indices moved, stored at `at`.
-pub fn write_part(row: &[u32], marks: &[u32], up: u32, down: u32, out: &mut [u32], at: usize)
+pub(crate) fn write_part(row: &[u32], marks: &[u32], up: u32, down: u32, out: &mut [u32], at: usize)
     requires { ⌜ at + length (now row) ≤ length (now out) ⌝ }
     ensures { λ _. ⌜ now (out .exit) ≡ store (now (out .entry)) at (rewritten (movedWords up down) (items (now (row .entry)) (now (marks .entry)))) ⌝ }
 {
@@ -202,7 +202,7 @@ fn write_piece(list: &[u32], list_marks: &[u32], piece: Piece, it: Item, out: &m
 }
 
 // What stands for the items from `from` on, stored at `at`.
-pub fn write_pieces(
+pub(crate) fn write_pieces(
     plan: Plan,
     list: &[u32],
     list_marks: &[u32],

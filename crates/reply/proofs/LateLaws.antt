@@ -1,7 +1,7 @@
 -- A row's refusals before its command: 1, 2 and the 8 of its brackets. Assumes nothing.
 use mathlib.Core.Path.{_≡_, refl, ap, sym, _∙_}
 use mathlib.Core.Bool.{Bool, true, false, not, Bool·beq}
-use mathlib.Core.List.{List, [], _∷_, _++_}
+use mathlib.Core.List.{List, []}
 use mathlib.Core.Logic.{⊎-elim}
 use mathlib.Core.Option.{Option, none as absent, some}
 use Prim.Native.Nat.{ℕ, _≤_, _<_}
@@ -13,7 +13,7 @@ use Rattle.tree.specs.Form.{Form, pick}
 use Rattle.tree.specs.Tag.{Sort}
 use Rattle.form.specs.Decode.{Found, found, missing, formOf}
 use Rattle.form.specs.Lists.{Entry, listOf}
-use Rattle.form.specs.Answer.{Outcome, answer, refusal, told, written, within, ofFound, ofList, withForm, withList, needs, checkOutcome}
+use Rattle.form.specs.Answer.{Outcome, answer, refusal, told, written, within, ofFound, ofList, withForm, needs, checkOutcome}
 use Rattle.form.specs.Internal.Reads.{asExpr, Listing}
 use Rattle.form.specs.declared.answer.Kind.{Kind}
 use Rattle.form.specs.declared.answer.Kind.the-variants.{Either}

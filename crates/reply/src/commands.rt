@@ -10,7 +10,7 @@ ghost use mathlib.Core.Path.{_≡_};
 ghost use lib.IntN.{pos};
 ghost use lib.ListN.{length};
 ghost use Rattle.form.specs.Answer.{told, written};
-ghost use Rattle.line.specs.Line.{noList, listRow};
+ghost use Rattle.line.specs.Line.{noList};
 ghost use Rattle.line.specs.declared.head.Head.the-variants.{Shift, Free, Bind, Fill, Prune, Point, Member};
 ghost use Rattle.reply.specs.Internal.Parts.{Held, HeldBoth, formWords, partsOutcome};
 

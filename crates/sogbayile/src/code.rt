@@ -23,7 +23,7 @@ pub fn code_of(answer: Answer) -> u64
 }
 
 // The row that holds what lift answers in the upper 32 bits, and its length.
-pub fn part_code(length: usize, made: Made) -> u64
+pub(crate) fn part_code(length: usize, made: Made) -> u64
     requires { ⌜ ShortPart length made ⌝ }
     ensures { λ r. ⌜ r ≡ madeCode length made ⌝ }
 {

@@ -1,6 +1,5 @@
 // The set of places, exported as its two arrays and the number of declarations.
 use crate::code::refusal_code;
-use one_point::replacements::Offered;
 use one_point::replacements::Replacements;
 ghost use mathlib.Core.Path.{_≡_};
 ghost use Rattle.one_point.specs.Places.{newOf, offerAnswer};

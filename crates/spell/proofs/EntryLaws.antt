@@ -23,10 +23,7 @@ use Rattle.spell.specs.declared.print.Ends.the-variants.{End, Bad}
 use Rattle.spell.specs.declared.whole.Spelled.{Spelled}
 use Rattle.spell.specs.declared.whole.Spelled.the-variants.{Bytes, NotOne}
 use Rattle.spell.proofs.WriteLaws.{wrote-both, wrote-end, decimal-few}
-use Rattle.spell.proofs.PrintLaws.{spell-few, printed-end, printed-bad}
-
-same-end : (x x′ y y′ : ℕ) → x ≡ x′ → y ≡ y′ → End x y ≡ End x′ y′
-same-end x x′ y y′ e f = cc
+use Rattle.spell.proofs.PrintLaws.{spell-few, printed-end, printed-bad, same-end}
 
 -- one entry
 module _ (row : List ℕ) (at o : ℕ) where

@@ -48,7 +48,7 @@ mutual
       let b = length-append (encode f) (encodeAll fs) in
       omega arith
 
-same-end : (x x′ y y′ : ℕ) → x ≡ x′ → y ≡ y′ → End x y ≡ End x′ y′
+pub same-end : (x x′ y y′ : ℕ) → x ≡ x′ → y ≡ y′ → End x y ≡ End x′ y′
 same-end x x′ y y′ e f = cc
 
 -- an answer taken apart

@@ -1,5 +1,5 @@
 // Bytes and decimal words, written at a position of the output. Nothing is written past its end; positions are counted on.
-ghost use mathlib.Core.List.{List, [], _∷_};
+ghost use mathlib.Core.List.{[], _∷_};
 ghost use Prim.Native.Nat.{_+_, _-_, _*_, _^_, _<_, _≤_};
 ghost use lib.ListN.{length, take, drop};
 ghost use Rattle.spell.specs.Spell.{digits, decimal, spaced};

@@ -3,7 +3,6 @@ use crate::print::Ends;
 use crate::print::print_expr;
 use crate::print::print_pred;
 use form::answer::Kind;
-ghost use mathlib.Core.Path.{_≡_};
 ghost use Prim.Native.Nat.{_≤_};
 ghost use lib.ListN.{length};
 ghost use Rattle.tree.specs.Form.{pick};

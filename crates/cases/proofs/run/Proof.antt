@@ -4,9 +4,6 @@ use Prim.Native.Nat.{_≤_}
 use borrow.Author.Needs.{needs}
 use Rattle.cases.proofs.run.Statement.{statement}
 use Rattle.cases.proofs.run.Tie as tie
-use Rattle.cases.proofs.run.Reads as reads
-use Rattle.cases.proofs.run.Lts as lts
-use Rattle.cases.proofs.step.Reads as step-reads
 
 abbrev Inv-loop : tie.InvT-loop
 Inv-loop input at₀ left₀ at left = 0 ≤ left

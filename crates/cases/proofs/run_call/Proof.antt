@@ -4,10 +4,6 @@ use lib.Seq.{length-take-le}
 use borrow.Author.Needs.{needs}
 use Rattle.cases.proofs.run_call.Statement.{statement}
 use Rattle.cases.proofs.run_call.Tie as tie
-use Rattle.cases.proofs.run_call.Reads as reads
-use Rattle.cases.proofs.run_call.Lts as lts
-use Rattle.cases.proofs.print_answer.Reads as print-answer-reads
-use Rattle.cases.proofs.print_lift.Reads as print-lift-reads
 
 returns : tie.Need-returns
 returns c = search needs

@@ -4,12 +4,6 @@ use lib.Seq.{length-take-le}
 use borrow.Author.Needs.{needs}
 use Rattle.cases.proofs.run_rows.Statement.{statement}
 use Rattle.cases.proofs.run_rows.Tie as tie
-use Rattle.cases.proofs.run_rows.Reads as reads
-use Rattle.cases.proofs.run_rows.Lts as lts
-use Rattle.cases.proofs.run_call.Reads as run-call-reads
-use Rattle.cases.proofs.text.field.Reads as field-reads
-use Rattle.cases.proofs.text.read_words.Reads as read-words-reads
-use Rattle.cases.proofs.text.set_words.Reads as set-words-reads
 
 field-requires : tie.Need-field-requires
 field-requires c κs = search needs

@@ -5,11 +5,6 @@ use lib.ListN.{length}
 use borrow.Author.Needs.{needs}
 use Rattle.cell.proofs.run.Statement.{statement}
 use Rattle.cell.proofs.run.Tie as tie
-use Rattle.cell.proofs.run.Reads as reads
-use Rattle.cell.proofs.run.Lts as lts
-use Rattle.cell.proofs.step.Reads as step-reads
-use Rattle.turns.proofs.state.begin.Reads as begin-reads
-use Rattle.turns.proofs.turn.take_turn.Reads as take-turn-reads
 
 abbrev Inv-loop : tie.InvT-loop
 Inv-loop input₀ list₀ form₀ work₀ result₀ output₀ st₀ left₀ input list form work result output st left = (length input ≡ length input₀) × (length list ≡ length list₀) × (length form ≡ length form₀) × (length work ≡ length work₀) × (length result ≡ length result₀) × (length output ≡ length output₀)

@@ -4,10 +4,6 @@ use lib.Seq.{length-take-le}
 use borrow.Author.Needs.{needs}
 use Rattle.cell.proofs.write.Statement.{statement}
 use Rattle.cell.proofs.write.Tie as tie
-use Rattle.cell.proofs.write.Reads as reads
-use Rattle.cell.proofs.write.Lts as lts
-use Rattle.io.proofs.write_all.Reads as write-all-reads
-use Rattle.turns.proofs.state.after_write.Reads as after-write-reads
 
 slice-aggregate-write-all : tie.Need-slice-aggregate-write-all
 slice-aggregate-write-all c = sym (length-take-le _ _ (c .before .if1 .taken))

@@ -3,10 +3,6 @@ use Rattle.cursor.proofs.DeclaredLaws.{count-refused, count-none, count
 use borrow.Author.Needs.{needs}
 use Rattle.cursor.proofs.count_declarations.Statement.{statement}
 use Rattle.cursor.proofs.count_declarations.Tie as tie
-use Rattle.cursor.proofs.count_declarations.Reads as reads
-use Rattle.cursor.proofs.count_declarations.Lts as lts
-use Rattle.cursor.proofs.declared.Reads as declared-reads
-use Rattle.form.proofs.check.check.Reads as check-reads
 
 check-requires : tie.Need-check-requires
 check-requires c κs = search needs

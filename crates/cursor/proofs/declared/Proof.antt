@@ -5,9 +5,6 @@ use Rattle.cursor.proofs.DeclaredLaws.{opening-declared}
 use borrow.Author.Needs.{needs}
 use Rattle.cursor.proofs.declared.Statement.{statement}
 use Rattle.cursor.proofs.declared.Tie as tie
-use Rattle.cursor.proofs.declared.Reads as reads
-use Rattle.cursor.proofs.declared.Lts as lts
-use Rattle.cursor.proofs.read_opening.Reads as read-opening-reads
 
 read-opening-requires : tie.Need-read-opening-requires
 read-opening-requires c κs = search needs

@@ -4,8 +4,6 @@ use Rattle.cursor.specs.Read.{nextAt}
 use borrow.Author.Needs.{needs}
 use Rattle.cursor.proofs.next_at.Statement.{statement}
 use Rattle.cursor.proofs.next_at.Tie as tie
-use Rattle.cursor.proofs.next_at.Reads as reads
-use Rattle.cursor.proofs.next_at.Lts as lts
 
 add-result : tie.Need-add-result
 add-result c = search needs

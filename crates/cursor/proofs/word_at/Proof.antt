@@ -4,8 +4,6 @@ use lib.ListN.{List·getD-eq-default}
 use borrow.Author.Needs.{needs}
 use Rattle.cursor.proofs.word_at.Statement.{statement}
 use Rattle.cursor.proofs.word_at.Tie as tie
-use Rattle.cursor.proofs.word_at.Reads as reads
-use Rattle.cursor.proofs.word_at.Lts as lts
 
 mul-result : tie.Need-mul-result
 mul-result c = search needs

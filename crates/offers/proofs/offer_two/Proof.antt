@@ -5,10 +5,6 @@ use Rattle.offers.proofs.OfferLaws.{none-offered, one-offered, both-off
 use borrow.Author.Needs.{needs}
 use Rattle.offers.proofs.offer_two.Statement.{statement}
 use Rattle.offers.proofs.offer_two.Tie as tie
-use Rattle.offers.proofs.offer_two.Reads as reads
-use Rattle.offers.proofs.offer_two.Lts as lts
-use Rattle.offers.proofs.offer_once.Reads as offer-once-reads
-use Rattle.one_point.proofs.replacements.Replacements.new.Reads as new-reads
 
 new-requires : tie.Need-new-requires
 new-requires c κs = search needs

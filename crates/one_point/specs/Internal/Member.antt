@@ -1,10 +1,10 @@
 -- Membership by words. The element stands in the row as it is; a part of it is shifted where it is written. No index of the shifted element
 -- is below the number of declarations, so that a part fills a place exactly if its side of the value is the index of a free one.
 use mathlib.Core.Path.{_≡_}
-use mathlib.Core.Bool.{Bool, true, false}
+use mathlib.Core.Bool.{Bool, true}
 use mathlib.Core.List.{List, [], _∷_, _++_, map}
 use mathlib.Core.Option.{Option, none as absent, some}
-use Prim.Native.Nat.{ℕ, suc, _+_, _-_, _*_, _≤_, _<_}
+use Prim.Native.Nat.{ℕ, suc, _+_, _-_, _≤_, _<_}
 use lib.Dec.{leb, ltb, eqb}
 use lib.ListN.{length, getD, take, drop, set, replicate}
 use Rattle.tree.specs.Form.{Form, node, Forms, none, more, pick, count, encode, encodeAll}

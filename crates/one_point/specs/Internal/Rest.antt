@@ -1,10 +1,10 @@
 -- A rest of declarations filled by the places of a table, and the front put round it, on words. The parts of the list row are moved down by
 -- the declarations of the rest.
-use mathlib.Core.Bool.{Bool, true, false, not, _&&_}
-use mathlib.Core.List.{List, [], _∷_, _++_}
+use mathlib.Core.Bool.{Bool, true, not, _&&_}
+use mathlib.Core.List.{List, [], _++_}
 use Prim.Native.Nat.{ℕ, _+_}
 use lib.Dec.{eqb}
-use lib.ListN.{length, getD, take, drop}
+use lib.ListN.{getD, take, drop}
 use Rattle.tree.specs.Form.{pick}
 use Rattle.form.specs.Answer.{Outcome}
 use Rattle.form.specs.declared.answer.Kind.the-variants.{Predicate}
@@ -12,6 +12,7 @@ use Rattle.form.specs.declared.lists.Table.{Table}
 use Rattle.subst.specs.Internal.Items.{items, rewritten}
 use Rattle.replace.specs.Internal.Pieces.{filledWords, planned, keptWords, headWords, emitted}
 use Rattle.replace.specs.declared.pieces.Plan.{Plan}
+use Rattle.one_point.specs.Split.{isNil}
 
 abbrev pub restPlan : Table → Plan
 restPlan t = record { table = t; fills = true; gone = filledWords (take (t .n) (t .words)); down = t .n }
@@ -20,13 +21,9 @@ restPlan t = record { table = t; fills = true; gone = filledWords (take (t .n) (
 abbrev pub restKept : Table → List ℕ → List ℕ
 restKept t rest = keptWords (take (t .n) (t .words)) rest
 
-abbrev pub isEmpty : List ℕ → Bool
-isEmpty [] = true
-isEmpty (n ∷ ns) = false
-
 -- whether the body's own quantifier joins the front: none of the rest stays, there is a front, and the operator is the same
 unfoldable pub joins : ℕ → List ℕ → List ℕ → List ℕ → Bool
-joins t front stay row = isEmpty stay && (not (isEmpty front) && eqb (getD row 0 0) t)
+joins t front stay row = isNil stay && (not (isNil front) && eqb (getD row 0 0) t)
 
 -- the words of the body's own head that leave it, and the names in them
 unfoldable pub innerEnd : ℕ → List ℕ → List ℕ → List ℕ → ℕ

@@ -1,14 +1,10 @@
 -- `replay::run` meets its contract. Assumes nothing.
-use mathlib.Core.Path.{_≡_, refl, sym, _∙_}
+use mathlib.Core.Path.{_≡_, refl, _∙_}
 use native.Mathlib.Omega.{arith}
 use lib.ListN.{length}
 use borrow.Author.Needs.{needs}
 use Rattle.replay.proofs.run.Statement.{statement}
 use Rattle.replay.proofs.run.Tie as tie
-use Rattle.replay.proofs.run.Reads as reads
-use Rattle.replay.proofs.run.Lts as lts
-use Rattle.replay.proofs.print_count.Reads as print-count-reads
-use Rattle.replay.proofs.turn.Reads as turn-reads
 
 abbrev Inv-loop : tie.InvT-loop
 Inv-loop input list₀ form₀ work₀ result₀ output₀ st₀ turns₀ going₀ t10 t11 list form work result output st turns going = (length list ≡ length list₀) × (length form ≡ length form₀) × (length work ≡ length work₀) × (length result ≡ length result₀) × (length output ≡ length output₀)

@@ -4,9 +4,6 @@ use lib.Seq.{length-take-le}
 use borrow.Author.Needs.{needs}
 use Rattle.cases.proofs.places.offer_words.Statement.{statement}
 use Rattle.cases.proofs.places.offer_words.Tie as tie
-use Rattle.cases.proofs.places.offer_words.Reads as reads
-use Rattle.cases.proofs.places.offer_words.Lts as lts
-use Rattle.offers.proofs.offer_once.Reads as offer-once-reads
 
 returns : tie.Need-returns
 returns c = search needs

@@ -1,17 +1,10 @@
 -- `cases::places::run` meets its contract. Assumes nothing.
 use mathlib.Core.Path.{_≡_, refl, _∙_}
 use native.Mathlib.Omega.{arith}
-use Prim.Native.Nat.{_-_, _≤_}
 use lib.ListN.{length}
 use borrow.Author.Needs.{needs}
 use Rattle.cases.proofs.places.run.Statement.{statement}
 use Rattle.cases.proofs.places.run.Tie as tie
-use Rattle.cases.proofs.places.run.Reads as reads
-use Rattle.cases.proofs.places.run.Lts as lts
-use Rattle.cases.proofs.places.first.Reads as first-reads
-use Rattle.cases.proofs.places.show.Reads as show-reads
-use Rattle.cases.proofs.places.step.Reads as step-reads
-use Rattle.cases.proofs.print.word.Reads as word-reads
 
 abbrev Inv-loop : tie.InvT-loop
 Inv-loop rows row₀ n force t₀ left₀ row t left = length row ≡ length row₀

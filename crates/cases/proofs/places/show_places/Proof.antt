@@ -1,13 +1,9 @@
 -- `cases::places::show_places` meets its contract. Assumes nothing.
 use native.Mathlib.Omega.{arith}
 use Prim.Native.Nat.{_-_, _≤_}
-use lib.ListN.{length}
 use borrow.Author.Needs.{needs}
 use Rattle.cases.proofs.places.show_places.Statement.{statement}
 use Rattle.cases.proofs.places.show_places.Tie as tie
-use Rattle.cases.proofs.places.show_places.Reads as reads
-use Rattle.cases.proofs.places.show_places.Lts as lts
-use Rattle.cases.proofs.places.show_place.Reads as show-place-reads
 
 abbrev Inv-loop : tie.InvT-loop
 Inv-loop places i₀ i = i ≤ 32

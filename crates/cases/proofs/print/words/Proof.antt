@@ -5,10 +5,6 @@ use lib.ListN.{length}
 use borrow.Author.Needs.{needs}
 use Rattle.cases.proofs.print.words.Statement.{statement}
 use Rattle.cases.proofs.print.words.Tie as tie
-use Rattle.cases.proofs.print.words.Reads as reads
-use Rattle.cases.proofs.print.words.Lts as lts
-use Rattle.cases.proofs.print.text.Reads as text-reads
-use Rattle.cases.proofs.print.word_at.Reads as word-at-reads
 
 abbrev Inv-loop : tie.InvT-loop
 Inv-loop row i₀ i = 0 ≤ i

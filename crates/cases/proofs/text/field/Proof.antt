@@ -1,15 +1,9 @@
 -- `cases::text::field` meets its contract. Assumes nothing.
 use native.Mathlib.Omega.{arith}
-use Prim.Native.Nat.{_-_, _≤_}
-use lib.ListN.{length}
+use Prim.Native.Nat.{_≤_}
 use borrow.Author.Needs.{needs}
 use Rattle.cases.proofs.text.field.Statement.{statement}
 use Rattle.cases.proofs.text.field.Tie as tie
-use Rattle.cases.proofs.text.field.Reads as reads
-use Rattle.cases.proofs.text.field.Lts as lts
-use Rattle.cases.proofs.text.find.Reads as find-reads
-use Rattle.cases.proofs.text.next_field.Reads as next-field-reads
-use Rattle.cases.proofs.text.part.Reads as part-reads
 
 abbrev Inv-loop : tie.InvT-loop
 Inv-loop line k span₀ left₀ span left = 0 ≤ left

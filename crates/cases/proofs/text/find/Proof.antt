@@ -4,8 +4,6 @@ use Prim.Native.Nat.{_-_, _≤_}
 use lib.ListN.{length}
 use Rattle.cases.proofs.text.find.Statement.{statement}
 use Rattle.cases.proofs.text.find.Tie as tie
-use Rattle.cases.proofs.text.find.Reads as reads
-use Rattle.cases.proofs.text.find.Lts as lts
 
 abbrev Inv-loop : tie.InvT-loop
 Inv-loop text at stop i₀ i = 0 ≤ i

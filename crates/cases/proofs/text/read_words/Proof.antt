@@ -1,15 +1,11 @@
 -- `cases::text::read_words` meets its contract. Assumes nothing.
 use mathlib.Core.Path.{_≡_, refl, _∙_}
 use native.Mathlib.Omega.{arith}
-use Prim.Native.Nat.{_-_, _≤_}
+use Prim.Native.Nat.{_-_}
 use lib.ListN.{length}
 use borrow.Author.Needs.{needs}
 use Rattle.cases.proofs.text.read_words.Statement.{statement}
 use Rattle.cases.proofs.text.read_words.Tie as tie
-use Rattle.cases.proofs.text.read_words.Reads as reads
-use Rattle.cases.proofs.text.read_words.Lts as lts
-use Rattle.cases.proofs.text.put_byte.Reads as put-byte-reads
-use Rattle.cases.proofs.text.put_word.Reads as put-word-reads
 
 abbrev Inv-loop : tie.InvT-loop
 Inv-loop text row₀ w₀ i₀ row w i = length row ≡ length row₀

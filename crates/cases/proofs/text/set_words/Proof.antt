@@ -1,14 +1,11 @@
 -- `cases::text::set_words` meets its contract. Assumes nothing.
 use mathlib.Core.Path.{_≡_, refl, _∙_}
 use native.Mathlib.Omega.{arith}
-use Prim.Native.Nat.{_-_, _≤_}
+use Prim.Native.Nat.{_-_}
 use lib.ListN.{length}
 use borrow.Author.Needs.{needs}
 use Rattle.cases.proofs.text.set_words.Statement.{statement}
 use Rattle.cases.proofs.text.set_words.Tie as tie
-use Rattle.cases.proofs.text.set_words.Reads as reads
-use Rattle.cases.proofs.text.set_words.Lts as lts
-use Rattle.cases.proofs.text.set_word.Reads as set-word-reads
 
 abbrev Inv-loop : tie.InvT-loop
 Inv-loop row₀ from to value i₀ row i = length row ≡ length row₀

@@ -5,12 +5,6 @@ use Rattle.line.specs.Scan.{turn}
 use borrow.Author.Needs.{needs}
 use Rattle.line.proofs.turn.next.Statement.{statement}
 use Rattle.line.proofs.turn.next.Tie as tie
-use Rattle.line.proofs.turn.next.Reads as reads
-use Rattle.line.proofs.turn.next.Lts as lts
-use Rattle.line.proofs.turn.after_close.Reads as after-close-reads
-use Rattle.line.proofs.turn.after_digit.Reads as after-digit-reads
-use Rattle.line.proofs.turn.after_open.Reads as after-open-reads
-use Rattle.line.proofs.turn.after_space.Reads as after-space-reads
 
 after-space-requires : tie.Need-after-space-requires
 after-space-requires c κs = search needs

@@ -3,8 +3,6 @@ use borrow.Author.Needs.{needs}
 use borrow.Author.Needs.{needs}
 use Rattle.one_point.proofs.children.one_more.Statement.{statement}
 use Rattle.one_point.proofs.children.one_more.Tie as tie
-use Rattle.one_point.proofs.children.one_more.Reads as reads
-use Rattle.one_point.proofs.children.one_more.Lts as lts
 
 returns : tie.Need-returns
 returns c = rw (c .if1 .taken)

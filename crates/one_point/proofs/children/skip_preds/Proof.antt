@@ -10,9 +10,6 @@ use Rattle.one_point.proofs.ScanLaws.{not-bad, next-at}
 use Rattle.one_point.proofs.ChildrenLaws.{kid-of, kid-length, kids-none, words-zero}
 use Rattle.one_point.proofs.children.skip_preds.Statement.{statement}
 use Rattle.one_point.proofs.children.skip_preds.Tie as tie
-use Rattle.one_point.proofs.children.skip_preds.Reads as reads
-use Rattle.one_point.proofs.children.skip_preds.Lts as lts
-use Rattle.one_point.proofs.scan.skip_pred.Reads as skip-pred-reads
 
 abbrev Inv-loop : tie.InvT-loop
 Inv-loop row at n depth p₀ left₀ p left = (p + length (encodeAll (kidsAt row depth p left)) ≡ at + length (encodeAll (kidsAt row depth at n))) × Kids row depth p left 0 (2 * length row)
@@ -42,7 +39,9 @@ loop-less : tie.Need-loop-less Inv-loop μ-loop
 loop-less c = search needs
 
 loop-again : tie.Need-loop-again Inv-loop μ-loop
-loop-again c = let x = kid-of (c .before .before .before .before .before .before .before .args .row .now) _ _ _ _ _ (c .before .before .before .before .before .loop .inv .1) (c .before .before .before .before .loop-test .taken) in let e = next-at (c .before .before .before .before .before .before .before .args .row .now) _ _ (x .form) (x .stands) _ _ (c .before .before .before .skip-pred .ensures) (c .before .q .given .1) in let l = kid-length x in let i = c .before .before .before .before .before .loop .inv .0 in rw e (omega arith, x .next 0 (omega arith))
+loop-again c =
+    let b3 = c .before .before .before in let b5 = b3 .before .before in let b7 = b5 .before .before in
+    let x = kid-of (b7 .args .row .now) _ _ _ _ _ (b5 .loop .inv .1) (b3 .before .loop-test .taken) in let e = next-at (b7 .args .row .now) _ _ (x .form) (x .stands) _ _ (b3 .skip-pred .ensures) (c .before .q .given .1) in let l = kid-length x in let i = b5 .loop .inv .0 in rw e (omega arith, x .next 0 (omega arith))
 
 returns-2 : tie.Need-returns-2 Inv-loop μ-loop
 returns-2 c = let k = ap (λ z. length (encodeAll z)) (kids-none (c .before .before .before .args .row .now) (c .before .before .before .args .depth) (c .before .loop .p) _ (c .loop-test .left)) in let z = words-zero in let i = c .before .loop .inv .0 in omega arith

@@ -1,7 +1,7 @@
 -- `one_point::filling::fill_body` meets its contract. Assumes nothing.
 use borrow.Author.Needs.{needs}
 use native.Mathlib.Omega.{arith}
-use mathlib.Core.Path.{_≡_, refl, ap, sym, _∙_}
+use mathlib.Core.Path.{refl, sym, _∙_}
 use lib.ListN.{length}
 use lib.Seq.{length-take-le}
 use Rattle.subst.proofs.CheckedLaws.{passed}
@@ -10,11 +10,6 @@ use Rattle.one_point.proofs.FillBodyLaws.{shape-inner, stay-names, stay
 use borrow.Author.Needs.{needs}
 use Rattle.one_point.proofs.filling.fill_body.Statement.{statement}
 use Rattle.one_point.proofs.filling.fill_body.Tie as tie
-use Rattle.one_point.proofs.filling.fill_body.Reads as reads
-use Rattle.one_point.proofs.filling.fill_body.Lts as lts
-use Rattle.one_point.proofs.filling.fill_kept.Reads as fill-kept-reads
-use Rattle.one_point.proofs.filling.keep_names.Reads as keep-names-reads
-use Rattle.one_point.proofs.filling.zeros_before.Reads as zeros-before-reads
 
 array-share-prefix-words : tie.Need-array-share-prefix-words
 array-share-prefix-words c = let m = c .before .before .before .before .before .before .before .pre .most in omega arith
@@ -26,13 +21,17 @@ slice-aggregate-keep-names-2 : tie.Need-slice-aggregate-keep-names-2
 slice-aggregate-keep-names-2 c = search needs
 
 keep-names-requires : tie.Need-keep-names-requires
-keep-names-requires c κs = let m = c .before .before .before .before .before .before .before .before .before .pre .most in let w = c .before .before .before .before .before .before .before .before .before .pre .table .words in (length-take-le (length (c .before .before .before .before .before .before .before .before .before .args .names .now)) (c .before .before .before .before .before .before .before .before .before .args .table .words) (omega arith), omega arith)
+keep-names-requires c κs =
+    let b9 = c .before .before .before .before .before .before .before .before .before in
+    let m = b9 .pre .most in let w = b9 .pre .table .words in (length-take-le (length (b9 .args .names .now)) (b9 .args .table .words) (omega arith), omega arith)
 
 array-share-prefix-words-2 : tie.Need-array-share-prefix-words-2
 array-share-prefix-words-2 c = let m = c .before .before .before .before .before .before .before .before .before .before .before .pre .most in omega arith
 
 slice-aggregate-zeros-before : tie.Need-slice-aggregate-zeros-before
-slice-aggregate-zeros-before c = sym (length-take-le _ _ (let m = c .before .before .before .before .before .before .before .before .before .before .before .before .pre .most in let w = c .before .before .before .before .before .before .before .before .before .before .before .before .pre .table .words in omega arith))
+slice-aggregate-zeros-before c =
+    let b12 = c .before .before .before .before .before .before .before .before .before .before .before .before in
+    sym (length-take-le _ _ (let m = b12 .pre .most in let w = b12 .pre .table .words in omega arith))
 
 zeros-before-requires : tie.Need-zeros-before-requires
 zeros-before-requires c κs = search needs
@@ -44,13 +43,17 @@ slice-aggregate-fill-kept : tie.Need-slice-aggregate-fill-kept
 slice-aggregate-fill-kept c = sym (length-take-le _ _ (built-fits (c .before .before .before .before .keep-names .kept .1 .1 .0) refl (c .before .before .before .before .keep-names .ensures .0)))
 
 fill-kept-requires : tie.Need-fill-kept-requires
-fill-kept-requires c κs = let s = stay-low (c .before .before .before .before .before .before .before .before .before .before .before .before .before .before .before .pre) _ _ (c .before .before .before .before .before .keep-names .ensures .1 ∙ stay-names (c .before .before .before .before .before .before .before .before .before .before .before .before .before .before .before .pre) _ refl) (c .before .before .zeros-before .ensures ∙ stay-front (c .before .before .before .before .before .before .before .before .before .before .before .before .before .before .before .pre) _ refl) in (rw (c .before .before .before .before .before .before .before .before .before .before .before .before .before .before .before .pre .words) (shape-inner (c .before .before .before .before .before .before .before .before .before .before .before .before .before .before .before .pre .shape)), s .0, s .1)
+fill-kept-requires c κs =
+    let b5 = c .before .before .before .before .before in let b15 = b5 .before .before .before .before .before .before .before .before .before .before in
+    let s = stay-low (b15 .pre) _ _ (b5 .keep-names .ensures .1 ∙ stay-names (b15 .pre) _ refl) (c .before .before .zeros-before .ensures ∙ stay-front (b15 .pre) _ refl) in (rw (b15 .pre .words) (shape-inner (b15 .pre .shape)), s .0, s .1)
 
 same-length : tie.Need-same-length
 same-length c = search needs
 
 returns : tie.Need-returns
-returns c = (λ x. passed _ _ _ _ _ (kept-told x _ _ _ (c .before .before .before .before .before .before .before .before .keep-names .ensures .1 ∙ stay-names x _ refl) (c .before .before .before .before .before .zeros-before .ensures ∙ stay-front x _ refl)) (c .before .before .fill-kept .ensures) .0, λ x. passed _ _ _ _ _ (kept-told x _ _ _ (c .before .before .before .before .before .before .before .before .keep-names .ensures .1 ∙ stay-names x _ refl) (c .before .before .before .before .before .zeros-before .ensures ∙ stay-front x _ refl)) (c .before .before .fill-kept .ensures) .1)
+returns c =
+    let b2 = c .before .before in let b5 = b2 .before .before .before in let b8 = b5 .before .before .before in
+    (λ x. passed _ _ _ _ _ (kept-told x _ _ _ (b8 .keep-names .ensures .1 ∙ stay-names x _ refl) (b5 .zeros-before .ensures ∙ stay-front x _ refl)) (b2 .fill-kept .ensures) .0, λ x. passed _ _ _ _ _ (kept-told x _ _ _ (b8 .keep-names .ensures .1 ∙ stay-names x _ refl) (b5 .zeros-before .ensures ∙ stay-front x _ refl)) (b2 .fill-kept .ensures) .1)
 
 pub fill-body-spec : {M : Type 1} → statement M
 fill-body-spec =

@@ -1,7 +1,7 @@
 -- `one_point::filling::fill_kept` meets its contract. Assumes nothing.
 use borrow.Author.Needs.{needs}
 use native.Mathlib.Omega.{arith}
-use mathlib.Core.Path.{_≡_, refl, ap, sym, _∙_}
+use mathlib.Core.Path.{refl, sym}
 use Prim.Native.Nat.{_-_}
 use lib.Dec.{ltb}
 use lib.ListN.{length, take, drop}
@@ -13,12 +13,6 @@ use Rattle.one_point.proofs.FillingLaws.{inner-from-fits, kept-room, ke
 use borrow.Author.Needs.{needs}
 use Rattle.one_point.proofs.filling.fill_kept.Statement.{statement}
 use Rattle.one_point.proofs.filling.fill_kept.Tie as tie
-use Rattle.one_point.proofs.filling.fill_kept.Reads as reads
-use Rattle.one_point.proofs.filling.fill_kept.Lts as lts
-use Rattle.one_point.proofs.filling.inner_from.Reads as inner-from-reads
-use Rattle.one_point.proofs.rest.inner_start.Reads as inner-start-reads
-use Rattle.one_point.proofs.rest.write_head.Reads as write-head-reads
-use Rattle.replace.proofs.places.fill_places.Reads as fill-places-reads
 
 slice-aggregate-inner-from : tie.Need-slice-aggregate-inner-from
 slice-aggregate-inner-from c = sym (length-take-le _ _ (c .before .before .before .before .before .before .before .before .pre .1))
@@ -57,22 +51,32 @@ inner-start-requires : tie.Need-inner-start-requires
 inner-start-requires c κs = search needs
 
 mul-write-head-2 : tie.Need-mul-write-head-2
-mul-write-head-2 c = let f = inner-from-fits (ltb (c .before .before .before .before .before .before .before .before .before .before .before .before .before .args .j) (c .before .before .before .before .before .before .before .before .before .before .before .before .before .args .table .n)) (take (c .before .before .before .before .before .before .before .before .before .before .before .before .before .args .j) (c .before .before .before .before .before .before .before .before .before .before .before .before .before .args .kept .now)) (take (length (c .before .before .before .before .before .before .before .before .before .before .before .before .before .args .kept .now) - c .before .before .before .before .before .before .before .before .before .before .before .before .before .args .j) (drop (c .before .before .before .before .before .before .before .before .before .before .before .before .before .args .j) (c .before .before .before .before .before .before .before .before .before .before .before .before .before .args .kept .now))) (c .before .before .before .before .before .before .before .before .before .before .before .before .before .args .body .now) (c .before .before .before .inner-from .result) (c .before .before .before .inner-from .ensures) (c .before .before .before .before .before .before .before .before .before .before .before .before .before .pre .0) in let a = f .0 in let b = f .1 in let d = f .2 in let s = c .inner-start .ensures in let l = start-low (c .before .before .before .inner-from .result) in omega arith
+mul-write-head-2 c =
+    let b3 = c .before .before .before in let b13 = b3 .before .before .before .before .before .before .before .before .before .before in
+    let f = inner-from-fits (ltb (b13 .args .j) (b13 .args .table .n)) (take (b13 .args .j) (b13 .args .kept .now)) (take (length (b13 .args .kept .now) - b13 .args .j) (drop (b13 .args .j) (b13 .args .kept .now))) (b13 .args .body .now) (b3 .inner-from .result) (b3 .inner-from .ensures) (b13 .pre .0) in let a = f .0 in let b = f .1 in let d = f .2 in let s = c .inner-start .ensures in let l = start-low (b3 .inner-from .result) in omega arith
 
 sub-write-head-2 : tie.Need-sub-write-head-2
-sub-write-head-2 c = let f = inner-from-fits (ltb (c .before .before .before .before .before .before .before .before .before .before .before .before .before .args .j) (c .before .before .before .before .before .before .before .before .before .before .before .before .before .args .table .n)) (take (c .before .before .before .before .before .before .before .before .before .before .before .before .before .args .j) (c .before .before .before .before .before .before .before .before .before .before .before .before .before .args .kept .now)) (take (length (c .before .before .before .before .before .before .before .before .before .before .before .before .before .args .kept .now) - c .before .before .before .before .before .before .before .before .before .before .before .before .before .args .j) (drop (c .before .before .before .before .before .before .before .before .before .before .before .before .before .args .j) (c .before .before .before .before .before .before .before .before .before .before .before .before .before .args .kept .now))) (c .before .before .before .before .before .before .before .before .before .before .before .before .before .args .body .now) (c .before .before .before .inner-from .result) (c .before .before .before .inner-from .ensures) (c .before .before .before .before .before .before .before .before .before .before .before .before .before .pre .0) in let a = f .0 in let b = f .1 in let d = f .2 in let s = c .inner-start .ensures in let l = start-low (c .before .before .before .inner-from .result) in omega arith
+sub-write-head-2 c =
+    let b3 = c .before .before .before in let b13 = b3 .before .before .before .before .before .before .before .before .before .before in
+    let f = inner-from-fits (ltb (b13 .args .j) (b13 .args .table .n)) (take (b13 .args .j) (b13 .args .kept .now)) (take (length (b13 .args .kept .now) - b13 .args .j) (drop (b13 .args .j) (b13 .args .kept .now))) (b13 .args .body .now) (b3 .inner-from .result) (b3 .inner-from .ensures) (b13 .pre .0) in let a = f .0 in let b = f .1 in let d = f .2 in let s = c .inner-start .ensures in let l = start-low (b3 .inner-from .result) in omega arith
 
 part-write-head-start-2 : tie.Need-part-write-head-start-2
-part-write-head-start-2 c = let f = inner-from-fits (ltb (c .before .before .before .before .before .before .before .before .before .before .before .before .before .args .j) (c .before .before .before .before .before .before .before .before .before .before .before .before .before .args .table .n)) (take (c .before .before .before .before .before .before .before .before .before .before .before .before .before .args .j) (c .before .before .before .before .before .before .before .before .before .before .before .before .before .args .kept .now)) (take (length (c .before .before .before .before .before .before .before .before .before .before .before .before .before .args .kept .now) - c .before .before .before .before .before .before .before .before .before .before .before .before .before .args .j) (drop (c .before .before .before .before .before .before .before .before .before .before .before .before .before .args .j) (c .before .before .before .before .before .before .before .before .before .before .before .before .before .args .kept .now))) (c .before .before .before .before .before .before .before .before .before .before .before .before .before .args .body .now) (c .before .before .before .inner-from .result) (c .before .before .before .inner-from .ensures) (c .before .before .before .before .before .before .before .before .before .before .before .before .before .pre .0) in let a = f .0 in let b = f .1 in let d = f .2 in let s = c .inner-start .ensures in let l = start-low (c .before .before .before .inner-from .result) in omega arith
+part-write-head-start-2 c =
+    let b3 = c .before .before .before in let b13 = b3 .before .before .before .before .before .before .before .before .before .before in
+    let f = inner-from-fits (ltb (b13 .args .j) (b13 .args .table .n)) (take (b13 .args .j) (b13 .args .kept .now)) (take (length (b13 .args .kept .now) - b13 .args .j) (drop (b13 .args .j) (b13 .args .kept .now))) (b13 .args .body .now) (b3 .inner-from .result) (b3 .inner-from .ensures) (b13 .pre .0) in let a = f .0 in let b = f .1 in let d = f .2 in let s = c .inner-start .ensures in let l = start-low (b3 .inner-from .result) in omega arith
 
 part-write-head-end-2 : tie.Need-part-write-head-end-2
-part-write-head-end-2 c = let f = inner-from-fits (ltb (c .before .before .before .before .before .before .before .before .before .before .before .before .before .args .j) (c .before .before .before .before .before .before .before .before .before .before .before .before .before .args .table .n)) (take (c .before .before .before .before .before .before .before .before .before .before .before .before .before .args .j) (c .before .before .before .before .before .before .before .before .before .before .before .before .before .args .kept .now)) (take (length (c .before .before .before .before .before .before .before .before .before .before .before .before .before .args .kept .now) - c .before .before .before .before .before .before .before .before .before .before .before .before .before .args .j) (drop (c .before .before .before .before .before .before .before .before .before .before .before .before .before .args .j) (c .before .before .before .before .before .before .before .before .before .before .before .before .before .args .kept .now))) (c .before .before .before .before .before .before .before .before .before .before .before .before .before .args .body .now) (c .before .before .before .inner-from .result) (c .before .before .before .inner-from .ensures) (c .before .before .before .before .before .before .before .before .before .before .before .before .before .pre .0) in let a = f .0 in let b = f .1 in let d = f .2 in let s = c .inner-start .ensures in let l = start-low (c .before .before .before .inner-from .result) in omega arith
+part-write-head-end-2 c =
+    let b3 = c .before .before .before in let b13 = b3 .before .before .before .before .before .before .before .before .before .before in
+    let f = inner-from-fits (ltb (b13 .args .j) (b13 .args .table .n)) (take (b13 .args .j) (b13 .args .kept .now)) (take (length (b13 .args .kept .now) - b13 .args .j) (drop (b13 .args .j) (b13 .args .kept .now))) (b13 .args .body .now) (b3 .inner-from .result) (b3 .inner-from .ensures) (b13 .pre .0) in let a = f .0 in let b = f .1 in let d = f .2 in let s = c .inner-start .ensures in let l = start-low (b3 .inner-from .result) in omega arith
 
 slice-aggregate-write-head-2 : tie.Need-slice-aggregate-write-head-2
 slice-aggregate-write-head-2 c = search needs
 
 write-head-requires : tie.Need-write-head-requires
-write-head-requires c κs = let f = inner-from-fits (ltb (c .before .before .before .before .before .before .before .before .before .before .before .before .before .before .before .args .j) (c .before .before .before .before .before .before .before .before .before .before .before .before .before .before .before .args .table .n)) (take (c .before .before .before .before .before .before .before .before .before .before .before .before .before .before .before .args .j) (c .before .before .before .before .before .before .before .before .before .before .before .before .before .before .before .args .kept .now)) (take (length (c .before .before .before .before .before .before .before .before .before .before .before .before .before .before .before .args .kept .now) - c .before .before .before .before .before .before .before .before .before .before .before .before .before .before .before .args .j) (drop (c .before .before .before .before .before .before .before .before .before .before .before .before .before .before .before .args .j) (c .before .before .before .before .before .before .before .before .before .before .before .before .before .before .before .args .kept .now))) (c .before .before .before .before .before .before .before .before .before .before .before .before .before .before .before .args .body .now) (c .before .before .before .before .before .inner-from .result) (c .before .before .before .before .before .inner-from .ensures) (c .before .before .before .before .before .before .before .before .before .before .before .before .before .before .before .pre .0) in (kept-room (c .before .before .before .before .before .before .before .before .before .before .before .before .before .before .before .args .kept .now) (c .before .before .before .before .before .before .before .before .before .before .before .before .before .before .before .args .body .now) (c .before .before .before .before .before .before .before .before .before .before .before .before .before .before .before .args .j) (c .before .before .before .before .before .inner-from .result) (c .before .before .inner-start .result) (c .before .before .before .before .before .before .before .before .before .before .before .before .before .before .before .pre .1) (c .before .before .before .before .before .before .before .before .before .before .before .before .before .before .before .pre .2) (c .before .before .inner-start .ensures) (f .2), omega arith)
+write-head-requires c κs =
+    let b2 = c .before .before in let b5 = b2 .before .before .before in let b15 = b5 .before .before .before .before .before .before .before .before .before .before in
+    let f = inner-from-fits (ltb (b15 .args .j) (b15 .args .table .n)) (take (b15 .args .j) (b15 .args .kept .now)) (take (length (b15 .args .kept .now) - b15 .args .j) (drop (b15 .args .j) (b15 .args .kept .now))) (b15 .args .body .now) (b5 .inner-from .result) (b5 .inner-from .ensures) (b15 .pre .0) in (kept-room (b15 .args .kept .now) (b15 .args .body .now) (b15 .args .j) (b5 .inner-from .result) (b2 .inner-start .result) (b15 .pre .1) (b15 .pre .2) (b2 .inner-start .ensures) (f .2), omega arith)
 
 array-share-prefix-head : tie.Need-array-share-prefix-head
 array-share-prefix-head c = search needs
@@ -87,7 +91,9 @@ same-length : tie.Need-same-length
 same-length c = search needs
 
 returns : tie.Need-returns
-returns c = passed _ _ _ _ _ (kept-row (c .before .before .before .before .before .before .before .before .before .before .before .before .before .before .before .before .before .before .before .before .before .before .args .row .now) (c .before .before .before .before .before .before .before .before .before .before .before .before .before .before .before .before .before .before .before .before .before .before .args .row-marks .now) (c .before .before .before .before .before .before .before .before .before .before .before .before .before .before .before .before .before .before .before .before .before .before .args .kept .now) (c .before .before .before .before .before .before .before .before .before .before .before .before .before .before .before .before .before .before .before .before .before .before .args .j) (c .before .before .before .before .before .before .before .before .before .before .before .before .before .before .before .before .before .before .before .before .before .before .args .table) (c .before .before .before .before .before .before .before .before .before .before .before .before .before .before .before .before .before .before .before .before .before .before .args .body .now) (c .before .before .before .before .before .before .before .before .before .before .before .before .before .before .before .before .before .before .before .before .before .before .args .marks .now) _ (c .before .before .before .before .before .before .before .before .before .before .before .before .inner-from .result) (c .before .before .before .before .before .before .before .before .before .inner-start .result) _ (c .before .before .before .before .before .before .before .before .before .before .before .before .inner-from .ensures) (c .before .before .before .before .before .before .before .before .before .inner-start .ensures) (c .before .before .before .before .before .before .write-head .ensures .1)) (c .before .before .fill-places .ensures)
+returns c =
+    let b6 = c .before .before .before .before .before .before in let b9 = b6 .before .before .before in let b12 = b9 .before .before .before in let b22 = b12 .before .before .before .before .before .before .before .before .before .before in
+    passed _ _ _ _ _ (kept-row (b22 .args .row .now) (b22 .args .row-marks .now) (b22 .args .kept .now) (b22 .args .j) (b22 .args .table) (b22 .args .body .now) (b22 .args .marks .now) _ (b12 .inner-from .result) (b9 .inner-start .result) _ (b12 .inner-from .ensures) (b9 .inner-start .ensures) (b6 .write-head .ensures .1)) (c .before .before .fill-places .ensures)
 
 pub fill-kept-spec : {M : Type 1} → statement M
 fill-kept-spec =

@@ -1,14 +1,7 @@
 -- `one_point::filling::inner_from` meets its contract. Assumes nothing.
-use borrow.Author.Needs.{needs}
-use native.Mathlib.Omega.{arith}
-use mathlib.Core.Path.{_≡_, refl, ap, sym, _∙_}
 use Rattle.one_point.proofs.FillingLaws.{inner-none, inner-some}
-use borrow.Author.Needs.{needs}
 use Rattle.one_point.proofs.filling.inner_from.Statement.{statement}
 use Rattle.one_point.proofs.filling.inner_from.Tie as tie
-use Rattle.one_point.proofs.filling.inner_from.Reads as reads
-use Rattle.one_point.proofs.filling.inner_from.Lts as lts
-use Rattle.one_point.proofs.rest.inner_end.Reads as inner-end-reads
 
 returns : tie.Need-returns
 returns c = inner-none (c .before .before .before .before .args .filled) _ _ _ (c .if1 .taken)

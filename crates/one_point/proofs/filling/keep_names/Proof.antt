@@ -9,8 +9,6 @@ use Rattle.replace.specs.Internal.Pieces.{keptWords}
 use Rattle.one_point.proofs.FillingLaws.{keep-pass, keep-more, keep-end}
 use Rattle.one_point.proofs.filling.keep_names.Statement.{statement}
 use Rattle.one_point.proofs.filling.keep_names.Tie as tie
-use Rattle.one_point.proofs.filling.keep_names.Reads as reads
-use Rattle.one_point.proofs.filling.keep_names.Lts as lts
 
 abbrev Inv-loop : tie.InvT-loop
 Inv-loop words names out₀ i₀ p₀ out i p = (keptWords words names ≡ take p out ++ keptWords (drop i words) (drop i names)) × (p ≤ i) × (i ≤ length words) × (length out ≡ length out₀)
@@ -40,7 +38,9 @@ loop-less : tie.Need-loop-less Inv-loop μ-loop
 loop-less c = search needs
 
 loop-again : tie.Need-loop-again Inv-loop μ-loop
-loop-again c = (c .before .before .before .before .loop .inv .0 ∙ ap (λ z. take (c .before .before .before .before .loop .p) (c .before .before .before .before .loop .out) ++ z) (keep-pass _ _ _ (c .before .before .before .loop-test .taken) (c .before .before .before .before .before .pre .0) (c .if1 .taken)), omega (arith, c .before .before .before .before .loop .inv .1), omega arith, c .before .before .before .before .loop .inv .3)
+loop-again c =
+    let b3 = c .before .before .before in let b4 = b3 .before in
+    (b4 .loop .inv .0 ∙ ap (λ z. take (b4 .loop .p) (b4 .loop .out) ++ z) (keep-pass _ _ _ (b3 .loop-test .taken) (b4 .before .pre .0) (c .if1 .taken)), omega (arith, b4 .loop .inv .1), omega arith, b4 .loop .inv .3)
 
 mul-out : tie.Need-mul-out Inv-loop μ-loop
 mul-out c = search needs
@@ -55,7 +55,9 @@ loop-less-2 : tie.Need-loop-less-2 Inv-loop μ-loop
 loop-less-2 c = search needs
 
 loop-again-2 : tie.Need-loop-again-2 Inv-loop μ-loop
-loop-again-2 c = (let a = c .before .before .before .before .loop .inv .1 in let b = c .before .before .before .before .loop .inv .3 in let d = c .before .before .before .before .before .pre in c .before .before .before .before .loop .inv .0 ∙ keep-more _ _ _ (c .before .before .before .loop-test .taken) (c .before .before .before .before .before .pre .0) (c .if1 .left) (c .before .before .before .before .loop .out) (c .before .before .before .before .loop .p) (omega arith), omega (arith, c .before .before .before .before .loop .inv .1), omega arith, simp length-set (c .before .before .before .before .loop .inv .3))
+loop-again-2 c =
+    let b3 = c .before .before .before in let b4 = b3 .before in let b5 = b4 .before in
+    (let a = b4 .loop .inv .1 in let b = b4 .loop .inv .3 in let d = b5 .pre in b4 .loop .inv .0 ∙ keep-more _ _ _ (b3 .loop-test .taken) (b5 .pre .0) (c .if1 .left) (b4 .loop .out) (b4 .loop .p) (omega arith), omega (arith, b4 .loop .inv .1), omega arith, simp length-set (b4 .loop .inv .3))
 
 same-length : tie.Need-same-length Inv-loop μ-loop
 same-length c = c .before .loop .inv .3

@@ -1,15 +1,13 @@
 -- `one_point::filling::zeros_before` meets its contract. Assumes nothing.
 use borrow.Author.Needs.{needs}
 use native.Mathlib.Omega.{arith}
-use mathlib.Core.Path.{_≡_, refl, ap, sym, _∙_}
+use mathlib.Core.Path.{_≡_, sym, _∙_}
 use Prim.Native.Nat.{_+_, _-_}
 use lib.ListN.{length, drop}
 use Rattle.one_point.specs.Internal.Member.{zerosBefore}
 use Rattle.one_point.proofs.FillingLaws.{zeros-more, zeros-stop, zeros-end}
 use Rattle.one_point.proofs.filling.zeros_before.Statement.{statement}
 use Rattle.one_point.proofs.filling.zeros_before.Tie as tie
-use Rattle.one_point.proofs.filling.zeros_before.Reads as reads
-use Rattle.one_point.proofs.filling.zeros_before.Lts as lts
 
 abbrev Inv-loop : tie.InvT-loop
 Inv-loop words i₀ i = zerosBefore words ≡ i + zerosBefore (drop i words)

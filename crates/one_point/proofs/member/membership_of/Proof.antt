@@ -1,16 +1,12 @@
 -- `one_point::member::membership_of` meets its contract. Assumes nothing.
 use borrow.Author.Needs.{needs}
 use native.Mathlib.Omega.{arith}
-use mathlib.Core.Path.{_≡_, refl, ap, sym, _∙_}
+use mathlib.Core.Path.{refl}
 use Rattle.one_point.specs.Internal.Member.{SetTold}
 use Rattle.one_point.proofs.SetLaws.{row-some, not-in, at-in, not-set, count-in, count-low, guard-ends, set-in}
 use borrow.Author.Needs.{needs}
 use Rattle.one_point.proofs.member.membership_of.Statement.{statement}
 use Rattle.one_point.proofs.member.membership_of.Tie as tie
-use Rattle.one_point.proofs.member.membership_of.Reads as reads
-use Rattle.one_point.proofs.member.membership_of.Lts as lts
-use Rattle.one_point.proofs.parts.expr_end.Reads as expr-end-reads
-use Rattle.one_point.proofs.scan.skip_pred.Reads as skip-pred-reads
 
 shared-slice-read-if1 : tie.Need-shared-slice-read-if1
 shared-slice-read-if1 c = let h = row-some (c .before .before .args .row .now) (c .before .before .pre .0) (c .before .before .pre .1) in omega arith
@@ -39,16 +35,24 @@ mul-n : tie.Need-mul-n
 mul-n c = let h = count-in (c .before .before .before .before .before .before .args .row .now) (c .before .before .before .before .before .before .pre .0) (c .before .before .before .before .before .before .pre .1) (c .before .before .before .if1 .left) _ (c .before .before .expr-end .ensures) (c .if2 .left) in omega arith
 
 shared-slice-read-n : tie.Need-shared-slice-read-n
-shared-slice-read-n c = let h = count-in (c .before .before .before .before .before .before .before .args .row .now) (c .before .before .before .before .before .before .before .pre .0) (c .before .before .before .before .before .before .before .pre .1) (c .before .before .before .before .if1 .left) _ (c .before .before .before .expr-end .ensures) (c .before .if2 .left) in omega arith
+shared-slice-read-n c =
+    let b3 = c .before .before .before in let b7 = b3 .before .before .before .before in
+    let h = count-in (b7 .args .row .now) (b7 .pre .0) (b7 .pre .1) (b3 .before .if1 .left) _ (b3 .expr-end .ensures) (c .before .if2 .left) in omega arith
 
 cast-guard : tie.Need-cast-guard
-cast-guard c = let h = count-low (c .before .before .before .before .before .before .before .args .row .now) (c .before .before .before .before .before .before .before .pre .0) (c .before .before .before .before .before .before .before .pre .1) (c .before .before .before .before .if1 .left) _ (c .before .before .before .expr-end .ensures) (c .before .if2 .left) _ refl in omega arith
+cast-guard c =
+    let b3 = c .before .before .before in let b7 = b3 .before .before .before .before in
+    let h = count-low (b7 .args .row .now) (b7 .pre .0) (b7 .pre .1) (b3 .before .if1 .left) _ (b3 .expr-end .ensures) (c .before .if2 .left) _ refl in omega arith
 
 add-guard : tie.Need-add-guard
-add-guard c = let h = count-low (c .before .before .before .before .before .before .before .args .row .now) (c .before .before .before .before .before .before .before .pre .0) (c .before .before .before .before .before .before .before .pre .1) (c .before .before .before .before .if1 .left) _ (c .before .before .before .expr-end .ensures) (c .before .if2 .left) _ refl in let k = count-in (c .before .before .before .before .before .before .before .args .row .now) (c .before .before .before .before .before .before .before .pre .0) (c .before .before .before .before .before .before .before .pre .1) (c .before .before .before .before .if1 .left) _ (c .before .before .before .expr-end .ensures) (c .before .if2 .left) in omega arith
+add-guard c =
+    let b3 = c .before .before .before in let b4 = b3 .before in let b7 = b4 .before .before .before in
+    let h = count-low (b7 .args .row .now) (b7 .pre .0) (b7 .pre .1) (b4 .if1 .left) _ (b3 .expr-end .ensures) (c .before .if2 .left) _ refl in let k = count-in (b7 .args .row .now) (b7 .pre .0) (b7 .pre .1) (b4 .if1 .left) _ (b3 .expr-end .ensures) (c .before .if2 .left) in omega arith
 
 add-guard-2 : tie.Need-add-guard-2
-add-guard-2 c = let h = count-low (c .before .before .before .before .before .before .before .args .row .now) (c .before .before .before .before .before .before .before .pre .0) (c .before .before .before .before .before .before .before .pre .1) (c .before .before .before .before .if1 .left) _ (c .before .before .before .expr-end .ensures) (c .before .if2 .left) _ refl in let k = count-in (c .before .before .before .before .before .before .before .args .row .now) (c .before .before .before .before .before .before .before .pre .0) (c .before .before .before .before .before .before .before .pre .1) (c .before .before .before .before .if1 .left) _ (c .before .before .before .expr-end .ensures) (c .before .if2 .left) in omega arith
+add-guard-2 c =
+    let b3 = c .before .before .before in let b4 = b3 .before in let b7 = b4 .before .before .before in
+    let h = count-low (b7 .args .row .now) (b7 .pre .0) (b7 .pre .1) (b4 .if1 .left) _ (b3 .expr-end .ensures) (c .before .if2 .left) _ refl in let k = count-in (b7 .args .row .now) (b7 .pre .0) (b7 .pre .1) (b4 .if1 .left) _ (b3 .expr-end .ensures) (c .before .if2 .left) in omega arith
 
 skip-pred-requires : tie.Need-skip-pred-requires
 skip-pred-requires c κs = search needs
@@ -60,11 +64,15 @@ enum-told : tie.Need-enum-told
 enum-told c = search needs
 
 returns-3 : tie.Need-returns-3
-returns-3 c = absurd (guard-ends (c .before .before .before .before .before .before .before .before .before .before .args .row .now) (c .before .before .before .before .before .before .before .before .before .before .pre .0) (c .before .before .before .before .before .before .before .before .before .before .pre .1) (c .before .before .before .before .before .before .before .if1 .left) _ (c .before .before .before .before .before .before .expr-end .ensures) (c .before .before .before .before .if2 .left) _ refl _ refl _ (c .before .before .skip-pred .ensures) (c .enum-told .given .1))
+returns-3 c =
+    let b4 = c .before .before .before .before in let b7 = b4 .before .before .before in let b10 = b7 .before .before .before in
+    absurd (guard-ends (b10 .args .row .now) (b10 .pre .0) (b10 .pre .1) (b7 .if1 .left) _ (b4 .before .before .expr-end .ensures) (b4 .if2 .left) _ refl _ refl _ (c .before .before .skip-pred .ensures) (c .enum-told .given .1))
 
 returns-4 : tie.Need-returns-4
 unfolding SetTold
-returns-4 c = set-in (c .before .before .before .before .before .before .before .before .before .before .before .args .row .now) (c .before .before .before .before .before .before .before .before .before .before .before .pre .0) (c .before .before .before .before .before .before .before .before .before .before .before .pre .1) (c .before .before .before .before .before .before .before .before .if1 .left) _ (c .before .before .before .before .before .before .before .expr-end .ensures) (c .before .before .before .before .before .if2 .left) _ refl _ refl _ (c .before .before .before .skip-pred .ensures) _ (c .before .value .given .1)
+returns-4 c =
+    let b3 = c .before .before .before in let b7 = b3 .before .before .before .before in let b11 = b7 .before .before .before .before in
+    set-in (b11 .args .row .now) (b11 .pre .0) (b11 .pre .1) (b7 .before .if1 .left) _ (b7 .expr-end .ensures) (b3 .before .before .if2 .left) _ refl _ refl _ (b3 .skip-pred .ensures) _ (c .before .value .given .1)
 
 pub membership-of-spec : {M : Type 1} → statement M
 membership-of-spec =

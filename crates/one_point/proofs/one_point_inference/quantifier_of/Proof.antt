@@ -4,9 +4,6 @@ use borrow.Author.Needs.{needs}
 use Rattle.one_point.proofs.PlaceLaws.{head-none, head-of, head-word}
 use Rattle.one_point.proofs.one_point_inference.quantifier_of.Statement.{statement}
 use Rattle.one_point.proofs.one_point_inference.quantifier_of.Tie as tie
-use Rattle.one_point.proofs.one_point_inference.quantifier_of.Reads as reads
-use Rattle.one_point.proofs.one_point_inference.quantifier_of.Lts as lts
-use Rattle.replace.proofs.fill.declared.Reads as declared-reads
 
 declared-requires : tie.Need-declared-requires
 declared-requires c κs = search needs

@@ -1,5 +1,5 @@
 -- `one_point::parts::accept` meets its contract. Assumes nothing.
-use mathlib.Core.Path.{refl, sym, _∙_}
+use mathlib.Core.Path.{sym, _∙_}
 use native.Mathlib.Omega.{arith}
 use borrow.Author.Tests.{lt-ltb, le-ltb, not-true, not-false}
 use Rattle.one_point.specs.Internal.Parts.{acceptWords}
@@ -7,10 +7,6 @@ use Rattle.one_point.proofs.AcceptLaws.{rule-within}
 use borrow.Author.Needs.{needs}
 use Rattle.one_point.proofs.parts.accept.Statement.{statement}
 use Rattle.one_point.proofs.parts.accept.Tie as tie
-use Rattle.one_point.proofs.parts.accept.Reads as reads
-use Rattle.one_point.proofs.parts.accept.Lts as lts
-use Rattle.one_point.proofs.sides.is_above.Reads as is-above-reads
-use Rattle.one_point.proofs.sides.match_replacement.Reads as match-replacement-reads
 
 match-replacement-requires : tie.Need-match-replacement-requires
 match-replacement-requires c κs = search needs

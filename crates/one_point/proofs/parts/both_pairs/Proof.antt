@@ -1,15 +1,13 @@
 -- `one_point::parts::both_pairs` meets its contract. Assumes nothing.
-use mathlib.Core.Path.{refl, sym, _∙_}
+use mathlib.Core.Path.{sym}
+use mathlib.Core.Bool.{and-false}
 use borrow.Author.Tests.{eq-eqb, ne-eqb}
 use lib.Dec.{eqb}
 use lib.ListN.{getD, List·getD-eq-default}
 use Rattle.one_point.specs.Internal.Parts.{bothPairs}
-use Rattle.one_point.proofs.PartsLaws.{and-false}
 use borrow.Author.Needs.{needs}
 use Rattle.one_point.proofs.parts.both_pairs.Statement.{statement}
 use Rattle.one_point.proofs.parts.both_pairs.Tie as tie
-use Rattle.one_point.proofs.parts.both_pairs.Reads as reads
-use Rattle.one_point.proofs.parts.both_pairs.Lts as lts
 
 returns : tie.Need-returns
 unfolding bothPairs

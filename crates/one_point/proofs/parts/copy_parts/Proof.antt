@@ -2,19 +2,14 @@
 use borrow.Author.Needs.{needs}
 use mathlib.Core.Path.{_≡_, refl, sym, _∙_}
 use mathlib.Core.List.{List}
-use Prim.Native.Nat.{ℕ, _+_, _-_}
+use Prim.Native.Nat.{ℕ, _-_}
 use lib.ListN.{length}
 use native.Mathlib.Omega.{arith}
 use Rattle.one_point.specs.Internal.Parts.{Beside, partsAt, PartsCopied}
-use Rattle.one_point.proofs.PartsLaws.{open-both, PartIs, part-of, beside-in}
+use Rattle.one_point.proofs.PartsLaws.{open-both, part-of, beside-in}
 use Rattle.one_point.proofs.PartsStepLaws.{parts-none, copied-none, left-is, middle-is, right-is, end-is, part-in, next-is, wrote-length, copy-on}
 use Rattle.one_point.proofs.parts.copy_parts.Statement.{statement}
 use Rattle.one_point.proofs.parts.copy_parts.Tie as tie
-use Rattle.one_point.proofs.parts.copy_parts.Reads as reads
-use Rattle.one_point.proofs.parts.copy_parts.Lts as lts
-use Rattle.one_point.proofs.parts.both_pairs.Reads as both-pairs-reads
-use Rattle.one_point.proofs.parts.part_at.Reads as part-at-reads
-use Rattle.one_point.proofs.parts.write_equal.Reads as write-equal-reads
 
 abbrev Inv-loop : tie.InvT-loop
 Inv-loop row at beside n out₀ pos k p₀ q₀ todo₀ w₀ count₀ out p q todo w count = ((e m : ℕ) (o : List ℕ) → PartsCopied (partsAt row p q todo) w out count e m o → PartsCopied (partsAt row at beside n) pos out₀ k e m o) × Beside row p q todo w count (length out) × (length out ≡ length out₀)
@@ -47,19 +42,27 @@ part-at-requires : tie.Need-part-at-requires Inv-loop μ-loop
 part-at-requires c κs = search needs
 
 write-equal-requires : tie.Need-write-equal-requires Inv-loop μ-loop
-write-equal-requires c κs = let x = (part-of _ (c .before .before .before .before .before .loop .inv .1) (c .before .before .before .before .loop-test .taken) (sym (c .before .before .before .both-pairs .ensures) ∙ c .before .before .if1 .left)) in let a = left-is x (c .before .part-at .result) (c .before .part-at .ensures) in let b = middle-is x (c .before .part-at .result) (c .before .part-at .ensures) in let d = right-is x (c .before .part-at .result) (c .before .part-at .ensures) in let e = end-is x (c .before .part-at .result) (c .before .part-at .ensures) in let r = x .room in let l = x .some-l in let m = x .some-r in (part-in x (c .before .part-at .result) (c .before .part-at .ensures), omega arith)
+write-equal-requires c κs =
+    let b3 = c .before .before .before in
+    let x = (part-of _ (b3 .before .before .loop .inv .1) (b3 .before .loop-test .taken) (sym (b3 .both-pairs .ensures) ∙ c .before .before .if1 .left)) in let a = left-is x (c .before .part-at .result) (c .before .part-at .ensures) in let b = middle-is x (c .before .part-at .result) (c .before .part-at .ensures) in let d = right-is x (c .before .part-at .result) (c .before .part-at .ensures) in let e = end-is x (c .before .part-at .result) (c .before .part-at .ensures) in let r = x .room in let l = x .some-l in let m = x .some-r in (part-in x (c .before .part-at .result) (c .before .part-at .ensures), omega arith)
 
 add-count : tie.Need-add-count Inv-loop μ-loop
-add-count c = let x = (part-of _ (c .before .before .before .before .before .before .before .before .loop .inv .1) (c .before .before .before .before .before .before .before .loop-test .taken) (sym (c .before .before .before .before .before .before .both-pairs .ensures) ∙ c .before .before .before .before .before .if1 .left)) in let f = x .few in let l = x .some-l in omega arith
+add-count c =
+    let b5 = c .before .before .before .before .before in let b8 = b5 .before .before .before in
+    let x = (part-of _ (b8 .loop .inv .1) (b5 .before .before .loop-test .taken) (sym (b5 .before .both-pairs .ensures) ∙ b5 .if1 .left)) in let f = x .few in let l = x .some-l in omega arith
 
 sub-todo : tie.Need-sub-todo Inv-loop μ-loop
 sub-todo c = search needs
 
 loop-less-2 : tie.Need-loop-less-2 Inv-loop μ-loop
-loop-less-2 c = let x = (part-of _ (c .before .before .before .before .before .before .before .before .loop .inv .1) (c .before .before .before .before .before .before .before .loop-test .taken) (sym (c .before .before .before .before .before .before .both-pairs .ensures) ∙ c .before .before .before .before .before .if1 .left)) in let a = left-is x (c .before .before .before .before .part-at .result) (c .before .before .before .before .part-at .ensures) in let b = middle-is x (c .before .before .before .before .part-at .result) (c .before .before .before .before .part-at .ensures) in let d = right-is x (c .before .before .before .before .part-at .result) (c .before .before .before .before .part-at .ensures) in let e = end-is x (c .before .before .before .before .part-at .result) (c .before .before .before .before .part-at .ensures) in let l = x .some-l in let m = x .some-r in let h = beside-in (c .before .before .before .before .before .before .before .before .loop .inv .1) (c .before .before .before .before .before .before .before .loop-test .taken) in omega arith
+loop-less-2 c =
+    let b4 = c .before .before .before .before in let b7 = b4 .before .before .before in let b8 = b7 .before in
+    let x = (part-of _ (b8 .loop .inv .1) (b7 .loop-test .taken) (sym (b4 .before .before .both-pairs .ensures) ∙ b4 .before .if1 .left)) in let a = left-is x (b4 .part-at .result) (b4 .part-at .ensures) in let b = middle-is x (b4 .part-at .result) (b4 .part-at .ensures) in let d = right-is x (b4 .part-at .result) (b4 .part-at .ensures) in let e = end-is x (b4 .part-at .result) (b4 .part-at .ensures) in let l = x .some-l in let m = x .some-r in let h = beside-in (b8 .loop .inv .1) (b7 .loop-test .taken) in omega arith
 
 loop-again-2 : tie.Need-loop-again-2 Inv-loop μ-loop
-loop-again-2 c = let x = (part-of _ (c .before .before .before .before .before .before .before .before .loop .inv .1) (c .before .before .before .before .before .before .before .loop-test .taken) (sym (c .before .before .before .before .before .before .both-pairs .ensures) ∙ c .before .before .before .before .before .if1 .left)) in let a = left-is x (c .before .before .before .before .part-at .result) (c .before .before .before .before .part-at .ensures) in let b = middle-is x (c .before .before .before .before .part-at .result) (c .before .before .before .before .part-at .ensures) in let d = right-is x (c .before .before .before .before .part-at .result) (c .before .before .before .before .part-at .ensures) in let e = end-is x (c .before .before .before .before .part-at .result) (c .before .before .before .before .part-at .ensures) in let u = wrote-length x (c .before .before .before .before .part-at .result) (c .before .before .before .before .part-at .ensures) _ _ _ (c .before .before .write-equal .ensures) in (λ e m o t. c .before .before .before .before .before .before .before .before .loop .inv .0 e m o (copy-on x (c .before .before .before .before .part-at .result) (c .before .before .before .before .part-at .ensures) _ _ _ (c .before .before .write-equal .ensures) e m o t), rw (c .before .before .write-equal .kept .1 .1 .0) (next-is x (c .before .before .before .before .part-at .result) (c .before .before .before .before .part-at .ensures) _ _ (omega arith) (omega arith)), c .before .before .write-equal .kept .1 .1 .0 ∙ c .before .before .before .before .before .before .before .before .loop .inv .2)
+loop-again-2 c =
+    let b2 = c .before .before in let b4 = b2 .before .before in let b7 = b4 .before .before .before in let b8 = b7 .before in
+    let x = (part-of _ (b8 .loop .inv .1) (b7 .loop-test .taken) (sym (b4 .before .before .both-pairs .ensures) ∙ b4 .before .if1 .left)) in let a = left-is x (b4 .part-at .result) (b4 .part-at .ensures) in let b = middle-is x (b4 .part-at .result) (b4 .part-at .ensures) in let d = right-is x (b4 .part-at .result) (b4 .part-at .ensures) in let e = end-is x (b4 .part-at .result) (b4 .part-at .ensures) in let u = wrote-length x (b4 .part-at .result) (b4 .part-at .ensures) _ _ _ (b2 .write-equal .ensures) in (λ e m o t. b8 .loop .inv .0 e m o (copy-on x (b4 .part-at .result) (b4 .part-at .ensures) _ _ _ (b2 .write-equal .ensures) e m o t), rw (b2 .write-equal .kept .1 .1 .0) (next-is x (b4 .part-at .result) (b4 .part-at .ensures) _ _ (omega arith) (omega arith)), b2 .write-equal .kept .1 .1 .0 ∙ b8 .loop .inv .2)
 
 same-length : tie.Need-same-length Inv-loop μ-loop
 same-length c = c .before .loop .inv .2

@@ -1,12 +1,9 @@
 -- `one_point::parts::expr_end` meets its contract. Assumes nothing.
-use mathlib.Core.Path.{refl, sym, _∙_}
+use mathlib.Core.Path.{sym, _∙_}
 use Rattle.one_point.specs.Internal.Parts.{partWords}
 use borrow.Author.Needs.{needs}
 use Rattle.one_point.proofs.parts.expr_end.Statement.{statement}
 use Rattle.one_point.proofs.parts.expr_end.Tie as tie
-use Rattle.one_point.proofs.parts.expr_end.Reads as reads
-use Rattle.one_point.proofs.parts.expr_end.Lts as lts
-use Rattle.one_point.proofs.sides.skip_expr.Reads as skip-expr-reads
 
 skip-expr-requires : tie.Need-skip-expr-requires
 skip-expr-requires c κs = search needs

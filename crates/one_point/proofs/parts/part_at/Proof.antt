@@ -3,9 +3,6 @@ use Rattle.one_point.specs.Internal.Parts.{partWords}
 use borrow.Author.Needs.{needs}
 use Rattle.one_point.proofs.parts.part_at.Statement.{statement}
 use Rattle.one_point.proofs.parts.part_at.Tie as tie
-use Rattle.one_point.proofs.parts.part_at.Reads as reads
-use Rattle.one_point.proofs.parts.part_at.Lts as lts
-use Rattle.one_point.proofs.parts.expr_end.Reads as expr-end-reads
 
 expr-end-requires : tie.Need-expr-end-requires
 expr-end-requires c κs = search needs

@@ -1,14 +1,11 @@
 -- `one_point::parts::write_equal` meets its contract. Assumes nothing.
-use mathlib.Core.Path.{refl, sym, _∙_}
+use mathlib.Core.Path.{_∙_}
 use native.Mathlib.Omega.{arith}
 use lib.ListN.{length-set}
 use Rattle.one_point.proofs.WriteLaws.{wrote-equal}
 use borrow.Author.Needs.{needs}
 use Rattle.one_point.proofs.parts.write_equal.Statement.{statement}
 use Rattle.one_point.proofs.parts.write_equal.Tie as tie
-use Rattle.one_point.proofs.parts.write_equal.Reads as reads
-use Rattle.one_point.proofs.parts.write_equal.Lts as lts
-use Rattle.one_point.proofs.writes.copy_part.Reads as copy-part-reads
 
 mul-out : tie.Need-mul-out
 mul-out c = search needs

@@ -8,10 +8,6 @@ use Rattle.subst.proofs.CheckedLaws.{passed}
 use Rattle.one_point.proofs.PlaceLaws.{told-marks, told-not-bad, resting, placed-row}
 use Rattle.one_point.proofs.reduce.place_in.Statement.{statement}
 use Rattle.one_point.proofs.reduce.place_in.Tie as tie
-use Rattle.one_point.proofs.reduce.place_in.Reads as reads
-use Rattle.one_point.proofs.reduce.place_in.Lts as lts
-use Rattle.form.proofs.reader.pred_at.Reads as pred-at-reads
-use Rattle.one_point.proofs.rest.put_rest.Reads as put-rest-reads
 
 add-pred-at : tie.Need-add-pred-at
 add-pred-at c = search needs
@@ -29,7 +25,9 @@ same-length : tie.Need-same-length
 same-length c = search needs
 
 returns : tie.Need-returns
-returns c = absurd (told-not-bad _ (c .before .before .before .before .before .before .before .before .before .before .before .before .pre .0 .form) _ [] _ _ _ (c .before .before .before .before .before .before .before .before .before .before .before .before .pre .0 .is-rest) (told-plain _ _ _ _ _ _ _ _ (omega arith) (omega arith) (c .before .before .before .before .pred-at .ensures)) (c .enum-told .given .1))
+returns c =
+    let b4 = c .before .before .before .before in let b12 = b4 .before .before .before .before .before .before .before .before in
+    absurd (told-not-bad _ (b12 .pre .0 .form) _ [] _ _ _ (b12 .pre .0 .is-rest) (told-plain _ _ _ _ _ _ _ _ (omega arith) (omega arith) (b4 .pred-at .ensures)) (c .enum-told .given .1))
 
 sub-p : tie.Need-sub-p
 sub-p c = search needs
@@ -38,7 +36,9 @@ sub-p-2 : tie.Need-sub-p-2
 sub-p-2 c = search needs
 
 put-rest-requires : tie.Need-put-rest-requires
-put-rest-requires c κs = resting (c .before .before .before .before .before .before .before .before .before .before .before .before .before .before .before .args .tag) (c .before .before .before .before .before .before .before .before .before .before .before .before .before .before .before .args .names .now) (c .before .before .before .before .before .before .before .before .before .before .before .before .before .before .before .args .target) (c .before .before .before .before .before .before .before .before .before .before .before .before .before .before .before .args .part .now) (c .before .before .before .before .before .before .before .before .before .before .before .before .before .before .before .args .rest .now) (c .before .before .before .before .before .before .before .before .before .before .before .before .before .before .before .pre .0) _ _ refl (c .before .before .before .before .before .before .before .before .before .before .before .before .before .before .before .pre .1 .enough)
+put-rest-requires c κs =
+    let b15 = c .before .before .before .before .before .before .before .before .before .before .before .before .before .before .before in
+    resting (b15 .args .tag) (b15 .args .names .now) (b15 .args .target) (b15 .args .part .now) (b15 .args .rest .now) (b15 .pre .0) _ _ refl (b15 .pre .1 .enough)
 
 same-length-2 : tie.Need-same-length-2
 same-length-2 c = search needs
@@ -47,7 +47,9 @@ same-length-3 : tie.Need-same-length-3
 same-length-3 c = search needs
 
 returns-2 : tie.Need-returns-2
-returns-2 c = passed _ _ _ _ _ (placed-row (c .before .before .before .before .before .before .before .before .before .before .before .before .before .before .before .before .before .before .args .tag) (c .before .before .before .before .before .before .before .before .before .before .before .before .before .before .before .before .before .before .args .names .now) (c .before .before .before .before .before .before .before .before .before .before .before .before .before .before .before .before .before .before .args .target) (c .before .before .before .before .before .before .before .before .before .before .before .before .before .before .before .before .before .before .args .part .now) (c .before .before .before .before .before .before .before .before .before .before .before .before .before .before .before .before .before .before .args .rest .now) (c .before .before .before .before .before .before .before .before .before .before .before .before .before .before .before .before .before .before .pre .0) (c .before .before .before .before .before .before .before .before .before .before .before .before .before .before .before .before .before .before .args .part-marks .now) (c .before .before .before .before .before .before .before .before .before .before .before .before .before .before .before .before .before .before .pre .1) (c .before .before .before .before .before .before .before .before .before .before .before .before .before .before .before .before .before .before .args .marks .now) _ (c .before .before .before .before .before .before .before .before .before .before .before .before .before .before .before .before .before .before .pre .2) (told-marks _ (c .before .before .before .before .before .before .before .before .before .before .before .before .before .before .before .before .before .before .pre .0 .form) _ [] _ _ _ (c .before .before .before .before .before .before .before .before .before .before .before .before .before .before .before .before .before .before .pre .0 .is-rest) (told-plain _ _ _ _ _ _ _ _ (omega arith) (omega arith) (c .before .before .before .before .before .before .before .before .before .before .pred-at .ensures))) _ refl _) (c .before .before .put-rest .ensures)
+returns-2 c =
+    let b10 = c .before .before .before .before .before .before .before .before .before .before in let b18 = b10 .before .before .before .before .before .before .before .before in
+    passed _ _ _ _ _ (placed-row (b18 .args .tag) (b18 .args .names .now) (b18 .args .target) (b18 .args .part .now) (b18 .args .rest .now) (b18 .pre .0) (b18 .args .part-marks .now) (b18 .pre .1) (b18 .args .marks .now) _ (b18 .pre .2) (told-marks _ (b18 .pre .0 .form) _ [] _ _ _ (b18 .pre .0 .is-rest) (told-plain _ _ _ _ _ _ _ _ (omega arith) (omega arith) (b10 .pred-at .ensures))) _ refl _) (c .before .before .put-rest .ensures)
 
 pub place-in-spec : {M : Type 1} → statement M
 place-in-spec =

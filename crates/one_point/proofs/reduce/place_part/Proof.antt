@@ -6,10 +6,6 @@ use Rattle.one_point.proofs.SidesLaws.{told-plain}
 use Rattle.one_point.proofs.PlaceLaws.{told-marks, told-not-bad, marking-of}
 use Rattle.one_point.proofs.reduce.place_part.Statement.{statement}
 use Rattle.one_point.proofs.reduce.place_part.Tie as tie
-use Rattle.one_point.proofs.reduce.place_part.Reads as reads
-use Rattle.one_point.proofs.reduce.place_part.Lts as lts
-use Rattle.form.proofs.reader.expr_at.Reads as expr-at-reads
-use Rattle.one_point.proofs.reduce.place_rest.Reads as place-rest-reads
 
 expr-at-requires : tie.Need-expr-at-requires
 expr-at-requires c κs = search needs
@@ -24,10 +20,14 @@ same-length : tie.Need-same-length
 same-length c = search needs
 
 returns : tie.Need-returns
-returns c = absurd (told-not-bad 0 (c .before .before .before .before .before .before .before .before .before .before .before .pre .0 .by) _ [] _ _ _ (c .before .before .before .before .before .before .before .before .before .before .before .pre .0 .is-part) (told-plain _ _ _ _ _ _ _ _ (omega arith) (omega arith) (c .before .before .before .before .expr-at .ensures)) (c .enum-told .given .1))
+returns c =
+    let b4 = c .before .before .before .before in let b11 = b4 .before .before .before .before .before .before .before in
+    absurd (told-not-bad 0 (b11 .pre .0 .by) _ [] _ _ _ (b11 .pre .0 .is-part) (told-plain _ _ _ _ _ _ _ _ (omega arith) (omega arith) (b4 .expr-at .ensures)) (c .enum-told .given .1))
 
 place-rest-requires : tie.Need-place-rest-requires
-place-rest-requires c κs = (c .before .before .before .before .before .before .before .before .before .before .before .before .before .before .pre .0, marking-of (c .before .before .before .before .before .before .before .before .before .before .before .before .before .before .args .part .now) (c .before .before .before .before .before .before .before .before .before .before .before .before .before .before .args .part-marks .now) _ (c .before .before .before .before .before .before .before .before .before .before .before .before .before .before .pre .0 .by) (c .before .before .before .before .before .before .before .before .before .before .before .before .before .before .pre .1) (c .before .before .before .before .before .before .before .before .before .before .before .before .before .before .pre .0 .is-part) (told-marks 0 (c .before .before .before .before .before .before .before .before .before .before .before .before .before .before .pre .0 .by) _ [] _ _ _ (c .before .before .before .before .before .before .before .before .before .before .before .before .before .before .pre .0 .is-part) (told-plain _ _ _ _ _ _ _ _ (omega arith) (omega arith) (c .before .before .before .before .before .before .before .expr-at .ensures))) (c .before .before .before .before .before .before .before .expr-at .kept .1 .0))
+place-rest-requires c κs =
+    let b7 = c .before .before .before .before .before .before .before in let b14 = b7 .before .before .before .before .before .before .before in
+    (b14 .pre .0, marking-of (b14 .args .part .now) (b14 .args .part-marks .now) _ (b14 .pre .0 .by) (b14 .pre .1) (b14 .pre .0 .is-part) (told-marks 0 (b14 .pre .0 .by) _ [] _ _ _ (b14 .pre .0 .is-part) (told-plain _ _ _ _ _ _ _ _ (omega arith) (omega arith) (b7 .expr-at .ensures))) (b7 .expr-at .kept .1 .0))
 
 same-length-2 : tie.Need-same-length-2
 same-length-2 c = search needs

@@ -5,8 +5,6 @@ use Rattle.subst.proofs.ItemLaws.{not-yes, not-no}
 use Rattle.one_point.proofs.PlaceLaws.{first-word}
 use Rattle.one_point.proofs.reduce.rest_end.Statement.{statement}
 use Rattle.one_point.proofs.reduce.rest_end.Tie as tie
-use Rattle.one_point.proofs.reduce.rest_end.Reads as reads
-use Rattle.one_point.proofs.reduce.rest_end.Lts as lts
 
 returns : tie.Need-returns
 returns c = (rw (not-yes (c .before .args .gone) (c .if1 .taken)), rw (not-yes (c .before .args .gone) (c .if1 .taken)))

@@ -3,8 +3,6 @@ use native.Mathlib.Omega.{arith}
 use Rattle.one_point.proofs.RestLaws.{inner-stay, inner-alone, inner-other, inner-joins}
 use Rattle.one_point.proofs.rest.inner_end.Statement.{statement}
 use Rattle.one_point.proofs.rest.inner_end.Tie as tie
-use Rattle.one_point.proofs.rest.inner_end.Reads as reads
-use Rattle.one_point.proofs.rest.inner_end.Lts as lts
 
 returns : tie.Need-returns
 returns c = inner-stay _ _ _ _ (c .if1 .taken)

@@ -2,8 +2,6 @@
 use borrow.Author.Tests.{eq-eqb, ne-eqb}
 use Rattle.one_point.proofs.rest.inner_start.Statement.{statement}
 use Rattle.one_point.proofs.rest.inner_start.Tie as tie
-use Rattle.one_point.proofs.rest.inner_start.Reads as reads
-use Rattle.one_point.proofs.rest.inner_start.Lts as lts
 
 returns : tie.Need-returns
 returns c = rw (eq-eqb _ _ (c .if1 .taken))

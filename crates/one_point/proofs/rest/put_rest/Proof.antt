@@ -10,13 +10,6 @@ use Rattle.replace.proofs.BuildLaws.{built-fits}
 use Rattle.one_point.proofs.RestLaws.{inner-fits, start-low, head-room, rest-put}
 use Rattle.one_point.proofs.rest.put_rest.Statement.{statement}
 use Rattle.one_point.proofs.rest.put_rest.Tie as tie
-use Rattle.one_point.proofs.rest.put_rest.Reads as reads
-use Rattle.one_point.proofs.rest.put_rest.Lts as lts
-use Rattle.one_point.proofs.rest.inner_end.Reads as inner-end-reads
-use Rattle.one_point.proofs.rest.inner_start.Reads as inner-start-reads
-use Rattle.one_point.proofs.rest.one_table.Reads as one-table-reads
-use Rattle.one_point.proofs.rest.write_head.Reads as write-head-reads
-use Rattle.replace.proofs.places.fill_places.Reads as fill-places-reads
 
 sub-n : tie.Need-sub-n
 sub-n c = search needs
@@ -43,7 +36,9 @@ inner-end-requires : tie.Need-inner-end-requires
 inner-end-requires c κs = search needs
 
 slice-aggregate-write-head : tie.Need-slice-aggregate-write-head
-slice-aggregate-write-head c = sym (length-take-le _ _ (let w = c .before .before .before .before .before .before .before .before .before .before .pre .within in let h : c .before .before .before .before .before .before .before .before .before .before .args .p ≤ length (c .before .before .before .before .before .before .before .before .before .before .args .names .now) = omega arith in h))
+slice-aggregate-write-head c =
+    let b10 = c .before .before .before .before .before .before .before .before .before .before in
+    sym (length-take-le _ _ (let w = b10 .pre .within in let h : b10 .args .p ≤ length (b10 .args .names .now) = omega arith in h))
 
 add-write-head : tie.Need-add-write-head
 add-write-head c = search needs
@@ -64,22 +59,32 @@ inner-start-requires : tie.Need-inner-start-requires
 inner-start-requires c κs = search needs
 
 mul-write-head-2 : tie.Need-mul-write-head-2
-mul-write-head-2 c = let f = (inner-fits (c .before .before .before .before .before .before .before .before .before .before .before .before .args .tag) (c .before .before .before .before .before .before .before .before .before .before .before .before .args .body .now) _ _ (c .before .before .before .inner-end .result) (c .before .before .before .inner-end .ensures) (c .before .before .before .before .before .before .before .before .before .before .before .before .pre .inner)) in let a = f .0 in let b = f .1 in let d = f .2 in let s = c .inner-start .ensures in let l = start-low (c .before .before .before .inner-end .result) in omega arith
+mul-write-head-2 c =
+    let b3 = c .before .before .before in let b12 = b3 .before .before .before .before .before .before .before .before .before in
+    let f = (inner-fits (b12 .args .tag) (b12 .args .body .now) _ _ (b3 .inner-end .result) (b3 .inner-end .ensures) (b12 .pre .inner)) in let a = f .0 in let b = f .1 in let d = f .2 in let s = c .inner-start .ensures in let l = start-low (b3 .inner-end .result) in omega arith
 
 sub-write-head-2 : tie.Need-sub-write-head-2
-sub-write-head-2 c = let f = (inner-fits (c .before .before .before .before .before .before .before .before .before .before .before .before .args .tag) (c .before .before .before .before .before .before .before .before .before .before .before .before .args .body .now) _ _ (c .before .before .before .inner-end .result) (c .before .before .before .inner-end .ensures) (c .before .before .before .before .before .before .before .before .before .before .before .before .pre .inner)) in let a = f .0 in let b = f .1 in let d = f .2 in let s = c .inner-start .ensures in let l = start-low (c .before .before .before .inner-end .result) in omega arith
+sub-write-head-2 c =
+    let b3 = c .before .before .before in let b12 = b3 .before .before .before .before .before .before .before .before .before in
+    let f = (inner-fits (b12 .args .tag) (b12 .args .body .now) _ _ (b3 .inner-end .result) (b3 .inner-end .ensures) (b12 .pre .inner)) in let a = f .0 in let b = f .1 in let d = f .2 in let s = c .inner-start .ensures in let l = start-low (b3 .inner-end .result) in omega arith
 
 part-write-head-start-2 : tie.Need-part-write-head-start-2
-part-write-head-start-2 c = let f = (inner-fits (c .before .before .before .before .before .before .before .before .before .before .before .before .args .tag) (c .before .before .before .before .before .before .before .before .before .before .before .before .args .body .now) _ _ (c .before .before .before .inner-end .result) (c .before .before .before .inner-end .ensures) (c .before .before .before .before .before .before .before .before .before .before .before .before .pre .inner)) in let a = f .0 in let b = f .1 in let d = f .2 in let s = c .inner-start .ensures in let l = start-low (c .before .before .before .inner-end .result) in omega arith
+part-write-head-start-2 c =
+    let b3 = c .before .before .before in let b12 = b3 .before .before .before .before .before .before .before .before .before in
+    let f = (inner-fits (b12 .args .tag) (b12 .args .body .now) _ _ (b3 .inner-end .result) (b3 .inner-end .ensures) (b12 .pre .inner)) in let a = f .0 in let b = f .1 in let d = f .2 in let s = c .inner-start .ensures in let l = start-low (b3 .inner-end .result) in omega arith
 
 part-write-head-end-2 : tie.Need-part-write-head-end-2
-part-write-head-end-2 c = let f = (inner-fits (c .before .before .before .before .before .before .before .before .before .before .before .before .args .tag) (c .before .before .before .before .before .before .before .before .before .before .before .before .args .body .now) _ _ (c .before .before .before .inner-end .result) (c .before .before .before .inner-end .ensures) (c .before .before .before .before .before .before .before .before .before .before .before .before .pre .inner)) in let a = f .0 in let b = f .1 in let d = f .2 in let s = c .inner-start .ensures in let l = start-low (c .before .before .before .inner-end .result) in omega arith
+part-write-head-end-2 c =
+    let b3 = c .before .before .before in let b12 = b3 .before .before .before .before .before .before .before .before .before in
+    let f = (inner-fits (b12 .args .tag) (b12 .args .body .now) _ _ (b3 .inner-end .result) (b3 .inner-end .ensures) (b12 .pre .inner)) in let a = f .0 in let b = f .1 in let d = f .2 in let s = c .inner-start .ensures in let l = start-low (b3 .inner-end .result) in omega arith
 
 slice-aggregate-write-head-2 : tie.Need-slice-aggregate-write-head-2
 slice-aggregate-write-head-2 c = search needs
 
 write-head-requires : tie.Need-write-head-requires
-write-head-requires c κs = (head-room (c .before .before .before .before .before .before .before .before .before .before .before .before .before .before .args .tag) (c .before .before .before .before .before .before .before .before .before .before .before .before .before .before .args .names .now) (c .before .before .before .before .before .before .before .before .before .before .before .before .before .before .args .p) (c .before .before .before .before .before .before .before .before .before .before .before .before .before .before .pre .within) (c .before .before .before .before .before .before .before .before .before .before .before .before .before .before .pre .few) (c .before .before .before .before .before .before .before .before .before .before .before .before .before .before .args .body .now) (c .before .before .before .before .before .before .before .before .before .before .before .before .before .before .pre .inner) (c .before .before .before .before .before .inner-end .result) (c .before .before .inner-start .result) (c .before .before .before .before .before .inner-end .ensures) (c .before .before .inner-start .ensures), omega arith)
+write-head-requires c κs =
+    let b2 = c .before .before in let b5 = b2 .before .before .before in let b14 = b5 .before .before .before .before .before .before .before .before .before in
+    (head-room (b14 .args .tag) (b14 .args .names .now) (b14 .args .p) (b14 .pre .within) (b14 .pre .few) (b14 .args .body .now) (b14 .pre .inner) (b5 .inner-end .result) (b2 .inner-start .result) (b5 .inner-end .ensures) (b2 .inner-start .ensures), omega arith)
 
 array-share-prefix-head : tie.Need-array-share-prefix-head
 array-share-prefix-head c = search needs
@@ -100,7 +105,9 @@ same-length : tie.Need-same-length
 same-length c = search needs
 
 returns : tie.Need-returns
-returns c = passed _ _ _ _ _ (rest-put (c .before .before .before .before .before .before .before .before .before .before .before .before .before .before .before .before .before .before .before .before .before .before .args .names .now) (c .before .before .before .before .before .before .before .before .before .before .before .before .before .before .before .before .before .before .before .before .before .before .args .p) (c .before .before .before .before .before .before .before .before .before .before .before .before .before .before .before .before .before .before .before .before .before .before .pre .within) (c .before .before .before .before .before .before .before .before .before .before .before .before .before .before .before .before .before .before .before .before .before .before .pre .few) (c .before .before .before .before .before .before .before .before .before .before .before .before .before .before .before .before .before .before .before .before .before .before .args .part .now) (c .before .before .before .before .before .before .before .before .before .before .before .before .before .before .before .before .before .before .before .before .before .before .args .part-marks .now) (c .before .before .before .before .before .before .before .before .before .before .before .before .before .before .before .before .before .before .before .before .before .before .pre .marked) (c .before .before .before .before .before .before .before .before .before .before .before .before .before .before .before .before .before .before .before .before .before .before .args .tag) _ (c .before .before .before .before .one-table .result) (c .before .before .before .before .one-table .ensures) (c .before .before .before .before .before .before .before .before .before .before .before .before .before .inner-end .result) (c .before .before .before .before .before .before .before .before .before .before .inner-start .result) (c .before .before .before .before .before .before .before .before .before .before .inner-start .ensures) (c .before .before .before .before .before .before .before .before .before .before .before .before .before .before .before .before .before .before .before .before .before .before .args .body .now) _ _ (c .before .before .before .before .before .before .before .before .before .before .before .before .before .inner-end .ensures) (c .before .before .before .before .before .before .before .write-head .ensures .1)) (c .before .before .fill-places .ensures)
+returns c =
+    let b4 = c .before .before .before .before in let b7 = b4 .before .before .before in let b10 = b7 .before .before .before in let b13 = b10 .before .before .before in let b22 = b13 .before .before .before .before .before .before .before .before .before in
+    passed _ _ _ _ _ (rest-put (b22 .args .names .now) (b22 .args .p) (b22 .pre .within) (b22 .pre .few) (b22 .args .part .now) (b22 .args .part-marks .now) (b22 .pre .marked) (b22 .args .tag) _ (b4 .one-table .result) (b4 .one-table .ensures) (b13 .inner-end .result) (b10 .inner-start .result) (b10 .inner-start .ensures) (b22 .args .body .now) _ _ (b13 .inner-end .ensures) (b7 .write-head .ensures .1)) (c .before .before .fill-places .ensures)
 
 pub put-rest-spec : {M : Type 1} → statement M
 put-rest-spec =

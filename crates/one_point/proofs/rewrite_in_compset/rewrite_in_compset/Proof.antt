@@ -1,16 +1,12 @@
 -- `one_point::rewrite_in_compset::rewrite_in_compset` meets its contract. Assumes nothing.
 use borrow.Author.Needs.{needs}
-use native.Mathlib.Omega.{arith}
-use mathlib.Core.Path.{_≡_, refl, ap, sym, _∙_}
+use mathlib.Core.Path.{refl}
 use lib.ListN.{length}
-use Rattle.subst.proofs.CheckedLaws.{refused, passed}
+use Rattle.subst.proofs.CheckedLaws.{refused}
 use Rattle.one_point.proofs.MemberLaws.{member-small, member-long}
 use borrow.Author.Needs.{needs}
 use Rattle.one_point.proofs.rewrite_in_compset.rewrite_in_compset.Statement.{statement}
 use Rattle.one_point.proofs.rewrite_in_compset.rewrite_in_compset.Tie as tie
-use Rattle.one_point.proofs.rewrite_in_compset.rewrite_in_compset.Reads as reads
-use Rattle.one_point.proofs.rewrite_in_compset.rewrite_in_compset.Lts as lts
-use Rattle.one_point.proofs.rewrite_in_compset.rewrite_marked.Reads as rewrite-marked-reads
 
 returns : tie.Need-returns
 returns c = refused _ _ _ _ (member-small (c .before .before .before .before .args .row .now) (length (c .before .before .before .before .args .work .now)) (length (c .before .before .before .before .args .out .now)) (c .if1 .taken)) refl

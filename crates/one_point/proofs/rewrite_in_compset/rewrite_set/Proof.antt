@@ -1,16 +1,11 @@
 -- `one_point::rewrite_in_compset::rewrite_set` meets its contract. Assumes nothing.
 use borrow.Author.Needs.{needs}
 use native.Mathlib.Omega.{arith}
-use mathlib.Core.Path.{_≡_, refl, ap, sym, _∙_}
 use Rattle.one_point.specs.Internal.Member.{Unshifted}
 use Rattle.one_point.proofs.MemberLaws.{body-end, body-words, cleared-zeros}
 use borrow.Author.Needs.{needs}
 use Rattle.one_point.proofs.rewrite_in_compset.rewrite_set.Statement.{statement}
 use Rattle.one_point.proofs.rewrite_in_compset.rewrite_set.Tie as tie
-use Rattle.one_point.proofs.rewrite_in_compset.rewrite_set.Reads as reads
-use Rattle.one_point.proofs.rewrite_in_compset.rewrite_set.Lts as lts
-use Rattle.one_point.proofs.rewrite_in_compset.rewrite_body.Reads as rewrite-body-reads
-use Rattle.one_point.proofs.shares.write_body.Reads as write-body-reads
 
 write-body-requires : tie.Need-write-body-requires
 write-body-requires c κs = search needs
@@ -20,7 +15,9 @@ slice-aggregate-rewrite-body c = search needs
 
 rewrite-body-requires : tie.Need-rewrite-body-requires
 unfolding Unshifted
-rewrite-body-requires c κs = let k = c .before .before .before .before .before .before .write-body .kept .1 .1 .1 .1 .0 in let be = body-end _ _ _ _ _ _ _ _ _ _ (c .before .before .before .before .before .before .write-body .ensures (c .before .before .before .before .before .before .before .before .before .before .before .before .pre .set)) in let en = c .before .before .before .before .before .before .before .before .before .before .before .before .pre .enough in (rw k (c .before .before .before .before .before .before .before .before .before .before .before .before .pre), (λ y. body-words _ _ _ _ (y .guard) _ _ _ _ _ (c .before .before .before .before .before .before .write-body .ensures y)), cleared-zeros (c .before .before .before .before .before .before .write-body .result .end) 64 _ (omega arith), be)
+rewrite-body-requires c κs =
+    let b6 = c .before .before .before .before .before .before in let b12 = b6 .before .before .before .before .before .before in
+    let k = b6 .write-body .kept .1 .1 .1 .1 .0 in let be = body-end _ _ _ _ _ _ _ _ _ _ (b6 .write-body .ensures (b12 .pre .set)) in let en = b12 .pre .enough in (rw k (b12 .pre), (λ y. body-words _ _ _ _ (y .guard) _ _ _ _ _ (b6 .write-body .ensures y)), cleared-zeros (b6 .write-body .result .end) 64 _ (omega arith), be)
 
 same-length : tie.Need-same-length
 same-length c = search needs
@@ -36,7 +33,9 @@ slice-aggregate-rewrite-body-2 c = search needs
 
 rewrite-body-requires-2 : tie.Need-rewrite-body-requires-2
 unfolding Unshifted
-rewrite-body-requires-2 c κs = let k = c .before .before .before .before .before .before .before .write-body .kept .1 .1 .1 .1 .0 in let be = body-end _ _ _ _ _ _ _ _ _ _ (c .before .before .before .before .before .before .before .write-body .ensures (c .before .before .before .before .before .before .before .before .before .before .before .before .before .pre .set)) in let en = c .before .before .before .before .before .before .before .before .before .before .before .before .before .pre .enough in (rw k (c .before .before .before .before .before .before .before .before .before .before .before .before .before .pre), (λ y. body-words _ _ _ _ (y .guard) _ _ _ _ _ (c .before .before .before .before .before .before .before .write-body .ensures y)), cleared-zeros (c .before .before .before .before .before .before .before .write-body .result .end) 512 _ (omega arith), be)
+rewrite-body-requires-2 c κs =
+    let b7 = c .before .before .before .before .before .before .before in let b13 = b7 .before .before .before .before .before .before in
+    let k = b7 .write-body .kept .1 .1 .1 .1 .0 in let be = body-end _ _ _ _ _ _ _ _ _ _ (b7 .write-body .ensures (b13 .pre .set)) in let en = b13 .pre .enough in (rw k (b13 .pre), (λ y. body-words _ _ _ _ (y .guard) _ _ _ _ _ (b7 .write-body .ensures y)), cleared-zeros (b7 .write-body .result .end) 512 _ (omega arith), be)
 
 same-length-3 : tie.Need-same-length-3
 same-length-3 c = search needs
@@ -52,7 +51,9 @@ slice-aggregate-rewrite-body-3 c = search needs
 
 rewrite-body-requires-3 : tie.Need-rewrite-body-requires-3
 unfolding Unshifted
-rewrite-body-requires-3 c κs = let k = c .before .before .before .before .before .before .before .write-body .kept .1 .1 .1 .1 .0 in let be = body-end _ _ _ _ _ _ _ _ _ _ (c .before .before .before .before .before .before .before .write-body .ensures (c .before .before .before .before .before .before .before .before .before .before .before .before .before .pre .set)) in let en = c .before .before .before .before .before .before .before .before .before .before .before .before .before .pre .enough in (rw k (c .before .before .before .before .before .before .before .before .before .before .before .before .before .pre), (λ y. body-words _ _ _ _ (y .guard) _ _ _ _ _ (c .before .before .before .before .before .before .before .write-body .ensures y)), cleared-zeros (c .before .before .before .before .before .before .before .write-body .result .end) 16384 _ (omega arith), be)
+rewrite-body-requires-3 c κs =
+    let b7 = c .before .before .before .before .before .before .before in let b13 = b7 .before .before .before .before .before .before in
+    let k = b7 .write-body .kept .1 .1 .1 .1 .0 in let be = body-end _ _ _ _ _ _ _ _ _ _ (b7 .write-body .ensures (b13 .pre .set)) in let en = b13 .pre .enough in (rw k (b13 .pre), (λ y. body-words _ _ _ _ (y .guard) _ _ _ _ _ (b7 .write-body .ensures y)), cleared-zeros (b7 .write-body .result .end) 16384 _ (omega arith), be)
 
 same-length-5 : tie.Need-same-length-5
 same-length-5 c = search needs

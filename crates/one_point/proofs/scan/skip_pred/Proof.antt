@@ -4,9 +4,6 @@ use Rattle.one_point.proofs.SidesLaws.{told-ends, told-plain}
 use borrow.Author.Needs.{needs}
 use Rattle.one_point.proofs.scan.skip_pred.Statement.{statement}
 use Rattle.one_point.proofs.scan.skip_pred.Tie as tie
-use Rattle.one_point.proofs.scan.skip_pred.Reads as reads
-use Rattle.one_point.proofs.scan.skip_pred.Lts as lts
-use Rattle.form.proofs.reader.pred_at.Reads as pred-at-reads
 
 slice-aggregate-pred-at : tie.Need-slice-aggregate-pred-at
 slice-aggregate-pred-at c = search needs

@@ -1,14 +1,11 @@
 -- `one_point::shares::spot_in` meets its contract. Assumes nothing.
 use borrow.Author.Needs.{needs}
 use native.Mathlib.Omega.{arith}
-use mathlib.Core.Path.{_≡_, refl, ap, sym, _∙_}
+use mathlib.Core.Path.{sym, _∙_}
 use borrow.Author.Tests.{lt-ltb, le-ltb, eq-eqb, ne-eqb}
 use borrow.Author.Needs.{needs}
 use Rattle.one_point.proofs.shares.spot_in.Statement.{statement}
 use Rattle.one_point.proofs.shares.spot_in.Tie as tie
-use Rattle.one_point.proofs.shares.spot_in.Reads as reads
-use Rattle.one_point.proofs.shares.spot_in.Lts as lts
-use Rattle.one_point.proofs.sides.index_at.Reads as index-at-reads
 
 index-at-requires : tie.Need-index-at-requires
 index-at-requires c κs = search needs

@@ -1,16 +1,12 @@
 -- `one_point::shares::write_shifted` meets its contract. Assumes nothing.
 use borrow.Author.Needs.{needs}
 use native.Mathlib.Omega.{arith}
-use mathlib.Core.Path.{_≡_, refl, ap, sym, _∙_}
+use mathlib.Core.Path.{_∙_}
 use lib.ListN.{length-set}
 use Rattle.one_point.proofs.ShareLaws.{shifted-wrote}
 use borrow.Author.Needs.{needs}
 use Rattle.one_point.proofs.shares.write_shifted.Statement.{statement}
 use Rattle.one_point.proofs.shares.write_shifted.Tie as tie
-use Rattle.one_point.proofs.shares.write_shifted.Reads as reads
-use Rattle.one_point.proofs.shares.write_shifted.Lts as lts
-use Rattle.one_point.proofs.writes.copy_part.Reads as copy-part-reads
-use Rattle.replace.proofs.places.put_lifted.Reads as put-lifted-reads
 
 mul-out : tie.Need-mul-out
 mul-out c = search needs
@@ -61,7 +57,9 @@ same-length : tie.Need-same-length
 same-length c = c .before .before .put-lifted .kept .1 .1 .1 .0 ∙ (simp length-set at (c .before .before .before .before .before .before .before .before .copy-part .kept .1 .1 .1 .0))
 
 returns : tie.Need-returns
-returns c = let h = c .before .before .before .before .before .before .before .before .before .before .before .before .before .pre .0 in let a = h .left-up in let b = h .left-in in let d = h .right-up in let e = h .right-in in let x = c .before .before .before .before .before .before .before .before .copy-part .ensures .1 in let k = simp length-set at (c .before .before .before .before .before .before .before .before .copy-part .kept .1 .1 .1 .0) in shifted-wrote _ _ _ _ (c .before .before .before .before .before .before .before .before .before .before .before .before .before .pre .0) (c .before .before .before .before .before .before .before .before .before .before .before .before .before .pre .1) _ _ _ _ _ (omega arith) (c .before .before .before .before .before .before .before .before .copy-part .ensures .0) (omega arith) (c .before .before .put-lifted .ensures)
+returns c =
+    let b8 = c .before .before .before .before .before .before .before .before in let b13 = b8 .before .before .before .before .before in
+    let h = b13 .pre .0 in let a = h .left-up in let b = h .left-in in let d = h .right-up in let e = h .right-in in let x = b8 .copy-part .ensures .1 in let k = simp length-set at (b8 .copy-part .kept .1 .1 .1 .0) in shifted-wrote _ _ _ _ (b13 .pre .0) (b13 .pre .1) _ _ _ _ _ (omega arith) (b8 .copy-part .ensures .0) (omega arith) (c .before .before .put-lifted .ensures)
 
 pub write-shifted-spec : {M : Type 1} → statement M
 write-shifted-spec =

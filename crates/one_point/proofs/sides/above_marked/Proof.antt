@@ -1,15 +1,11 @@
 -- `one_point::sides::above_marked` meets its contract. Assumes nothing.
-use mathlib.Core.Path.{refl, sym, _∙_}
+use mathlib.Core.Path.{_∙_}
 use native.Mathlib.Omega.{arith}
 use Rattle.subst.proofs.CheckedLaws.{is-missing, checked}
 use Rattle.one_point.proofs.SidesLaws.{above-missing, above-marked}
 use borrow.Author.Needs.{needs}
 use Rattle.one_point.proofs.sides.above_marked.Statement.{statement}
 use Rattle.one_point.proofs.sides.above_marked.Tie as tie
-use Rattle.one_point.proofs.sides.above_marked.Reads as reads
-use Rattle.one_point.proofs.sides.above_marked.Lts as lts
-use Rattle.form.proofs.check.mark.Reads as mark-reads
-use Rattle.subst.proofs.items.all_in.Reads as all-in-reads
 
 mark-requires : tie.Need-mark-requires
 mark-requires c κs = search needs
@@ -36,7 +32,9 @@ same-length-2 : tie.Need-same-length-2
 same-length-2 c = search needs
 
 returns-2 : tie.Need-returns-2
-returns-2 c = c .all-in .ensures ∙ above-marked _ _ _ _ (c .before .before .before .before .before .before .before .before .before .before .before .pre .1 .enough) (checked _ _ _ _ _ (c .before .before .before .before .before .before .before .before .before .before .before .pre .1 .zeros) _ _ (c .before .before .before .before .before .before .before .before .before .before .before .pre .1 .short) (c .before .before .before .before .before .before .before .mark .ensures .0) (c .before .before .before .n .given .1) (c .before .before .before .before .before .before .before .mark .ensures .1))
+returns-2 c =
+    let b3 = c .before .before .before in let b7 = b3 .before .before .before .before in let b11 = b7 .before .before .before .before in
+    c .all-in .ensures ∙ above-marked _ _ _ _ (b11 .pre .1 .enough) (checked _ _ _ _ _ (b11 .pre .1 .zeros) _ _ (b11 .pre .1 .short) (b7 .mark .ensures .0) (b3 .n .given .1) (b7 .mark .ensures .1))
 
 pub above-marked-spec : {M : Type 1} → statement M
 above-marked-spec =

@@ -5,9 +5,6 @@ use Rattle.one_point.proofs.SidesLaws.{equality-empty, equality-other, 
 use borrow.Author.Needs.{needs}
 use Rattle.one_point.proofs.sides.equality_of.Statement.{statement}
 use Rattle.one_point.proofs.sides.equality_of.Tie as tie
-use Rattle.one_point.proofs.sides.equality_of.Reads as reads
-use Rattle.one_point.proofs.sides.equality_of.Lts as lts
-use Rattle.one_point.proofs.sides.skip_expr.Reads as skip-expr-reads
 
 returns : tie.Need-returns
 returns c = equality-empty _ (c .if1 .taken)

@@ -5,8 +5,6 @@ use Rattle.one_point.specs.Internal.Sides.{indexWords}
 use borrow.Author.Needs.{needs}
 use Rattle.one_point.proofs.sides.index_at.Statement.{statement}
 use Rattle.one_point.proofs.sides.index_at.Tie as tie
-use Rattle.one_point.proofs.sides.index_at.Reads as reads
-use Rattle.one_point.proofs.sides.index_at.Lts as lts
 
 returns : tie.Need-returns
 unfolding indexWords

@@ -1,13 +1,10 @@
 -- `one_point::sides::match_replacement` meets its contract. Assumes nothing.
-use mathlib.Core.Path.{refl, sym, _∙_}
+use mathlib.Core.Path.{sym, _∙_}
 use borrow.Author.Tests.{lt-ltb, le-ltb}
 use Rattle.one_point.specs.Internal.Sides.{replacementWords}
 use borrow.Author.Needs.{needs}
 use Rattle.one_point.proofs.sides.match_replacement.Statement.{statement}
 use Rattle.one_point.proofs.sides.match_replacement.Tie as tie
-use Rattle.one_point.proofs.sides.match_replacement.Reads as reads
-use Rattle.one_point.proofs.sides.match_replacement.Lts as lts
-use Rattle.one_point.proofs.sides.index_at.Reads as index-at-reads
 
 index-at-requires : tie.Need-index-at-requires
 index-at-requires c κs = search needs

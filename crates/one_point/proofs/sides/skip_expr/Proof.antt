@@ -4,9 +4,6 @@ use Rattle.one_point.proofs.SidesLaws.{told-ends, told-plain}
 use borrow.Author.Needs.{needs}
 use Rattle.one_point.proofs.sides.skip_expr.Statement.{statement}
 use Rattle.one_point.proofs.sides.skip_expr.Tie as tie
-use Rattle.one_point.proofs.sides.skip_expr.Reads as reads
-use Rattle.one_point.proofs.sides.skip_expr.Lts as lts
-use Rattle.form.proofs.reader.expr_at.Reads as expr-at-reads
 
 slice-aggregate-expr-at : tie.Need-slice-aggregate-expr-at
 slice-aggregate-expr-at c = search needs

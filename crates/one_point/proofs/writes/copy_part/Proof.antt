@@ -1,7 +1,7 @@
 -- `one_point::writes::copy_part` meets its contract. Assumes nothing.
 use mathlib.Core.Path.{_≡_, refl}
-use mathlib.Core.List.{List, _++_}
-use Prim.Native.Nat.{ℕ, _+_, _-_, _≤_}
+use mathlib.Core.List.{_++_}
+use Prim.Native.Nat.{_+_, _-_, _≤_}
 use lib.ListN.{length, take, drop}
 use mathlib.Core.Path.{sym}
 use lib.ListN.{length-drop, length-set}
@@ -10,8 +10,6 @@ use native.Mathlib.Omega.{arith}
 use Rattle.one_point.proofs.WriteLaws.{copy-none, copy-more, copy-all}
 use Rattle.one_point.proofs.writes.copy_part.Statement.{statement}
 use Rattle.one_point.proofs.writes.copy_part.Tie as tie
-use Rattle.one_point.proofs.writes.copy_part.Reads as reads
-use Rattle.one_point.proofs.writes.copy_part.Lts as lts
 
 abbrev Inv-loop : tie.InvT-loop
 Inv-loop row from to out₀ pos n i₀ out i = (take (pos + i) out ≡ take pos out₀ ++ take i (drop from row)) × (i ≤ n) × (n ≡ to - from) × (length out ≡ length out₀)

@@ -1,15 +1,13 @@
 -- `one_point::writes::move_down` meets its contract. Assumes nothing.
 use mathlib.Core.Path.{_≡_, refl}
-use mathlib.Core.List.{List, _++_}
-use Prim.Native.Nat.{ℕ, _+_, _-_, _≤_}
+use mathlib.Core.List.{_++_}
+use Prim.Native.Nat.{_+_, _-_, _≤_}
 use lib.ListN.{length, take, drop}
 use lib.ListN.{length-drop, length-set}
 use native.Mathlib.Omega.{arith}
 use Rattle.one_point.proofs.WriteLaws.{copy-none, copy-more, copy-all, move-word, move-rest}
 use Rattle.one_point.proofs.writes.move_down.Statement.{statement}
 use Rattle.one_point.proofs.writes.move_down.Tie as tie
-use Rattle.one_point.proofs.writes.move_down.Reads as reads
-use Rattle.one_point.proofs.writes.move_down.Lts as lts
 
 abbrev Inv-loop : tie.InvT-loop
 Inv-loop out₀ pos end from n i₀ out i = (take (pos + i) out ≡ take pos out₀ ++ take i (drop from out₀)) × (drop (from + i) out ≡ drop (from + i) out₀) × (i ≤ n) × (n ≡ end - from) × (from ≡ pos + 2) × (length out ≡ length out₀)
@@ -51,7 +49,9 @@ loop-less : tie.Need-loop-less Inv-loop μ-loop
 loop-less c = omega arith
 
 loop-again : tie.Need-loop-again Inv-loop μ-loop
-loop-again c = (copy-more (c .before .before .before .args .pos) (c .before .before .loop .i) _ (c .before .before .before .args .out .now) (c .before .before .loop .out) (drop (c .before .before .before .args .pos + 2) (c .before .before .before .args .out .now)) (omega arith) (omega (arith, length-drop (c .before .before .before .args .pos + 2) (c .before .before .before .args .out .now))) (move-word (c .before .before .before .args .pos + 2) (c .before .before .loop .i) (c .before .before .before .args .out .now) (c .before .before .loop .out) (c .before .before .loop .inv .1)) (c .before .before .loop .inv .0), move-rest (c .before .before .before .args .pos + 2) (c .before .before .before .args .pos) (c .before .before .loop .i) _ (c .before .before .before .args .out .now) (c .before .before .loop .out) (omega arith) (c .before .before .loop .inv .1), omega arith, c .before .before .loop .inv .3, c .before .before .loop .inv .4, simp length-set (c .before .before .loop .inv .5))
+loop-again c =
+    let b2 = c .before .before in let b3 = b2 .before in
+    (copy-more (b3 .args .pos) (b2 .loop .i) _ (b3 .args .out .now) (b2 .loop .out) (drop (b3 .args .pos + 2) (b3 .args .out .now)) (omega arith) (omega (arith, length-drop (b3 .args .pos + 2) (b3 .args .out .now))) (move-word (b3 .args .pos + 2) (b2 .loop .i) (b3 .args .out .now) (b2 .loop .out) (b2 .loop .inv .1)) (b2 .loop .inv .0), move-rest (b3 .args .pos + 2) (b3 .args .pos) (b2 .loop .i) _ (b3 .args .out .now) (b2 .loop .out) (omega arith) (b2 .loop .inv .1), omega arith, b2 .loop .inv .3, b2 .loop .inv .4, simp length-set (b2 .loop .inv .5))
 
 add-result : tie.Need-add-result Inv-loop μ-loop
 add-result c = omega arith

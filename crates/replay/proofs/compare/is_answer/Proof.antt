@@ -8,10 +8,6 @@ use Rattle.replay.proofs.CompareLaws.{not-told, is-same}
 use borrow.Author.Needs.{needs}
 use Rattle.replay.proofs.compare.is_answer.Statement.{statement}
 use Rattle.replay.proofs.compare.is_answer.Tie as tie
-use Rattle.replay.proofs.compare.is_answer.Reads as reads
-use Rattle.replay.proofs.compare.is_answer.Lts as lts
-use Rattle.check.proofs.same.Reads as same-reads
-use Rattle.reply.proofs.reply.reply.Reads as reply-reads
 
 reply-requires : tie.Need-reply-requires
 reply-requires c κs = search needs

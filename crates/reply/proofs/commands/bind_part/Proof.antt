@@ -5,11 +5,6 @@ use Rattle.reply.proofs.LateLaws.{form-tests, names-tests, test-refused
 use borrow.Author.Needs.{needs}
 use Rattle.reply.proofs.commands.bind_part.Statement.{statement}
 use Rattle.reply.proofs.commands.bind_part.Tie as tie
-use Rattle.reply.proofs.commands.bind_part.Reads as reads
-use Rattle.reply.proofs.commands.bind_part.Lts as lts
-use Rattle.reply.proofs.late.check_form_part.Reads as check-form-part-reads
-use Rattle.reply.proofs.late.check_names_part.Reads as check-names-part-reads
-use Rattle.subst.proofs.bind.bind_idents.Reads as bind-idents-reads
 
 check-form-part-requires : tie.Need-check-form-part-requires
 check-form-part-requires c κs = c .before .before .before .before .pre .formed

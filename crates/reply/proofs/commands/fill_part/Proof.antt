@@ -5,11 +5,6 @@ use Rattle.reply.proofs.LateLaws.{form-tests, list-tests, test-refused,
 use borrow.Author.Needs.{needs}
 use Rattle.reply.proofs.commands.fill_part.Statement.{statement}
 use Rattle.reply.proofs.commands.fill_part.Tie as tie
-use Rattle.reply.proofs.commands.fill_part.Reads as reads
-use Rattle.reply.proofs.commands.fill_part.Lts as lts
-use Rattle.replace.proofs.fill.instantiate.Reads as instantiate-reads
-use Rattle.reply.proofs.late.check_form_part.Reads as check-form-part-reads
-use Rattle.reply.proofs.late.check_list_part.Reads as check-list-part-reads
 
 check-form-part-requires : tie.Need-check-form-part-requires
 check-form-part-requires c κs = c .before .before .before .before .before .pre .formed

@@ -1,14 +1,10 @@
 -- `reply::commands::member_part` meets its contract. Assumes nothing.
-use mathlib.Core.Path.{refl, sym, _∙_}
+use mathlib.Core.Path.{sym}
 use lib.Seq.{length-take-le}
 use Rattle.reply.proofs.LateLaws.{form-tests, test-refused, test-passed, test-short, held-fits, held-row}
 use borrow.Author.Needs.{needs}
 use Rattle.reply.proofs.commands.member_part.Statement.{statement}
 use Rattle.reply.proofs.commands.member_part.Tie as tie
-use Rattle.reply.proofs.commands.member_part.Reads as reads
-use Rattle.reply.proofs.commands.member_part.Lts as lts
-use Rattle.one_point.proofs.rewrite_in_compset.rewrite_in_compset.Reads as rewrite-in-compset-reads
-use Rattle.reply.proofs.late.check_form_part.Reads as check-form-part-reads
 
 check-form-part-requires : tie.Need-check-form-part-requires
 check-form-part-requires c κs = c .before .before .before .before .pre

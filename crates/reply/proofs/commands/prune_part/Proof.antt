@@ -5,10 +5,6 @@ use Rattle.reply.proofs.LateLaws.{form-tests, test-refused, test-passed
 use borrow.Author.Needs.{needs}
 use Rattle.reply.proofs.commands.prune_part.Statement.{statement}
 use Rattle.reply.proofs.commands.prune_part.Tie as tie
-use Rattle.reply.proofs.commands.prune_part.Reads as reads
-use Rattle.reply.proofs.commands.prune_part.Lts as lts
-use Rattle.replace.proofs.prune.remove_unused_decls.Reads as remove-unused-decls-reads
-use Rattle.reply.proofs.late.check_form_part.Reads as check-form-part-reads
 
 check-form-part-requires : tie.Need-check-form-part-requires
 check-form-part-requires c κs = c .before .before .before .pre

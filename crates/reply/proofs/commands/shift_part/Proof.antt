@@ -6,10 +6,6 @@ use Rattle.subst.proofs.SignedLaws.{back}
 use borrow.Author.Needs.{needs}
 use Rattle.reply.proofs.commands.shift_part.Statement.{statement}
 use Rattle.reply.proofs.commands.shift_part.Tie as tie
-use Rattle.reply.proofs.commands.shift_part.Reads as reads
-use Rattle.reply.proofs.commands.shift_part.Lts as lts
-use Rattle.reply.proofs.late.check_form_part.Reads as check-form-part-reads
-use Rattle.subst.proofs.shift.shift_bound_identifiers.Reads as shift-bound-identifiers-reads
 
 check-form-part-requires : tie.Need-check-form-part-requires
 check-form-part-requires c κs = c .before .before .before .pre

@@ -6,9 +6,6 @@ use Rattle.reply.proofs.LateLaws.{told-long, form-tests, held-long, hel
 use borrow.Author.Needs.{needs}
 use Rattle.reply.proofs.late.check_form_part.Statement.{statement}
 use Rattle.reply.proofs.late.check_form_part.Tie as tie
-use Rattle.reply.proofs.late.check_form_part.Reads as reads
-use Rattle.reply.proofs.late.check_form_part.Lts as lts
-use Rattle.reply.proofs.late.check_text.Reads as check-text-reads
 
 returns : tie.Need-returns
 returns c = told-long _ _ (form-tests _ _ _) (held-long _ _ _ _ (c .before .before .before .pre) (c .if1 .taken)) _

@@ -6,9 +6,6 @@ use Rattle.reply.proofs.LateLaws.{told-long, list-tests, held-long, hel
 use borrow.Author.Needs.{needs}
 use Rattle.reply.proofs.late.check_list_part.Statement.{statement}
 use Rattle.reply.proofs.late.check_list_part.Tie as tie
-use Rattle.reply.proofs.late.check_list_part.Reads as reads
-use Rattle.reply.proofs.late.check_list_part.Lts as lts
-use Rattle.reply.proofs.late.check_list_text.Reads as check-list-text-reads
 
 returns : tie.Need-returns
 returns c = told-long _ _ (list-tests _ _ _) (held-long _ _ _ _ (c .before .before .before .pre) (c .if1 .taken)) _

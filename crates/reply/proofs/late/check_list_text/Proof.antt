@@ -6,10 +6,6 @@ use Rattle.reply.proofs.LateLaws.{told-long, list-tests, list-none, lis
 use borrow.Author.Needs.{needs}
 use Rattle.reply.proofs.late.check_list_text.Statement.{statement}
 use Rattle.reply.proofs.late.check_list_text.Tie as tie
-use Rattle.reply.proofs.late.check_list_text.Reads as reads
-use Rattle.reply.proofs.late.check_list_text.Lts as lts
-use Rattle.form.proofs.lists.mark_list.Reads as mark-list-reads
-use Rattle.spell.proofs.fits.fits_list.Reads as fits-list-reads
 
 returns : tie.Need-returns
 returns c = told-long _ _ (list-tests _ _ _) (c .if1 .taken) _

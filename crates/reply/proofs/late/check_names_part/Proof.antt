@@ -6,9 +6,6 @@ use Rattle.reply.proofs.LateLaws.{told-long, names-tests, held-long, he
 use borrow.Author.Needs.{needs}
 use Rattle.reply.proofs.late.check_names_part.Statement.{statement}
 use Rattle.reply.proofs.late.check_names_part.Tie as tie
-use Rattle.reply.proofs.late.check_names_part.Reads as reads
-use Rattle.reply.proofs.late.check_names_part.Lts as lts
-use Rattle.reply.proofs.late.check_names_text.Reads as check-names-text-reads
 
 returns : tie.Need-returns
 returns c = told-long _ _ (names-tests _ _) (held-long _ _ _ _ (c .before .before .before .pre) (c .if1 .taken)) _

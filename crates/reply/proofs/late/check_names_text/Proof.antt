@@ -6,9 +6,6 @@ use Rattle.reply.proofs.LateLaws.{told-long, names-tests, names-told}
 use borrow.Author.Needs.{needs}
 use Rattle.reply.proofs.late.check_names_text.Statement.{statement}
 use Rattle.reply.proofs.late.check_names_text.Tie as tie
-use Rattle.reply.proofs.late.check_names_text.Reads as reads
-use Rattle.reply.proofs.late.check_names_text.Lts as lts
-use Rattle.spell.proofs.fits.fits_names.Reads as fits-names-reads
 
 returns : tie.Need-returns
 returns c = told-long _ _ (names-tests _ _) (c .if1 .taken) _

@@ -6,9 +6,6 @@ use Rattle.reply.proofs.LateLaws.{late-refused, late-told}
 use borrow.Author.Needs.{needs}
 use Rattle.reply.proofs.late.check_row.Statement.{statement}
 use Rattle.reply.proofs.late.check_row.Tie as tie
-use Rattle.reply.proofs.late.check_row.Reads as reads
-use Rattle.reply.proofs.late.check_row.Lts as lts
-use Rattle.form.proofs.check.check.Reads as check-reads
 
 check-requires : tie.Need-check-requires
 check-requires c κs = search needs

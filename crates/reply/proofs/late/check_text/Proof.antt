@@ -6,11 +6,6 @@ use Rattle.reply.proofs.LateLaws.{late-row, late-fits}
 use borrow.Author.Needs.{needs}
 use Rattle.reply.proofs.late.check_text.Statement.{statement}
 use Rattle.reply.proofs.late.check_text.Tie as tie
-use Rattle.reply.proofs.late.check_text.Reads as reads
-use Rattle.reply.proofs.late.check_text.Lts as lts
-use Rattle.form.proofs.check.is_expr.Reads as is-expr-reads
-use Rattle.spell.proofs.fits.fits_form.Reads as fits-form-reads
-use Rattle.reply.proofs.late.check_row.Reads as check-row-reads
 
 fits-form-requires : tie.Need-fits-form-requires
 fits-form-requires c κs = search needs

@@ -8,23 +8,14 @@ use Rattle.reply.proofs.ReplyLaws.{not-enough, misspelled, held-form, h
 use borrow.Author.Needs.{needs}
 use Rattle.reply.proofs.reply.answer_line.Statement.{statement}
 use Rattle.reply.proofs.reply.answer_line.Tie as tie
-use Rattle.reply.proofs.reply.answer_line.Reads as reads
-use Rattle.reply.proofs.reply.answer_line.Lts as lts
-use Rattle.line.proofs.line.read_line.Reads as read-line-reads
-use Rattle.reply.proofs.commands.bind_part.Reads as bind-part-reads
-use Rattle.reply.proofs.commands.fill_part.Reads as fill-part-reads
-use Rattle.reply.proofs.commands.free_part.Reads as free-part-reads
-use Rattle.reply.proofs.commands.member_part.Reads as member-part-reads
-use Rattle.reply.proofs.commands.point_part.Reads as point-part-reads
-use Rattle.reply.proofs.commands.prune_part.Reads as prune-part-reads
-use Rattle.reply.proofs.commands.shift_part.Reads as shift-part-reads
-use Rattle.reply.proofs.reply.are_enough.Reads as are-enough-reads
 
 are-enough-requires : tie.Need-are-enough-requires
 are-enough-requires c κs = search needs
 
 returns : tie.Need-returns
-returns c = not-enough (c .before .before .before .before .before .before .before .args .line .now) (length (c .before .before .before .before .before .before .before .args .list .now)) (length (c .before .before .before .before .before .before .before .args .form .now)) (length (c .before .before .before .before .before .before .before .args .work .now)) (length (c .before .before .before .before .before .before .before .args .result .now)) (sym (c .before .are-enough .ensures) ∙ not-true _ (c .if1 .taken)) _
+returns c =
+    let b7 = c .before .before .before .before .before .before .before in
+    not-enough (b7 .args .line .now) (length (b7 .args .list .now)) (length (b7 .args .form .now)) (length (b7 .args .work .now)) (length (b7 .args .result .now)) (sym (c .before .are-enough .ensures) ∙ not-true _ (c .if1 .taken)) _
 
 read-line-requires : tie.Need-read-line-requires
 read-line-requires c κs = search needs
@@ -42,49 +33,65 @@ same-length-2 : tie.Need-same-length-2
 same-length-2 c = search needs
 
 returns-2 : tie.Need-returns-2
-returns-2 c = misspelled (c .before .before .before .before .before .before .before .before .before .before .before .before .before .before .before .before .args .line .now) (length (c .before .before .before .before .before .before .before .before .before .before .before .before .before .before .before .before .args .list .now)) (length (c .before .before .before .before .before .before .before .before .before .before .before .before .before .before .before .before .args .form .now)) (length (c .before .before .before .before .before .before .before .before .before .before .before .before .before .before .before .before .args .work .now)) (length (c .before .before .before .before .before .before .before .before .before .before .before .before .before .before .before .before .args .result .now)) (sym (c .before .before .before .before .before .before .before .before .before .before .are-enough .ensures) ∙ not-false _ (c .before .before .before .before .before .before .before .before .before .if1 .left)) _ (c .before .before .before .before .before .before .read-line .ensures .0) (c .enum-told .given .1) _
+returns-2 c =
+    let b6 = c .before .before .before .before .before .before in let b9 = b6 .before .before .before in let b16 = b9 .before .before .before .before .before .before .before in
+    misspelled (b16 .args .line .now) (length (b16 .args .list .now)) (length (b16 .args .form .now)) (length (b16 .args .work .now)) (length (b16 .args .result .now)) (sym (b9 .before .are-enough .ensures) ∙ not-false _ (b9 .if1 .left)) _ (b6 .read-line .ensures .0) (c .enum-told .given .1) _
 
 enum-told-2 : tie.Need-enum-told-2
 enum-told-2 c = search needs
 
 shift-part-requires : tie.Need-shift-part-requires
-shift-part-requires c κs = (held-form (c .before .before .before .before .before .before .before .before .before .before .before .before .before .before .before .before .before .before .before .before .before .before .args .line .now) (length (c .before .before .before .before .before .before .before .before .before .before .before .before .before .before .before .before .before .before .before .before .before .before .args .list .now)) (length (c .before .before .before .before .before .before .before .before .before .before .before .before .before .before .before .before .before .before .before .before .before .before .args .form .now)) (length (c .before .before .before .before .before .before .before .before .before .before .before .before .before .before .before .before .before .before .before .before .before .before .args .work .now)) (length (c .before .before .before .before .before .before .before .before .before .before .before .before .before .before .before .before .before .before .before .before .before .before .args .result .now)) (sym (c .before .before .before .before .before .before .before .before .before .before .before .before .before .before .before .before .are-enough .ensures) ∙ not-false _ (c .before .before .before .before .before .before .before .before .before .before .before .before .before .before .before .if1 .left)) _ (c .before .before .before .before .before .before .before .before .before .before .before .before .read-line .ensures .0) _ (c .before .before .before .before .before .before .parts .given .1) (c .before .before .before .before .before .before .before .before .before .before .before .before .before .before .before .before .before .before .before .before .before .before .args .form .now) _ refl (c .before .before .before .before .before .before .before .before .before .before .before .before .read-line .ensures .1 .1) (c .before .before .before .before .before .before .before .before .before .before .before .before .read-line .kept .1 .1 .0))
+shift-part-requires c κs =
+    let b6 = c .before .before .before .before .before .before in let b12 = b6 .before .before .before .before .before .before in let b15 = b12 .before .before .before in let b22 = b15 .before .before .before .before .before .before .before in
+    (held-form (b22 .args .line .now) (length (b22 .args .list .now)) (length (b22 .args .form .now)) (length (b22 .args .work .now)) (length (b22 .args .result .now)) (sym (b15 .before .are-enough .ensures) ∙ not-false _ (b15 .if1 .left)) _ (b12 .read-line .ensures .0) _ (b6 .parts .given .1) (b22 .args .form .now) _ refl (b12 .read-line .ensures .1 .1) (b12 .read-line .kept .1 .1 .0))
 
 enum-told-3 : tie.Need-enum-told-3
 enum-told-3 c = search needs
 
 free-part-requires : tie.Need-free-part-requires
-free-part-requires c κs = record { listed = (held-list (c .before .before .before .before .before .before .before .before .before .before .before .before .before .before .before .before .before .before .before .before .before .before .before .args .line .now) (length (c .before .before .before .before .before .before .before .before .before .before .before .before .before .before .before .before .before .before .before .before .before .before .before .args .list .now)) (length (c .before .before .before .before .before .before .before .before .before .before .before .before .before .before .before .before .before .before .before .before .before .before .before .args .form .now)) (length (c .before .before .before .before .before .before .before .before .before .before .before .before .before .before .before .before .before .before .before .before .before .before .before .args .work .now)) (length (c .before .before .before .before .before .before .before .before .before .before .before .before .before .before .before .before .before .before .before .before .before .before .before .args .result .now)) (sym (c .before .before .before .before .before .before .before .before .before .before .before .before .before .before .before .before .before .are-enough .ensures) ∙ not-false _ (c .before .before .before .before .before .before .before .before .before .before .before .before .before .before .before .before .if1 .left)) _ (c .before .before .before .before .before .before .before .before .before .before .before .before .before .read-line .ensures .0) _ (c .before .before .before .before .before .before .before .parts .given .1) (c .before .before .before .before .before .before .before .before .before .before .before .before .before .before .before .before .before .before .before .before .before .before .before .args .list .now) _ refl (c .before .before .before .before .before .before .before .before .before .before .before .before .before .read-line .ensures .1 .0) (c .before .before .before .before .before .before .before .before .before .before .before .before .before .read-line .kept .1 .0)); formed = (held-form (c .before .before .before .before .before .before .before .before .before .before .before .before .before .before .before .before .before .before .before .before .before .before .before .args .line .now) (length (c .before .before .before .before .before .before .before .before .before .before .before .before .before .before .before .before .before .before .before .before .before .before .before .args .list .now)) (length (c .before .before .before .before .before .before .before .before .before .before .before .before .before .before .before .before .before .before .before .before .before .before .before .args .form .now)) (length (c .before .before .before .before .before .before .before .before .before .before .before .before .before .before .before .before .before .before .before .before .before .before .before .args .work .now)) (length (c .before .before .before .before .before .before .before .before .before .before .before .before .before .before .before .before .before .before .before .before .before .before .before .args .result .now)) (sym (c .before .before .before .before .before .before .before .before .before .before .before .before .before .before .before .before .before .are-enough .ensures) ∙ not-false _ (c .before .before .before .before .before .before .before .before .before .before .before .before .before .before .before .before .if1 .left)) _ (c .before .before .before .before .before .before .before .before .before .before .before .before .before .read-line .ensures .0) _ (c .before .before .before .before .before .before .before .parts .given .1) (c .before .before .before .before .before .before .before .before .before .before .before .before .before .before .before .before .before .before .before .before .before .before .before .args .form .now) _ refl (c .before .before .before .before .before .before .before .before .before .before .before .before .before .read-line .ensures .1 .1) (c .before .before .before .before .before .before .before .before .before .before .before .before .before .read-line .kept .1 .1 .0)) }
+free-part-requires c κs =
+    let b7 = c .before .before .before .before .before .before .before in let b13 = b7 .before .before .before .before .before .before in let b16 = b13 .before .before .before in let b17 = b16 .before in let b23 = b17 .before .before .before .before .before .before in
+    record { listed = (held-list (b23 .args .line .now) (length (b23 .args .list .now)) (length (b23 .args .form .now)) (length (b23 .args .work .now)) (length (b23 .args .result .now)) (sym (b17 .are-enough .ensures) ∙ not-false _ (b16 .if1 .left)) _ (b13 .read-line .ensures .0) _ (b7 .parts .given .1) (b23 .args .list .now) _ refl (b13 .read-line .ensures .1 .0) (b13 .read-line .kept .1 .0)); formed = (held-form (b23 .args .line .now) (length (b23 .args .list .now)) (length (b23 .args .form .now)) (length (b23 .args .work .now)) (length (b23 .args .result .now)) (sym (b17 .are-enough .ensures) ∙ not-false _ (b16 .if1 .left)) _ (b13 .read-line .ensures .0) _ (b7 .parts .given .1) (b23 .args .form .now) _ refl (b13 .read-line .ensures .1 .1) (b13 .read-line .kept .1 .1 .0)) }
 
 enum-told-4 : tie.Need-enum-told-4
 enum-told-4 c = search needs
 
 bind-part-requires : tie.Need-bind-part-requires
-bind-part-requires c κs = record { listed = (held-list (c .before .before .before .before .before .before .before .before .before .before .before .before .before .before .before .before .before .before .before .before .before .before .args .line .now) (length (c .before .before .before .before .before .before .before .before .before .before .before .before .before .before .before .before .before .before .before .before .before .before .args .list .now)) (length (c .before .before .before .before .before .before .before .before .before .before .before .before .before .before .before .before .before .before .before .before .before .before .args .form .now)) (length (c .before .before .before .before .before .before .before .before .before .before .before .before .before .before .before .before .before .before .before .before .before .before .args .work .now)) (length (c .before .before .before .before .before .before .before .before .before .before .before .before .before .before .before .before .before .before .before .before .before .before .args .result .now)) (sym (c .before .before .before .before .before .before .before .before .before .before .before .before .before .before .before .before .are-enough .ensures) ∙ not-false _ (c .before .before .before .before .before .before .before .before .before .before .before .before .before .before .before .if1 .left)) _ (c .before .before .before .before .before .before .before .before .before .before .before .before .read-line .ensures .0) _ (c .before .before .before .before .before .before .parts .given .1) (c .before .before .before .before .before .before .before .before .before .before .before .before .before .before .before .before .before .before .before .before .before .before .args .list .now) _ refl (c .before .before .before .before .before .before .before .before .before .before .before .before .read-line .ensures .1 .0) (c .before .before .before .before .before .before .before .before .before .before .before .before .read-line .kept .1 .0)); formed = (held-form (c .before .before .before .before .before .before .before .before .before .before .before .before .before .before .before .before .before .before .before .before .before .before .args .line .now) (length (c .before .before .before .before .before .before .before .before .before .before .before .before .before .before .before .before .before .before .before .before .before .before .args .list .now)) (length (c .before .before .before .before .before .before .before .before .before .before .before .before .before .before .before .before .before .before .before .before .before .before .args .form .now)) (length (c .before .before .before .before .before .before .before .before .before .before .before .before .before .before .before .before .before .before .before .before .before .before .args .work .now)) (length (c .before .before .before .before .before .before .before .before .before .before .before .before .before .before .before .before .before .before .before .before .before .before .args .result .now)) (sym (c .before .before .before .before .before .before .before .before .before .before .before .before .before .before .before .before .are-enough .ensures) ∙ not-false _ (c .before .before .before .before .before .before .before .before .before .before .before .before .before .before .before .if1 .left)) _ (c .before .before .before .before .before .before .before .before .before .before .before .before .read-line .ensures .0) _ (c .before .before .before .before .before .before .parts .given .1) (c .before .before .before .before .before .before .before .before .before .before .before .before .before .before .before .before .before .before .before .before .before .before .args .form .now) _ refl (c .before .before .before .before .before .before .before .before .before .before .before .before .read-line .ensures .1 .1) (c .before .before .before .before .before .before .before .before .before .before .before .before .read-line .kept .1 .1 .0)) }
+bind-part-requires c κs =
+    let b6 = c .before .before .before .before .before .before in let b12 = b6 .before .before .before .before .before .before in let b15 = b12 .before .before .before in let b16 = b15 .before in let b22 = b16 .before .before .before .before .before .before in
+    record { listed = (held-list (b22 .args .line .now) (length (b22 .args .list .now)) (length (b22 .args .form .now)) (length (b22 .args .work .now)) (length (b22 .args .result .now)) (sym (b16 .are-enough .ensures) ∙ not-false _ (b15 .if1 .left)) _ (b12 .read-line .ensures .0) _ (b6 .parts .given .1) (b22 .args .list .now) _ refl (b12 .read-line .ensures .1 .0) (b12 .read-line .kept .1 .0)); formed = (held-form (b22 .args .line .now) (length (b22 .args .list .now)) (length (b22 .args .form .now)) (length (b22 .args .work .now)) (length (b22 .args .result .now)) (sym (b16 .are-enough .ensures) ∙ not-false _ (b15 .if1 .left)) _ (b12 .read-line .ensures .0) _ (b6 .parts .given .1) (b22 .args .form .now) _ refl (b12 .read-line .ensures .1 .1) (b12 .read-line .kept .1 .1 .0)) }
 
 enum-told-5 : tie.Need-enum-told-5
 enum-told-5 c = search needs
 
 fill-part-requires : tie.Need-fill-part-requires
-fill-part-requires c κs = record { listed = (held-list (c .before .before .before .before .before .before .before .before .before .before .before .before .before .before .before .before .before .before .before .before .before .before .before .args .line .now) (length (c .before .before .before .before .before .before .before .before .before .before .before .before .before .before .before .before .before .before .before .before .before .before .before .args .list .now)) (length (c .before .before .before .before .before .before .before .before .before .before .before .before .before .before .before .before .before .before .before .before .before .before .before .args .form .now)) (length (c .before .before .before .before .before .before .before .before .before .before .before .before .before .before .before .before .before .before .before .before .before .before .before .args .work .now)) (length (c .before .before .before .before .before .before .before .before .before .before .before .before .before .before .before .before .before .before .before .before .before .before .before .args .result .now)) (sym (c .before .before .before .before .before .before .before .before .before .before .before .before .before .before .before .before .before .are-enough .ensures) ∙ not-false _ (c .before .before .before .before .before .before .before .before .before .before .before .before .before .before .before .before .if1 .left)) _ (c .before .before .before .before .before .before .before .before .before .before .before .before .before .read-line .ensures .0) _ (c .before .before .before .before .before .before .before .parts .given .1) (c .before .before .before .before .before .before .before .before .before .before .before .before .before .before .before .before .before .before .before .before .before .before .before .args .list .now) _ refl (c .before .before .before .before .before .before .before .before .before .before .before .before .before .read-line .ensures .1 .0) (c .before .before .before .before .before .before .before .before .before .before .before .before .before .read-line .kept .1 .0)); formed = (held-form (c .before .before .before .before .before .before .before .before .before .before .before .before .before .before .before .before .before .before .before .before .before .before .before .args .line .now) (length (c .before .before .before .before .before .before .before .before .before .before .before .before .before .before .before .before .before .before .before .before .before .before .before .args .list .now)) (length (c .before .before .before .before .before .before .before .before .before .before .before .before .before .before .before .before .before .before .before .before .before .before .before .args .form .now)) (length (c .before .before .before .before .before .before .before .before .before .before .before .before .before .before .before .before .before .before .before .before .before .before .before .args .work .now)) (length (c .before .before .before .before .before .before .before .before .before .before .before .before .before .before .before .before .before .before .before .before .before .before .before .args .result .now)) (sym (c .before .before .before .before .before .before .before .before .before .before .before .before .before .before .before .before .before .are-enough .ensures) ∙ not-false _ (c .before .before .before .before .before .before .before .before .before .before .before .before .before .before .before .before .if1 .left)) _ (c .before .before .before .before .before .before .before .before .before .before .before .before .before .read-line .ensures .0) _ (c .before .before .before .before .before .before .before .parts .given .1) (c .before .before .before .before .before .before .before .before .before .before .before .before .before .before .before .before .before .before .before .before .before .before .before .args .form .now) _ refl (c .before .before .before .before .before .before .before .before .before .before .before .before .before .read-line .ensures .1 .1) (c .before .before .before .before .before .before .before .before .before .before .before .before .before .read-line .kept .1 .1 .0)) }
+fill-part-requires c κs =
+    let b7 = c .before .before .before .before .before .before .before in let b13 = b7 .before .before .before .before .before .before in let b16 = b13 .before .before .before in let b17 = b16 .before in let b23 = b17 .before .before .before .before .before .before in
+    record { listed = (held-list (b23 .args .line .now) (length (b23 .args .list .now)) (length (b23 .args .form .now)) (length (b23 .args .work .now)) (length (b23 .args .result .now)) (sym (b17 .are-enough .ensures) ∙ not-false _ (b16 .if1 .left)) _ (b13 .read-line .ensures .0) _ (b7 .parts .given .1) (b23 .args .list .now) _ refl (b13 .read-line .ensures .1 .0) (b13 .read-line .kept .1 .0)); formed = (held-form (b23 .args .line .now) (length (b23 .args .list .now)) (length (b23 .args .form .now)) (length (b23 .args .work .now)) (length (b23 .args .result .now)) (sym (b17 .are-enough .ensures) ∙ not-false _ (b16 .if1 .left)) _ (b13 .read-line .ensures .0) _ (b7 .parts .given .1) (b23 .args .form .now) _ refl (b13 .read-line .ensures .1 .1) (b13 .read-line .kept .1 .1 .0)) }
 
 enum-told-6 : tie.Need-enum-told-6
 enum-told-6 c = search needs
 
 prune-part-requires : tie.Need-prune-part-requires
-prune-part-requires c κs = (held-form (c .before .before .before .before .before .before .before .before .before .before .before .before .before .before .before .before .before .before .before .before .before .args .line .now) (length (c .before .before .before .before .before .before .before .before .before .before .before .before .before .before .before .before .before .before .before .before .before .args .list .now)) (length (c .before .before .before .before .before .before .before .before .before .before .before .before .before .before .before .before .before .before .before .before .before .args .form .now)) (length (c .before .before .before .before .before .before .before .before .before .before .before .before .before .before .before .before .before .before .before .before .before .args .work .now)) (length (c .before .before .before .before .before .before .before .before .before .before .before .before .before .before .before .before .before .before .before .before .before .args .result .now)) (sym (c .before .before .before .before .before .before .before .before .before .before .before .before .before .before .before .are-enough .ensures) ∙ not-false _ (c .before .before .before .before .before .before .before .before .before .before .before .before .before .before .if1 .left)) _ (c .before .before .before .before .before .before .before .before .before .before .before .read-line .ensures .0) _ (c .before .before .before .before .before .parts .given .1) (c .before .before .before .before .before .before .before .before .before .before .before .before .before .before .before .before .before .before .before .before .before .args .form .now) _ refl (c .before .before .before .before .before .before .before .before .before .before .before .read-line .ensures .1 .1) (c .before .before .before .before .before .before .before .before .before .before .before .read-line .kept .1 .1 .0))
+prune-part-requires c κs =
+    let b5 = c .before .before .before .before .before in let b11 = b5 .before .before .before .before .before .before in let b14 = b11 .before .before .before in let b21 = b14 .before .before .before .before .before .before .before in
+    (held-form (b21 .args .line .now) (length (b21 .args .list .now)) (length (b21 .args .form .now)) (length (b21 .args .work .now)) (length (b21 .args .result .now)) (sym (b14 .before .are-enough .ensures) ∙ not-false _ (b14 .if1 .left)) _ (b11 .read-line .ensures .0) _ (b5 .parts .given .1) (b21 .args .form .now) _ refl (b11 .read-line .ensures .1 .1) (b11 .read-line .kept .1 .1 .0))
 
 enum-told-7 : tie.Need-enum-told-7
 enum-told-7 c = search needs
 
 point-part-requires : tie.Need-point-part-requires
-point-part-requires c κs = (held-form (c .before .before .before .before .before .before .before .before .before .before .before .before .before .before .before .before .before .before .before .before .before .before .args .line .now) (length (c .before .before .before .before .before .before .before .before .before .before .before .before .before .before .before .before .before .before .before .before .before .before .args .list .now)) (length (c .before .before .before .before .before .before .before .before .before .before .before .before .before .before .before .before .before .before .before .before .before .before .args .form .now)) (length (c .before .before .before .before .before .before .before .before .before .before .before .before .before .before .before .before .before .before .before .before .before .before .args .work .now)) (length (c .before .before .before .before .before .before .before .before .before .before .before .before .before .before .before .before .before .before .before .before .before .before .args .result .now)) (sym (c .before .before .before .before .before .before .before .before .before .before .before .before .before .before .before .before .are-enough .ensures) ∙ not-false _ (c .before .before .before .before .before .before .before .before .before .before .before .before .before .before .before .if1 .left)) _ (c .before .before .before .before .before .before .before .before .before .before .before .before .read-line .ensures .0) _ (c .before .before .before .before .before .before .parts .given .1) (c .before .before .before .before .before .before .before .before .before .before .before .before .before .before .before .before .before .before .before .before .before .before .args .form .now) _ refl (c .before .before .before .before .before .before .before .before .before .before .before .before .read-line .ensures .1 .1) (c .before .before .before .before .before .before .before .before .before .before .before .before .read-line .kept .1 .1 .0))
+point-part-requires c κs =
+    let b6 = c .before .before .before .before .before .before in let b12 = b6 .before .before .before .before .before .before in let b15 = b12 .before .before .before in let b22 = b15 .before .before .before .before .before .before .before in
+    (held-form (b22 .args .line .now) (length (b22 .args .list .now)) (length (b22 .args .form .now)) (length (b22 .args .work .now)) (length (b22 .args .result .now)) (sym (b15 .before .are-enough .ensures) ∙ not-false _ (b15 .if1 .left)) _ (b12 .read-line .ensures .0) _ (b6 .parts .given .1) (b22 .args .form .now) _ refl (b12 .read-line .ensures .1 .1) (b12 .read-line .kept .1 .1 .0))
 
 enum-told-8 : tie.Need-enum-told-8
 enum-told-8 c = search needs
 
 member-part-requires : tie.Need-member-part-requires
-member-part-requires c κs = (held-form (c .before .before .before .before .before .before .before .before .before .before .before .before .before .before .before .before .before .before .before .before .before .before .args .line .now) (length (c .before .before .before .before .before .before .before .before .before .before .before .before .before .before .before .before .before .before .before .before .before .before .args .list .now)) (length (c .before .before .before .before .before .before .before .before .before .before .before .before .before .before .before .before .before .before .before .before .before .before .args .form .now)) (length (c .before .before .before .before .before .before .before .before .before .before .before .before .before .before .before .before .before .before .before .before .before .before .args .work .now)) (length (c .before .before .before .before .before .before .before .before .before .before .before .before .before .before .before .before .before .before .before .before .before .before .args .result .now)) (sym (c .before .before .before .before .before .before .before .before .before .before .before .before .before .before .before .before .are-enough .ensures) ∙ not-false _ (c .before .before .before .before .before .before .before .before .before .before .before .before .before .before .before .if1 .left)) _ (c .before .before .before .before .before .before .before .before .before .before .before .before .read-line .ensures .0) _ (c .before .before .before .before .before .before .parts .given .1) (c .before .before .before .before .before .before .before .before .before .before .before .before .before .before .before .before .before .before .before .before .before .before .args .form .now) _ refl (c .before .before .before .before .before .before .before .before .before .before .before .before .read-line .ensures .1 .1) (c .before .before .before .before .before .before .before .before .before .before .before .before .read-line .kept .1 .1 .0))
+member-part-requires c κs =
+    let b6 = c .before .before .before .before .before .before in let b12 = b6 .before .before .before .before .before .before in let b15 = b12 .before .before .before in let b22 = b15 .before .before .before .before .before .before .before in
+    (held-form (b22 .args .line .now) (length (b22 .args .list .now)) (length (b22 .args .form .now)) (length (b22 .args .work .now)) (length (b22 .args .result .now)) (sym (b15 .before .are-enough .ensures) ∙ not-false _ (b15 .if1 .left)) _ (b12 .read-line .ensures .0) _ (b6 .parts .given .1) (b22 .args .form .now) _ refl (b12 .read-line .ensures .1 .1) (b12 .read-line .kept .1 .1 .0))
 
 same-length-3 : tie.Need-same-length-3
 same-length-3 c = search needs
@@ -96,7 +103,9 @@ same-length-5 : tie.Need-same-length-5
 same-length-5 c = search needs
 
 returns-3 : tie.Need-returns-3
-returns-3 c = command-said (c .before .before .before .before .before .before .before .before .before .before .before .before .before .before .before .before .before .before .before .before .before .before .before .before .before .args .line .now) (length (c .before .before .before .before .before .before .before .before .before .before .before .before .before .before .before .before .before .before .before .before .before .before .before .before .before .args .list .now)) (length (c .before .before .before .before .before .before .before .before .before .before .before .before .before .before .before .before .before .before .before .before .before .before .before .before .before .args .form .now)) (length (c .before .before .before .before .before .before .before .before .before .before .before .before .before .before .before .before .before .before .before .before .before .before .before .before .before .args .work .now)) (length (c .before .before .before .before .before .before .before .before .before .before .before .before .before .before .before .before .before .before .before .before .before .before .before .before .before .args .result .now)) (sym (c .before .before .before .before .before .before .before .before .before .before .before .before .before .before .before .before .before .before .before .are-enough .ensures) ∙ not-false _ (c .before .before .before .before .before .before .before .before .before .before .before .before .before .before .before .before .before .before .if1 .left)) _ (c .before .before .before .before .before .before .before .before .before .before .before .before .before .before .before .read-line .ensures .0) _ (c .before .before .before .before .before .before .before .before .before .parts .given .1) Shift (c .before .before .before .before .before .before .enum-told2 .given .1) _ _ _ (rw (back (c .before .before .before .before .before .before .before .before .before .parts .given .0 .0 .offset) (record { sfits = c .before .before .before .struct-told .given .1 .0 .1 })) at (c .before .before .shift-part .ensures))
+returns-3 c =
+    let b3 = c .before .before .before in let b6 = b3 .before .before .before in let b9 = b6 .before .before .before in let b15 = b9 .before .before .before .before .before .before in let b18 = b15 .before .before .before in let b25 = b18 .before .before .before .before .before .before .before in
+    command-said (b25 .args .line .now) (length (b25 .args .list .now)) (length (b25 .args .form .now)) (length (b25 .args .work .now)) (length (b25 .args .result .now)) (sym (b18 .before .are-enough .ensures) ∙ not-false _ (b18 .if1 .left)) _ (b15 .read-line .ensures .0) _ (b9 .parts .given .1) Shift (b6 .enum-told2 .given .1) _ _ _ (rw (back (b9 .parts .given .0 .0 .offset) (record { sfits = b3 .struct-told .given .1 .0 .1 })) at (c .before .before .shift-part .ensures))
 
 same-length-6 : tie.Need-same-length-6
 same-length-6 c = search needs
@@ -111,7 +120,9 @@ same-length-9 : tie.Need-same-length-9
 same-length-9 c = search needs
 
 returns-4 : tie.Need-returns-4
-returns-4 c = command-said (c .before .before .before .before .before .before .before .before .before .before .before .before .before .before .before .before .before .before .before .before .before .before .before .before .before .before .before .before .args .line .now) (length (c .before .before .before .before .before .before .before .before .before .before .before .before .before .before .before .before .before .before .before .before .before .before .before .before .before .before .before .before .args .list .now)) (length (c .before .before .before .before .before .before .before .before .before .before .before .before .before .before .before .before .before .before .before .before .before .before .before .before .before .before .before .before .args .form .now)) (length (c .before .before .before .before .before .before .before .before .before .before .before .before .before .before .before .before .before .before .before .before .before .before .before .before .before .before .before .before .args .work .now)) (length (c .before .before .before .before .before .before .before .before .before .before .before .before .before .before .before .before .before .before .before .before .before .before .before .before .before .before .before .before .args .result .now)) (sym (c .before .before .before .before .before .before .before .before .before .before .before .before .before .before .before .before .before .before .before .before .before .before .are-enough .ensures) ∙ not-false _ (c .before .before .before .before .before .before .before .before .before .before .before .before .before .before .before .before .before .before .before .before .before .if1 .left)) _ (c .before .before .before .before .before .before .before .before .before .before .before .before .before .before .before .before .before .before .read-line .ensures .0) _ (c .before .before .before .before .before .before .before .before .before .before .before .before .parts .given .1) Free (c .before .before .before .before .before .before .before .before .before .enum-told3 .given .1) _ _ _ (c .before .before .before .before .free-part .ensures)
+returns-4 c =
+    let b4 = c .before .before .before .before in let b9 = b4 .before .before .before .before .before in let b12 = b9 .before .before .before in let b18 = b12 .before .before .before .before .before .before in let b21 = b18 .before .before .before in let b28 = b21 .before .before .before .before .before .before .before in
+    command-said (b28 .args .line .now) (length (b28 .args .list .now)) (length (b28 .args .form .now)) (length (b28 .args .work .now)) (length (b28 .args .result .now)) (sym (b21 .before .are-enough .ensures) ∙ not-false _ (b21 .if1 .left)) _ (b18 .read-line .ensures .0) _ (b12 .parts .given .1) Free (b9 .enum-told3 .given .1) _ _ _ (b4 .free-part .ensures)
 
 same-length-10 : tie.Need-same-length-10
 same-length-10 c = search needs
@@ -123,7 +134,9 @@ same-length-12 : tie.Need-same-length-12
 same-length-12 c = search needs
 
 returns-5 : tie.Need-returns-5
-returns-5 c = command-said (c .before .before .before .before .before .before .before .before .before .before .before .before .before .before .before .before .before .before .before .before .before .before .before .before .before .args .line .now) (length (c .before .before .before .before .before .before .before .before .before .before .before .before .before .before .before .before .before .before .before .before .before .before .before .before .before .args .list .now)) (length (c .before .before .before .before .before .before .before .before .before .before .before .before .before .before .before .before .before .before .before .before .before .before .before .before .before .args .form .now)) (length (c .before .before .before .before .before .before .before .before .before .before .before .before .before .before .before .before .before .before .before .before .before .before .before .before .before .args .work .now)) (length (c .before .before .before .before .before .before .before .before .before .before .before .before .before .before .before .before .before .before .before .before .before .before .before .before .before .args .result .now)) (sym (c .before .before .before .before .before .before .before .before .before .before .before .before .before .before .before .before .before .before .before .are-enough .ensures) ∙ not-false _ (c .before .before .before .before .before .before .before .before .before .before .before .before .before .before .before .before .before .before .if1 .left)) _ (c .before .before .before .before .before .before .before .before .before .before .before .before .before .before .before .read-line .ensures .0) _ (c .before .before .before .before .before .before .before .before .before .parts .given .1) Bind (c .before .before .before .before .before .before .enum-told4 .given .1) _ _ _ (c .before .before .bind-part .ensures)
+returns-5 c =
+    let b6 = c .before .before .before .before .before .before in let b9 = b6 .before .before .before in let b15 = b9 .before .before .before .before .before .before in let b18 = b15 .before .before .before in let b25 = b18 .before .before .before .before .before .before .before in
+    command-said (b25 .args .line .now) (length (b25 .args .list .now)) (length (b25 .args .form .now)) (length (b25 .args .work .now)) (length (b25 .args .result .now)) (sym (b18 .before .are-enough .ensures) ∙ not-false _ (b18 .if1 .left)) _ (b15 .read-line .ensures .0) _ (b9 .parts .given .1) Bind (b6 .enum-told4 .given .1) _ _ _ (c .before .before .bind-part .ensures)
 
 same-length-13 : tie.Need-same-length-13
 same-length-13 c = search needs
@@ -138,7 +151,9 @@ same-length-16 : tie.Need-same-length-16
 same-length-16 c = search needs
 
 returns-6 : tie.Need-returns-6
-returns-6 c = command-said (c .before .before .before .before .before .before .before .before .before .before .before .before .before .before .before .before .before .before .before .before .before .before .before .before .before .before .before .before .args .line .now) (length (c .before .before .before .before .before .before .before .before .before .before .before .before .before .before .before .before .before .before .before .before .before .before .before .before .before .before .before .before .args .list .now)) (length (c .before .before .before .before .before .before .before .before .before .before .before .before .before .before .before .before .before .before .before .before .before .before .before .before .before .before .before .before .args .form .now)) (length (c .before .before .before .before .before .before .before .before .before .before .before .before .before .before .before .before .before .before .before .before .before .before .before .before .before .before .before .before .args .work .now)) (length (c .before .before .before .before .before .before .before .before .before .before .before .before .before .before .before .before .before .before .before .before .before .before .before .before .before .before .before .before .args .result .now)) (sym (c .before .before .before .before .before .before .before .before .before .before .before .before .before .before .before .before .before .before .before .before .before .before .are-enough .ensures) ∙ not-false _ (c .before .before .before .before .before .before .before .before .before .before .before .before .before .before .before .before .before .before .before .before .before .if1 .left)) _ (c .before .before .before .before .before .before .before .before .before .before .before .before .before .before .before .before .before .before .read-line .ensures .0) _ (c .before .before .before .before .before .before .before .before .before .before .before .before .parts .given .1) Fill (c .before .before .before .before .before .before .before .before .before .enum-told5 .given .1) _ _ _ (c .before .before .before .before .fill-part .ensures)
+returns-6 c =
+    let b4 = c .before .before .before .before in let b9 = b4 .before .before .before .before .before in let b12 = b9 .before .before .before in let b18 = b12 .before .before .before .before .before .before in let b21 = b18 .before .before .before in let b28 = b21 .before .before .before .before .before .before .before in
+    command-said (b28 .args .line .now) (length (b28 .args .list .now)) (length (b28 .args .form .now)) (length (b28 .args .work .now)) (length (b28 .args .result .now)) (sym (b21 .before .are-enough .ensures) ∙ not-false _ (b21 .if1 .left)) _ (b18 .read-line .ensures .0) _ (b12 .parts .given .1) Fill (b9 .enum-told5 .given .1) _ _ _ (b4 .fill-part .ensures)
 
 same-length-17 : tie.Need-same-length-17
 same-length-17 c = search needs
@@ -150,7 +165,9 @@ same-length-19 : tie.Need-same-length-19
 same-length-19 c = search needs
 
 returns-7 : tie.Need-returns-7
-returns-7 c = command-said (c .before .before .before .before .before .before .before .before .before .before .before .before .before .before .before .before .before .before .before .before .before .before .before .before .args .line .now) (length (c .before .before .before .before .before .before .before .before .before .before .before .before .before .before .before .before .before .before .before .before .before .before .before .before .args .list .now)) (length (c .before .before .before .before .before .before .before .before .before .before .before .before .before .before .before .before .before .before .before .before .before .before .before .before .args .form .now)) (length (c .before .before .before .before .before .before .before .before .before .before .before .before .before .before .before .before .before .before .before .before .before .before .before .before .args .work .now)) (length (c .before .before .before .before .before .before .before .before .before .before .before .before .before .before .before .before .before .before .before .before .before .before .before .before .args .result .now)) (sym (c .before .before .before .before .before .before .before .before .before .before .before .before .before .before .before .before .before .before .are-enough .ensures) ∙ not-false _ (c .before .before .before .before .before .before .before .before .before .before .before .before .before .before .before .before .before .if1 .left)) _ (c .before .before .before .before .before .before .before .before .before .before .before .before .before .before .read-line .ensures .0) _ (c .before .before .before .before .before .before .before .before .parts .given .1) Prune (c .before .before .before .before .before .enum-told6 .given .1) _ _ _ (c .before .before .prune-part .ensures)
+returns-7 c =
+    let b5 = c .before .before .before .before .before in let b8 = b5 .before .before .before in let b14 = b8 .before .before .before .before .before .before in let b17 = b14 .before .before .before in let b24 = b17 .before .before .before .before .before .before .before in
+    command-said (b24 .args .line .now) (length (b24 .args .list .now)) (length (b24 .args .form .now)) (length (b24 .args .work .now)) (length (b24 .args .result .now)) (sym (b17 .before .are-enough .ensures) ∙ not-false _ (b17 .if1 .left)) _ (b14 .read-line .ensures .0) _ (b8 .parts .given .1) Prune (b5 .enum-told6 .given .1) _ _ _ (c .before .before .prune-part .ensures)
 
 same-length-20 : tie.Need-same-length-20
 same-length-20 c = search needs
@@ -165,7 +182,9 @@ same-length-23 : tie.Need-same-length-23
 same-length-23 c = search needs
 
 returns-8 : tie.Need-returns-8
-returns-8 c = command-said (c .before .before .before .before .before .before .before .before .before .before .before .before .before .before .before .before .before .before .before .before .before .before .before .before .before .before .before .args .line .now) (length (c .before .before .before .before .before .before .before .before .before .before .before .before .before .before .before .before .before .before .before .before .before .before .before .before .before .before .before .args .list .now)) (length (c .before .before .before .before .before .before .before .before .before .before .before .before .before .before .before .before .before .before .before .before .before .before .before .before .before .before .before .args .form .now)) (length (c .before .before .before .before .before .before .before .before .before .before .before .before .before .before .before .before .before .before .before .before .before .before .before .before .before .before .before .args .work .now)) (length (c .before .before .before .before .before .before .before .before .before .before .before .before .before .before .before .before .before .before .before .before .before .before .before .before .before .before .before .args .result .now)) (sym (c .before .before .before .before .before .before .before .before .before .before .before .before .before .before .before .before .before .before .before .before .before .are-enough .ensures) ∙ not-false _ (c .before .before .before .before .before .before .before .before .before .before .before .before .before .before .before .before .before .before .before .before .if1 .left)) _ (c .before .before .before .before .before .before .before .before .before .before .before .before .before .before .before .before .before .read-line .ensures .0) _ (c .before .before .before .before .before .before .before .before .before .before .before .parts .given .1) Point (c .before .before .before .before .before .before .before .before .enum-told7 .given .1) _ _ _ (c .before .before .before .before .point-part .ensures)
+returns-8 c =
+    let b4 = c .before .before .before .before in let b8 = b4 .before .before .before .before in let b11 = b8 .before .before .before in let b17 = b11 .before .before .before .before .before .before in let b20 = b17 .before .before .before in let b27 = b20 .before .before .before .before .before .before .before in
+    command-said (b27 .args .line .now) (length (b27 .args .list .now)) (length (b27 .args .form .now)) (length (b27 .args .work .now)) (length (b27 .args .result .now)) (sym (b20 .before .are-enough .ensures) ∙ not-false _ (b20 .if1 .left)) _ (b17 .read-line .ensures .0) _ (b11 .parts .given .1) Point (b8 .enum-told7 .given .1) _ _ _ (b4 .point-part .ensures)
 
 same-length-24 : tie.Need-same-length-24
 same-length-24 c = search needs
@@ -180,7 +199,9 @@ same-length-27 : tie.Need-same-length-27
 same-length-27 c = search needs
 
 returns-9 : tie.Need-returns-9
-returns-9 c = command-said (c .before .before .before .before .before .before .before .before .before .before .before .before .before .before .before .before .before .before .before .before .before .before .before .before .before .before .before .args .line .now) (length (c .before .before .before .before .before .before .before .before .before .before .before .before .before .before .before .before .before .before .before .before .before .before .before .before .before .before .before .args .list .now)) (length (c .before .before .before .before .before .before .before .before .before .before .before .before .before .before .before .before .before .before .before .before .before .before .before .before .before .before .before .args .form .now)) (length (c .before .before .before .before .before .before .before .before .before .before .before .before .before .before .before .before .before .before .before .before .before .before .before .before .before .before .before .args .work .now)) (length (c .before .before .before .before .before .before .before .before .before .before .before .before .before .before .before .before .before .before .before .before .before .before .before .before .before .before .before .args .result .now)) (sym (c .before .before .before .before .before .before .before .before .before .before .before .before .before .before .before .before .before .before .before .before .before .are-enough .ensures) ∙ not-false _ (c .before .before .before .before .before .before .before .before .before .before .before .before .before .before .before .before .before .before .before .before .if1 .left)) _ (c .before .before .before .before .before .before .before .before .before .before .before .before .before .before .before .before .before .read-line .ensures .0) _ (c .before .before .before .before .before .before .before .before .before .before .before .parts .given .1) Member (c .before .before .before .before .before .before .before .before .enum-told8 .given .1) _ _ _ (c .before .before .before .before .member-part .ensures)
+returns-9 c =
+    let b4 = c .before .before .before .before in let b8 = b4 .before .before .before .before in let b11 = b8 .before .before .before in let b17 = b11 .before .before .before .before .before .before in let b20 = b17 .before .before .before in let b27 = b20 .before .before .before .before .before .before .before in
+    command-said (b27 .args .line .now) (length (b27 .args .list .now)) (length (b27 .args .form .now)) (length (b27 .args .work .now)) (length (b27 .args .result .now)) (sym (b20 .before .are-enough .ensures) ∙ not-false _ (b20 .if1 .left)) _ (b17 .read-line .ensures .0) _ (b11 .parts .given .1) Member (b8 .enum-told8 .given .1) _ _ _ (b4 .member-part .ensures)
 
 pub answer-line-spec : {M : Type 1} → statement M
 answer-line-spec =

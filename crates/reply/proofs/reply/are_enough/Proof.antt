@@ -2,8 +2,6 @@
 use Rattle.reply.proofs.ReplyLaws.{few-list, few-form, work-left}
 use Rattle.reply.proofs.reply.are_enough.Statement.{statement}
 use Rattle.reply.proofs.reply.are_enough.Tie as tie
-use Rattle.reply.proofs.reply.are_enough.Reads as reads
-use Rattle.reply.proofs.reply.are_enough.Lts as lts
 
 returns : tie.Need-returns
 returns c = few-list (c .before .args .list) (c .before .args .form) (c .before .args .work) (c .if1 .taken)

@@ -8,11 +8,6 @@ use Rattle.reply.proofs.ReplyLaws.{too-short, row-there, no-there}
 use borrow.Author.Needs.{needs}
 use Rattle.reply.proofs.reply.reply.Statement.{statement}
 use Rattle.reply.proofs.reply.reply.Tie as tie
-use Rattle.reply.proofs.reply.reply.Reads as reads
-use Rattle.reply.proofs.reply.reply.Lts as lts
-use Rattle.spell.proofs.answer.print_form.Reads as print-form-reads
-use Rattle.spell.proofs.answer.print_no.Reads as print-no-reads
-use Rattle.reply.proofs.reply.answer_line.Reads as answer-line-reads
 
 answer-line-requires : tie.Need-answer-line-requires
 answer-line-requires c κs = search needs

@@ -8,8 +8,6 @@ use Rattle.reply.specs.Split.{newlineIn}
 use Rattle.reply.proofs.SplitLaws.{newline-here, newline-on, newline-end}
 use Rattle.reply.proofs.split.newline.Statement.{statement}
 use Rattle.reply.proofs.split.newline.Tie as tie
-use Rattle.reply.proofs.split.newline.Reads as reads
-use Rattle.reply.proofs.split.newline.Lts as lts
 
 abbrev Inv-loop : tie.InvT-loop
 Inv-loop bytes i₀ i = newlineIn bytes ≡ i + newlineIn (drop i bytes)

@@ -4,9 +4,6 @@ use Rattle.reply.specs.Split.{nextOf}
 use borrow.Author.Needs.{needs}
 use Rattle.reply.proofs.split.next_line.Statement.{statement}
 use Rattle.reply.proofs.split.next_line.Tie as tie
-use Rattle.reply.proofs.split.next_line.Reads as reads
-use Rattle.reply.proofs.split.next_line.Lts as lts
-use Rattle.reply.proofs.split.newline.Reads as newline-reads
 
 newline-requires : tie.Need-newline-requires
 newline-requires c κs = search needs

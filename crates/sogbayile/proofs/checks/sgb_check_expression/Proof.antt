@@ -4,10 +4,6 @@ use Rattle.sogbayile.specs.Code.{codeOf}
 use borrow.Author.Needs.{needs}
 use Rattle.sogbayile.proofs.checks.sgb_check_expression.Statement.{statement}
 use Rattle.sogbayile.proofs.checks.sgb_check_expression.Tie as tie
-use Rattle.sogbayile.proofs.checks.sgb_check_expression.Reads as reads
-use Rattle.sogbayile.proofs.checks.sgb_check_expression.Lts as lts
-use Rattle.form.proofs.check.check.Reads as check-reads
-use Rattle.sogbayile.proofs.code.code_of.Reads as code-of-reads
 
 check-requires : tie.Need-check-requires
 check-requires c κs = search needs

@@ -4,10 +4,6 @@ use Rattle.sogbayile.specs.Code.{codeOf}
 use borrow.Author.Needs.{needs}
 use Rattle.sogbayile.proofs.checks.sgb_check_names.Statement.{statement}
 use Rattle.sogbayile.proofs.checks.sgb_check_names.Tie as tie
-use Rattle.sogbayile.proofs.checks.sgb_check_names.Reads as reads
-use Rattle.sogbayile.proofs.checks.sgb_check_names.Lts as lts
-use Rattle.form.proofs.lists.check_names.Reads as check-names-reads
-use Rattle.sogbayile.proofs.code.code_of.Reads as code-of-reads
 
 check-names-requires : tie.Need-check-names-requires
 check-names-requires c κs = search needs

@@ -4,10 +4,6 @@ use Rattle.sogbayile.specs.Code.{codeOf}
 use borrow.Author.Needs.{needs}
 use Rattle.sogbayile.proofs.checks.sgb_check_pairs.Statement.{statement}
 use Rattle.sogbayile.proofs.checks.sgb_check_pairs.Tie as tie
-use Rattle.sogbayile.proofs.checks.sgb_check_pairs.Reads as reads
-use Rattle.sogbayile.proofs.checks.sgb_check_pairs.Lts as lts
-use Rattle.form.proofs.lists.check_pairs.Reads as check-pairs-reads
-use Rattle.sogbayile.proofs.code.code_of.Reads as code-of-reads
 
 check-pairs-requires : tie.Need-check-pairs-requires
 check-pairs-requires c κs = search needs

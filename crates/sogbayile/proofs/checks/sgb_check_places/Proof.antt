@@ -4,10 +4,6 @@ use Rattle.sogbayile.specs.Code.{codeOf}
 use borrow.Author.Needs.{needs}
 use Rattle.sogbayile.proofs.checks.sgb_check_places.Statement.{statement}
 use Rattle.sogbayile.proofs.checks.sgb_check_places.Tie as tie
-use Rattle.sogbayile.proofs.checks.sgb_check_places.Reads as reads
-use Rattle.sogbayile.proofs.checks.sgb_check_places.Lts as lts
-use Rattle.form.proofs.lists.check_places.Reads as check-places-reads
-use Rattle.sogbayile.proofs.code.code_of.Reads as code-of-reads
 
 check-places-requires : tie.Need-check-places-requires
 check-places-requires c κs = search needs

@@ -5,9 +5,6 @@ use Rattle.sogbayile.proofs.CodeLaws.{code-done}
 use borrow.Author.Needs.{needs}
 use Rattle.sogbayile.proofs.code.code_of.Statement.{statement}
 use Rattle.sogbayile.proofs.code.code_of.Tie as tie
-use Rattle.sogbayile.proofs.code.code_of.Reads as reads
-use Rattle.sogbayile.proofs.code.code_of.Lts as lts
-use Rattle.sogbayile.proofs.code.refusal_code.Reads as refusal-code-reads
 
 enum-known-answer : tie.Need-enum-known-answer
 enum-known-answer c = search needs

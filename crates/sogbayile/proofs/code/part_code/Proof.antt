@@ -3,8 +3,6 @@ use native.Mathlib.Omega.{arith}
 use borrow.Author.Needs.{needs}
 use Rattle.sogbayile.proofs.code.part_code.Statement.{statement}
 use Rattle.sogbayile.proofs.code.part_code.Tie as tie
-use Rattle.sogbayile.proofs.code.part_code.Reads as reads
-use Rattle.sogbayile.proofs.code.part_code.Lts as lts
 
 enum-told : tie.Need-enum-told
 enum-told c = search needs

@@ -4,10 +4,6 @@ use Rattle.sogbayile.specs.Code.{packed}
 use borrow.Author.Needs.{needs}
 use Rattle.sogbayile.proofs.offers.sgb_offer.Statement.{statement}
 use Rattle.sogbayile.proofs.offers.sgb_offer.Tie as tie
-use Rattle.sogbayile.proofs.offers.sgb_offer.Reads as reads
-use Rattle.sogbayile.proofs.offers.sgb_offer.Lts as lts
-use Rattle.one_point.proofs.replacements.Replacements.check.Reads as check-reads
-use Rattle.sogbayile.proofs.code.refusal_code.Reads as refusal-code-reads
 
 check-requires : tie.Need-check-requires
 check-requires c κs = search needs

@@ -4,10 +4,6 @@ use Rattle.sogbayile.specs.Code.{packed}
 use borrow.Author.Needs.{needs}
 use Rattle.sogbayile.proofs.offers.sgb_places.Statement.{statement}
 use Rattle.sogbayile.proofs.offers.sgb_places.Tie as tie
-use Rattle.sogbayile.proofs.offers.sgb_places.Reads as reads
-use Rattle.sogbayile.proofs.offers.sgb_places.Lts as lts
-use Rattle.one_point.proofs.replacements.Replacements.new.Reads as new-reads
-use Rattle.sogbayile.proofs.code.refusal_code.Reads as refusal-code-reads
 
 new-requires : tie.Need-new-requires
 new-requires c κs = search needs

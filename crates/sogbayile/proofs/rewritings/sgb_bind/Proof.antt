@@ -4,10 +4,6 @@ use Rattle.sogbayile.specs.Code.{codeOf}
 use borrow.Author.Needs.{needs}
 use Rattle.sogbayile.proofs.rewritings.sgb_bind.Statement.{statement}
 use Rattle.sogbayile.proofs.rewritings.sgb_bind.Tie as tie
-use Rattle.sogbayile.proofs.rewritings.sgb_bind.Reads as reads
-use Rattle.sogbayile.proofs.rewritings.sgb_bind.Lts as lts
-use Rattle.sogbayile.proofs.code.code_of.Reads as code-of-reads
-use Rattle.subst.proofs.bind.bind_idents.Reads as bind-idents-reads
 
 bind-idents-requires : tie.Need-bind-idents-requires
 bind-idents-requires c κs = search needs

@@ -4,10 +4,6 @@ use Rattle.sogbayile.specs.Code.{codeOf}
 use borrow.Author.Needs.{needs}
 use Rattle.sogbayile.proofs.rewritings.sgb_dangling.Statement.{statement}
 use Rattle.sogbayile.proofs.rewritings.sgb_dangling.Tie as tie
-use Rattle.sogbayile.proofs.rewritings.sgb_dangling.Reads as reads
-use Rattle.sogbayile.proofs.rewritings.sgb_dangling.Lts as lts
-use Rattle.sogbayile.proofs.code.code_of.Reads as code-of-reads
-use Rattle.subst.proofs.dangling.dangling_bound_indices.Reads as dangling-bound-indices-reads
 
 dangling-bound-indices-requires : tie.Need-dangling-bound-indices-requires
 dangling-bound-indices-requires c κs = search needs

@@ -4,10 +4,6 @@ use Rattle.sogbayile.specs.Code.{codeOf}
 use borrow.Author.Needs.{needs}
 use Rattle.sogbayile.proofs.rewritings.sgb_fill.Statement.{statement}
 use Rattle.sogbayile.proofs.rewritings.sgb_fill.Tie as tie
-use Rattle.sogbayile.proofs.rewritings.sgb_fill.Reads as reads
-use Rattle.sogbayile.proofs.rewritings.sgb_fill.Lts as lts
-use Rattle.replace.proofs.fill.instantiate.Reads as instantiate-reads
-use Rattle.sogbayile.proofs.code.code_of.Reads as code-of-reads
 
 instantiate-requires : tie.Need-instantiate-requires
 instantiate-requires c κs = search needs

@@ -4,10 +4,6 @@ use Rattle.sogbayile.specs.Code.{codeOf}
 use borrow.Author.Needs.{needs}
 use Rattle.sogbayile.proofs.rewritings.sgb_free.Statement.{statement}
 use Rattle.sogbayile.proofs.rewritings.sgb_free.Tie as tie
-use Rattle.sogbayile.proofs.rewritings.sgb_free.Reads as reads
-use Rattle.sogbayile.proofs.rewritings.sgb_free.Lts as lts
-use Rattle.replace.proofs.free.substitute_free_idents.Reads as substitute-free-idents-reads
-use Rattle.sogbayile.proofs.code.code_of.Reads as code-of-reads
 
 substitute-free-idents-requires : tie.Need-substitute-free-idents-requires
 substitute-free-idents-requires c κs = search needs

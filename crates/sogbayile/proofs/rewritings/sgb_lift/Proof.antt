@@ -8,10 +8,6 @@ use Rattle.sogbayile.proofs.CodeLaws.{part-short, made-code}
 use borrow.Author.Needs.{needs}
 use Rattle.sogbayile.proofs.rewritings.sgb_lift.Statement.{statement}
 use Rattle.sogbayile.proofs.rewritings.sgb_lift.Tie as tie
-use Rattle.sogbayile.proofs.rewritings.sgb_lift.Reads as reads
-use Rattle.sogbayile.proofs.rewritings.sgb_lift.Lts as lts
-use Rattle.sogbayile.proofs.code.part_code.Reads as part-code-reads
-use Rattle.subst.proofs.lift.make_copy.Reads as make-copy-reads
 
 returns : tie.Need-returns
 returns c = let z = lift-long (c .before .before .before .args .base .now) (c .before .before .before .args .work .now) (c .before .before .before .args .depth) (c .if1 .taken) in (sym (sym (made-code (c .before .before .before .args .base .now) (liftPart (c .before .before .before .args .base .now) (c .before .before .before .args .depth) (length (c .before .before .before .args .work .now)))) ∙ ap (madeCode _) (sym (z .0))), z .1)

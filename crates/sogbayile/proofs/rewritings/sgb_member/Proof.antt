@@ -4,10 +4,6 @@ use Rattle.sogbayile.specs.Code.{codeOf}
 use borrow.Author.Needs.{needs}
 use Rattle.sogbayile.proofs.rewritings.sgb_member.Statement.{statement}
 use Rattle.sogbayile.proofs.rewritings.sgb_member.Tie as tie
-use Rattle.sogbayile.proofs.rewritings.sgb_member.Reads as reads
-use Rattle.sogbayile.proofs.rewritings.sgb_member.Lts as lts
-use Rattle.one_point.proofs.rewrite_in_compset.rewrite_in_compset.Reads as rewrite-in-compset-reads
-use Rattle.sogbayile.proofs.code.code_of.Reads as code-of-reads
 
 rewrite-in-compset-requires : tie.Need-rewrite-in-compset-requires
 rewrite-in-compset-requires c κs = search needs

@@ -4,10 +4,6 @@ use Rattle.sogbayile.specs.Code.{codeOf}
 use borrow.Author.Needs.{needs}
 use Rattle.sogbayile.proofs.rewritings.sgb_point.Statement.{statement}
 use Rattle.sogbayile.proofs.rewritings.sgb_point.Tie as tie
-use Rattle.sogbayile.proofs.rewritings.sgb_point.Reads as reads
-use Rattle.sogbayile.proofs.rewritings.sgb_point.Lts as lts
-use Rattle.one_point.proofs.one_point_inference.one_point_inference.Reads as one-point-inference-reads
-use Rattle.sogbayile.proofs.code.code_of.Reads as code-of-reads
 
 one-point-inference-requires : tie.Need-one-point-inference-requires
 one-point-inference-requires c κs = search needs

@@ -4,10 +4,6 @@ use Rattle.sogbayile.specs.Code.{codeOf}
 use borrow.Author.Needs.{needs}
 use Rattle.sogbayile.proofs.rewritings.sgb_prune.Statement.{statement}
 use Rattle.sogbayile.proofs.rewritings.sgb_prune.Tie as tie
-use Rattle.sogbayile.proofs.rewritings.sgb_prune.Reads as reads
-use Rattle.sogbayile.proofs.rewritings.sgb_prune.Lts as lts
-use Rattle.replace.proofs.prune.remove_unused_decls.Reads as remove-unused-decls-reads
-use Rattle.sogbayile.proofs.code.code_of.Reads as code-of-reads
 
 remove-unused-decls-requires : tie.Need-remove-unused-decls-requires
 remove-unused-decls-requires c κs = search needs

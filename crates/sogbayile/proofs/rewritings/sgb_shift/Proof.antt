@@ -5,10 +5,6 @@ use Rattle.subst.proofs.SignedLaws.{back}
 use borrow.Author.Needs.{needs}
 use Rattle.sogbayile.proofs.rewritings.sgb_shift.Statement.{statement}
 use Rattle.sogbayile.proofs.rewritings.sgb_shift.Tie as tie
-use Rattle.sogbayile.proofs.rewritings.sgb_shift.Reads as reads
-use Rattle.sogbayile.proofs.rewritings.sgb_shift.Lts as lts
-use Rattle.sogbayile.proofs.code.code_of.Reads as code-of-reads
-use Rattle.subst.proofs.shift.shift_bound_identifiers.Reads as shift-bound-identifiers-reads
 
 shift-bound-identifiers-requires : tie.Need-shift-bound-identifiers-requires
 shift-bound-identifiers-requires c κs = search needs

@@ -7,8 +7,6 @@ use Rattle.spell.specs.Put.{put}
 use Rattle.spell.proofs.AnswerLaws.{copy-more, copy-none}
 use Rattle.spell.proofs.answer.copy.Statement.{statement}
 use Rattle.spell.proofs.answer.copy.Tie as tie
-use Rattle.spell.proofs.answer.copy.Reads as reads
-use Rattle.spell.proofs.answer.copy.Lts as lts
 
 abbrev Inv-loop : tie.InvT-loop
 Inv-loop bytes out₀ i₀ out i = (put out₀ 0 bytes ≡ put out i (drop i bytes)) × (length out ≡ length out₀)

@@ -4,9 +4,6 @@ use Rattle.spell.proofs.AnswerLaws.{zeros, form-long}
 use borrow.Author.Needs.{needs}
 use Rattle.spell.proofs.answer.print_form.Statement.{statement}
 use Rattle.spell.proofs.answer.print_form.Tie as tie
-use Rattle.spell.proofs.answer.print_form.Reads as reads
-use Rattle.spell.proofs.answer.print_form.Lts as lts
-use Rattle.spell.proofs.answer.print_form_in.Reads as print-form-in-reads
 
 slice-aggregate-print-form-in : tie.Need-slice-aggregate-print-form-in
 slice-aggregate-print-form-in c = search needs

@@ -4,10 +4,6 @@ use Rattle.spell.proofs.WriteLaws.{wrote-end, one-digit, two-digits, th
 use borrow.Author.Needs.{needs}
 use Rattle.spell.proofs.decimal.put_decimal.Statement.{statement}
 use Rattle.spell.proofs.decimal.put_decimal.Tie as tie
-use Rattle.spell.proofs.decimal.put_decimal.Reads as reads
-use Rattle.spell.proofs.decimal.put_decimal.Lts as lts
-use Rattle.spell.proofs.decimal.put_byte.Reads as put-byte-reads
-use Rattle.spell.proofs.decimal.put_digits.Reads as put-digits-reads
 
 cast-put-byte : tie.Need-cast-put-byte
 cast-put-byte c = search needs

@@ -5,9 +5,6 @@ use Rattle.spell.proofs.FitLaws.{form-text}
 use borrow.Author.Needs.{needs}
 use Rattle.spell.proofs.fits.fits_form.Statement.{statement}
 use Rattle.spell.proofs.fits.fits_form.Tie as tie
-use Rattle.spell.proofs.fits.fits_form.Reads as reads
-use Rattle.spell.proofs.fits.fits_form.Lts as lts
-use Rattle.spell.proofs.fits.fits_form_in.Reads as fits-form-in-reads
 
 slice-aggregate-fits-form-in : tie.Need-slice-aggregate-fits-form-in
 slice-aggregate-fits-form-in c = search needs

@@ -5,10 +5,6 @@ use Rattle.spell.proofs.FitLaws.{form-row, form-not, form-other, form-s
 use borrow.Author.Needs.{needs}
 use Rattle.spell.proofs.fits.fits_form_in.Statement.{statement}
 use Rattle.spell.proofs.fits.fits_form_in.Tie as tie
-use Rattle.spell.proofs.fits.fits_form_in.Reads as reads
-use Rattle.spell.proofs.fits.fits_form_in.Lts as lts
-use Rattle.spell.proofs.fits.same.Reads as same-reads
-use Rattle.spell.proofs.whole.print_row.Reads as print-row-reads
 
 returns : tie.Need-returns
 returns c = form-row _ _ (c .before .before .before .before .pre .0) (c .if1 .taken)

@@ -5,9 +5,6 @@ use Rattle.spell.proofs.FitLaws.{list-text}
 use borrow.Author.Needs.{needs}
 use Rattle.spell.proofs.fits.fits_list.Statement.{statement}
 use Rattle.spell.proofs.fits.fits_list.Tie as tie
-use Rattle.spell.proofs.fits.fits_list.Reads as reads
-use Rattle.spell.proofs.fits.fits_list.Lts as lts
-use Rattle.spell.proofs.fits.fits_list_in.Reads as fits-list-in-reads
 
 slice-aggregate-fits-list-in : tie.Need-slice-aggregate-fits-list-in
 slice-aggregate-fits-list-in c = search needs

@@ -5,10 +5,6 @@ use Rattle.spell.proofs.FitLaws.{list-row, list-not, list-other, list-s
 use borrow.Author.Needs.{needs}
 use Rattle.spell.proofs.fits.fits_list_in.Statement.{statement}
 use Rattle.spell.proofs.fits.fits_list_in.Tie as tie
-use Rattle.spell.proofs.fits.fits_list_in.Reads as reads
-use Rattle.spell.proofs.fits.fits_list_in.Lts as lts
-use Rattle.spell.proofs.entries.print_list.Reads as print-list-reads
-use Rattle.spell.proofs.fits.same.Reads as same-reads
 
 returns : tie.Need-returns
 returns c = list-row _ _ _ (c .if1 .taken)

@@ -5,9 +5,6 @@ use Rattle.spell.proofs.FitLaws.{names-text}
 use borrow.Author.Needs.{needs}
 use Rattle.spell.proofs.fits.fits_names.Statement.{statement}
 use Rattle.spell.proofs.fits.fits_names.Tie as tie
-use Rattle.spell.proofs.fits.fits_names.Reads as reads
-use Rattle.spell.proofs.fits.fits_names.Lts as lts
-use Rattle.spell.proofs.fits.fits_names_in.Reads as fits-names-in-reads
 
 slice-aggregate-fits-names-in : tie.Need-slice-aggregate-fits-names-in
 slice-aggregate-fits-names-in c = search needs

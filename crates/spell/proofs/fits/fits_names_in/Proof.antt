@@ -5,10 +5,6 @@ use Rattle.spell.proofs.FitLaws.{names-row, names-other, names-same}
 use borrow.Author.Needs.{needs}
 use Rattle.spell.proofs.fits.fits_names_in.Statement.{statement}
 use Rattle.spell.proofs.fits.fits_names_in.Tie as tie
-use Rattle.spell.proofs.fits.fits_names_in.Reads as reads
-use Rattle.spell.proofs.fits.fits_names_in.Lts as lts
-use Rattle.spell.proofs.entries.print_names.Reads as print-names-reads
-use Rattle.spell.proofs.fits.same.Reads as same-reads
 
 returns : tie.Need-returns
 returns c = names-row _ _ (c .if1 .taken)

@@ -3,10 +3,6 @@ use Rattle.spell.proofs.AnswerLaws.{printed-form}
 use borrow.Author.Needs.{needs}
 use Rattle.spell.proofs.whole.print_row.Statement.{statement}
 use Rattle.spell.proofs.whole.print_row.Tie as tie
-use Rattle.spell.proofs.whole.print_row.Reads as reads
-use Rattle.spell.proofs.whole.print_row.Lts as lts
-use Rattle.form.proofs.check.is_expr.Reads as is-expr-reads
-use Rattle.spell.proofs.whole.print_sort.Reads as print-sort-reads
 
 is-expr-requires : tie.Need-is-expr-requires
 is-expr-requires c κs = search needs

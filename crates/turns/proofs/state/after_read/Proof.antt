@@ -1,13 +1,9 @@
 -- `turns::state::after_read` meets its contract. Assumes nothing.
-use Prim.Native.Nat.{_-_}
 use mathlib.Core.Path.{_∙_}
 use Rattle.turns.proofs.TurnLaws.{read-none, read-over, read-past, read-more}
 use borrow.Author.Needs.{needs}
 use Rattle.turns.proofs.state.after_read.Statement.{statement}
 use Rattle.turns.proofs.state.after_read.Tie as tie
-use Rattle.turns.proofs.state.after_read.Reads as reads
-use Rattle.turns.proofs.state.after_read.Lts as lts
-use Rattle.turns.proofs.state.ended.Reads as ended-reads
 
 ended-requires : tie.Need-ended-requires
 ended-requires c κs = search needs

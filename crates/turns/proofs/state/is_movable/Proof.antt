@@ -1,10 +1,7 @@
 -- `turns::state::is_movable` meets its contract. Assumes nothing.
-use Prim.Native.Nat.{_-_}
 use Rattle.turns.proofs.TurnLaws.{move-order, move-end}
 use Rattle.turns.proofs.state.is_movable.Statement.{statement}
 use Rattle.turns.proofs.state.is_movable.Tie as tie
-use Rattle.turns.proofs.state.is_movable.Reads as reads
-use Rattle.turns.proofs.state.is_movable.Lts as lts
 
 returns : tie.Need-returns
 returns c = move-order (c .before .before .args .st) (c .before .before .args .input) (c .if1 .taken)

@@ -9,8 +9,6 @@ use Rattle.spell.specs.Put.{put}
 use Rattle.turns.proofs.PutLaws.{copied, copied-none, copied-long, copied-all}
 use Rattle.turns.proofs.state.move_bytes.Statement.{statement}
 use Rattle.turns.proofs.state.move_bytes.Tie as tie
-use Rattle.turns.proofs.state.move_bytes.Reads as reads
-use Rattle.turns.proofs.state.move_bytes.Lts as lts
 
 abbrev Inv-loop : tie.InvT-loop
 Inv-loop input₀ start end i₀ input i = (start ≤ i) × (i ≤ end) × (input ≡ put input₀ 0 (take (i - start) (drop start input₀)))

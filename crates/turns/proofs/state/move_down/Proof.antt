@@ -6,10 +6,6 @@ use Rattle.turns.proofs.TurnLaws.{moved-are, moved-not, moved-done}
 use borrow.Author.Needs.{needs}
 use Rattle.turns.proofs.state.move_down.Statement.{statement}
 use Rattle.turns.proofs.state.move_down.Tie as tie
-use Rattle.turns.proofs.state.move_down.Reads as reads
-use Rattle.turns.proofs.state.move_down.Lts as lts
-use Rattle.turns.proofs.state.is_movable.Reads as is-movable-reads
-use Rattle.turns.proofs.state.move_bytes.Reads as move-bytes-reads
 
 is-movable-requires : tie.Need-is-movable-requires
 is-movable-requires c κs = search needs

@@ -5,9 +5,6 @@ use Rattle.turns.proofs.TurnLaws.{line-no, line-few, line-yes}
 use borrow.Author.Needs.{needs}
 use Rattle.turns.proofs.turn.answer.Statement.{statement}
 use Rattle.turns.proofs.turn.answer.Tie as tie
-use Rattle.turns.proofs.turn.answer.Reads as reads
-use Rattle.turns.proofs.turn.answer.Lts as lts
-use Rattle.reply.proofs.reply.reply.Reads as reply-reads
 
 add-end : tie.Need-add-end
 add-end c = search needs

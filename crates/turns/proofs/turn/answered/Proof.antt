@@ -1,12 +1,8 @@
 -- `turns::turn::answered` meets its contract. Assumes nothing.
-use Prim.Native.Nat.{_-_}
 use Rattle.turns.proofs.TurnLaws.{did-answer}
 use borrow.Author.Needs.{needs}
 use Rattle.turns.proofs.turn.answered.Statement.{statement}
 use Rattle.turns.proofs.turn.answered.Tie as tie
-use Rattle.turns.proofs.turn.answered.Reads as reads
-use Rattle.turns.proofs.turn.answered.Lts as lts
-use Rattle.turns.proofs.turn.answer.Reads as answer-reads
 
 add-end : tie.Need-add-end
 add-end c = search needs

@@ -1,10 +1,7 @@
 -- `turns::turn::are_rows` meets its contract. Assumes nothing.
-use Prim.Native.Nat.{_-_}
 use Rattle.turns.proofs.TurnLaws.{rows-list, rows-form, rows-work, rows-result}
 use Rattle.turns.proofs.turn.are_rows.Statement.{statement}
 use Rattle.turns.proofs.turn.are_rows.Tie as tie
-use Rattle.turns.proofs.turn.are_rows.Reads as reads
-use Rattle.turns.proofs.turn.are_rows.Lts as lts
 
 returns : tie.Need-returns
 returns c = rows-list (c .before .args .list) (c .before .args .form) (c .before .args .work) (c .before .args .result) (c .if1 .taken)

@@ -1,12 +1,10 @@
 -- `turns::turn::dropped` meets its contract. Assumes nothing.
-use Prim.Native.Nat.{_+_, _-_}
+use Prim.Native.Nat.{_+_}
 use mathlib.Core.Path.{_≡_}
 use native.Mathlib.Omega.{arith}
 use borrow.Author.Needs.{needs}
 use Rattle.turns.proofs.turn.dropped.Statement.{statement}
 use Rattle.turns.proofs.turn.dropped.Tie as tie
-use Rattle.turns.proofs.turn.dropped.Reads as reads
-use Rattle.turns.proofs.turn.dropped.Lts as lts
 
 add-t4 : tie.Need-add-t4
 add-t4 c = search needs

@@ -3,9 +3,6 @@
 use borrow.Author.Needs.{needs}
 use Rattle.turns.proofs.turn.idle.Statement.{statement}
 use Rattle.turns.proofs.turn.idle.Tie as tie
-use Rattle.turns.proofs.turn.idle.Reads as reads
-use Rattle.turns.proofs.turn.idle.Lts as lts
-use Rattle.turns.proofs.turn.wait.Reads as wait-reads
 
 wait-requires : tie.Need-wait-requires
 wait-requires c κs = search needs

@@ -1,10 +1,7 @@
 -- `turns::turn::is_fit` meets its contract. Assumes nothing.
-use Prim.Native.Nat.{_-_}
 use Rattle.turns.proofs.TurnLaws.{fits-order, fits-input, fits-output}
 use Rattle.turns.proofs.turn.is_fit.Statement.{statement}
 use Rattle.turns.proofs.turn.is_fit.Tie as tie
-use Rattle.turns.proofs.turn.is_fit.Reads as reads
-use Rattle.turns.proofs.turn.is_fit.Lts as lts
 
 returns : tie.Need-returns
 returns c = fits-order (c .before .before .args .st) (c .before .before .args .input) (c .before .before .args .output) (c .if1 .taken)

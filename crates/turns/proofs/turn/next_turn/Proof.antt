@@ -1,17 +1,10 @@
 -- `turns::turn::next_turn` meets its contract. Assumes nothing.
-use Prim.Native.Nat.{_-_}
 use mathlib.Core.Path.{refl, _∙_}
 use native.Mathlib.Omega.{arith}
 use Rattle.turns.proofs.TurnLaws.{did-same, did-pass, next-is, all-taken, line-inside, skipped-inside, pending-long}
 use borrow.Author.Needs.{needs}
 use Rattle.turns.proofs.turn.next_turn.Statement.{statement}
 use Rattle.turns.proofs.turn.next_turn.Tie as tie
-use Rattle.turns.proofs.turn.next_turn.Reads as reads
-use Rattle.turns.proofs.turn.next_turn.Lts as lts
-use Rattle.reply.proofs.split.next_line.Reads as next-line-reads
-use Rattle.turns.proofs.turn.answered.Reads as answered-reads
-use Rattle.turns.proofs.turn.dropped.Reads as dropped-reads
-use Rattle.turns.proofs.turn.unfinished.Reads as unfinished-reads
 
 sub-next-line : tie.Need-sub-next-line
 sub-next-line c = search needs

@@ -1,5 +1,4 @@
 -- `turns::turn::take_turn` meets its contract. Assumes nothing.
-use Prim.Native.Nat.{_-_}
 use mathlib.Core.Path.{sym, _∙_}
 use native.Mathlib.Omega.{arith}
 use borrow.Author.Tests.{not-true, not-false}
@@ -7,12 +6,6 @@ use Rattle.turns.proofs.TurnLaws.{took-rows, took-unfit, took-full, too
 use borrow.Author.Needs.{needs}
 use Rattle.turns.proofs.turn.take_turn.Statement.{statement}
 use Rattle.turns.proofs.turn.take_turn.Tie as tie
-use Rattle.turns.proofs.turn.take_turn.Reads as reads
-use Rattle.turns.proofs.turn.take_turn.Lts as lts
-use Rattle.turns.proofs.turn.are_rows.Reads as are-rows-reads
-use Rattle.turns.proofs.turn.is_fit.Reads as is-fit-reads
-use Rattle.turns.proofs.turn.next_turn.Reads as next-turn-reads
-use Rattle.turns.proofs.turn.wait.Reads as wait-reads
 
 are-rows-requires : tie.Need-are-rows-requires
 are-rows-requires c κs = search needs

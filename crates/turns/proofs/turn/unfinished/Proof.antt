@@ -1,15 +1,9 @@
 -- `turns::turn::unfinished` meets its contract. Assumes nothing.
-use Prim.Native.Nat.{_-_}
 use mathlib.Core.Path.{refl}
 use Rattle.turns.proofs.TurnLaws.{did-same, did-none, did-pass, rest-none, rest-skipped, rest-last, rest-unread}
 use borrow.Author.Needs.{needs}
 use Rattle.turns.proofs.turn.unfinished.Statement.{statement}
 use Rattle.turns.proofs.turn.unfinished.Tie as tie
-use Rattle.turns.proofs.turn.unfinished.Reads as reads
-use Rattle.turns.proofs.turn.unfinished.Lts as lts
-use Rattle.turns.proofs.turn.answered.Reads as answered-reads
-use Rattle.turns.proofs.turn.dropped.Reads as dropped-reads
-use Rattle.turns.proofs.turn.idle.Reads as idle-reads
 
 sub-n : tie.Need-sub-n
 sub-n c = search needs

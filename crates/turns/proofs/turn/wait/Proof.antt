@@ -2,8 +2,6 @@
 use borrow.Author.Tests.{eq-eqb, ne-eqb}
 use Rattle.turns.proofs.turn.wait.Statement.{statement}
 use Rattle.turns.proofs.turn.wait.Tie as tie
-use Rattle.turns.proofs.turn.wait.Reads as reads
-use Rattle.turns.proofs.turn.wait.Lts as lts
 
 returns : tie.Need-returns
 returns c = rw (eq-eqb (c .before .before .args .st .used) 0 (c .if1 .taken))

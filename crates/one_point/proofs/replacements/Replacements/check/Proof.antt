@@ -1,16 +1,9 @@
 -- `one_point::replacements::Replacements::check` meets its contract. Assumes nothing.
-use mathlib.Core.Path.{refl, sym, _∙_}
+use mathlib.Core.Path.{sym, _∙_}
 use Rattle.one_point.proofs.PlacesLaws.{pred-row, offer-long, offer-missing, offer-many, offer-none, offer-not, offer-is}
 use borrow.Author.Needs.{needs}
 use Rattle.one_point.proofs.replacements.Replacements.check.Statement.{statement}
 use Rattle.one_point.proofs.replacements.Replacements.check.Tie as tie
-use Rattle.one_point.proofs.replacements.Replacements.check.Reads as reads
-use Rattle.one_point.proofs.replacements.Replacements.check.Lts as lts
-use Rattle.form.proofs.check.check.Reads as check-reads
-use Rattle.one_point.proofs.replacements.Replacements.offer.Reads as offer-reads
-use Rattle.one_point.proofs.replacements.Replacements.says.Reads as says-reads
-use Rattle.one_point.proofs.sides.equality_of.Reads as equality-of-reads
-use Rattle.one_point.proofs.sides.match_replacement.Reads as match-replacement-reads
 
 says-requires : tie.Need-says-requires
 says-requires c κs = search needs
@@ -52,7 +45,9 @@ says-requires-4 : tie.Need-says-requires-4
 says-requires-4 c κs = search needs
 
 returns-4 : tie.Need-returns-4
-returns-4 c = c .says4 .ensures ∙ offer-none _ _ (c .before .before .before .before .before .before .before .before .before .if1 .left) (pred-row _ _ _ (c .before .before .before .before .before .before .before .before .before .if1 .left) (c .before .before .before .before .before .before .before .before .check .ensures) (c .before .before .before .before .before .before .length .given .1)) (c .before .before .before .before .if2 .left) (sym (c .before .before .before .equality-of .ensures) ∙ c .before .enum-told2 .given .1)
+returns-4 c =
+    let b3 = c .before .before .before in let b6 = b3 .before .before .before in let b9 = b6 .before .before .before in
+    c .says4 .ensures ∙ offer-none _ _ (b9 .if1 .left) (pred-row _ _ _ (b9 .if1 .left) (b6 .before .before .check .ensures) (b6 .length .given .1)) (b3 .before .if2 .left) (sym (b3 .equality-of .ensures) ∙ c .before .enum-told2 .given .1)
 
 match-replacement-requires : tie.Need-match-replacement-requires
 match-replacement-requires c κs = search needs
@@ -67,13 +62,19 @@ says-requires-5 : tie.Need-says-requires-5
 says-requires-5 c κs = search needs
 
 returns-5 : tie.Need-returns-5
-returns-5 c = c .says5 .ensures ∙ offer-not _ _ (c .before .before .before .before .before .before .before .before .before .before .before .before .before .if1 .left) (pred-row _ _ _ (c .before .before .before .before .before .before .before .before .before .before .before .before .before .if1 .left) (c .before .before .before .before .before .before .before .before .before .before .before .before .check .ensures) (c .before .before .before .before .before .before .before .before .before .before .length .given .1)) (c .before .before .before .before .before .before .before .before .if2 .left) _ (sym (c .before .before .before .before .before .before .before .equality-of .ensures) ∙ c .before .before .before .before .before .sides .given .1) (sym (c .before .before .before .match-replacement .ensures) ∙ c .before .enum-told3 .given .1)
+returns-5 c =
+    let b3 = c .before .before .before in let b7 = b3 .before .before .before .before in let b10 = b7 .before .before .before in let b13 = b10 .before .before .before in
+    c .says5 .ensures ∙ offer-not _ _ (b13 .if1 .left) (pred-row _ _ _ (b13 .if1 .left) (b10 .before .before .check .ensures) (b10 .length .given .1)) (b7 .before .if2 .left) _ (sym (b7 .equality-of .ensures) ∙ b3 .before .before .sides .given .1) (sym (b3 .match-replacement .ensures) ∙ c .before .enum-told3 .given .1)
 
 offer-requires : tie.Need-offer-requires
-offer-requires c κs = let v = offer-is (c .before .before .before .before .before .before .before .before .before .before .before .before .before .before .before .args .self) (c .before .before .before .before .before .before .before .before .before .before .before .before .before .before .before .args .row .now) (c .before .before .before .before .before .before .before .before .before .before .before .before .before .if1 .left) (pred-row _ _ _ (c .before .before .before .before .before .before .before .before .before .before .before .before .before .if1 .left) (c .before .before .before .before .before .before .before .before .before .before .before .before .check .ensures) (c .before .before .before .before .before .before .before .before .before .before .length .given .1)) (c .before .before .before .before .before .before .before .before .if2 .left) _ (sym (c .before .before .before .before .before .before .before .equality-of .ensures) ∙ c .before .before .before .before .before .sides .given .1) _ _ _ (sym (c .before .before .before .match-replacement .ensures) ∙ c .before .target .given .1) in (c .before .before .before .before .before .before .before .before .if2 .left, c .before .before .before .before .before .before .before .before .before .before .before .before .before .if1 .left, v .1, v .2)
+offer-requires c κs =
+    let b3 = c .before .before .before in let b7 = b3 .before .before .before .before in let b8 = b7 .before in let b12 = b8 .before .before .before .before in let b13 = b12 .before in let b15 = b13 .before .before in
+    let v = offer-is (b15 .args .self) (b15 .args .row .now) (b13 .if1 .left) (pred-row _ _ _ (b13 .if1 .left) (b12 .check .ensures) (b8 .before .before .length .given .1)) (b8 .if2 .left) _ (sym (b7 .equality-of .ensures) ∙ b3 .before .before .sides .given .1) _ _ _ (sym (b3 .match-replacement .ensures) ∙ c .before .target .given .1) in (b8 .if2 .left, b13 .if1 .left, v .1, v .2)
 
 returns-6 : tie.Need-returns-6
-returns-6 c = c .offer .ensures ∙ (offer-is (c .before .before .before .before .before .before .before .before .before .before .before .before .before .before .before .before .args .self) (c .before .before .before .before .before .before .before .before .before .before .before .before .before .before .before .before .args .row .now) (c .before .before .before .before .before .before .before .before .before .before .before .before .before .before .if1 .left) (pred-row _ _ _ (c .before .before .before .before .before .before .before .before .before .before .before .before .before .before .if1 .left) (c .before .before .before .before .before .before .before .before .before .before .before .before .before .check .ensures) (c .before .before .before .before .before .before .before .before .before .before .before .length .given .1)) (c .before .before .before .before .before .before .before .before .before .if2 .left) _ (sym (c .before .before .before .before .before .before .before .before .equality-of .ensures) ∙ c .before .before .before .before .before .before .sides .given .1) _ _ _ (sym (c .before .before .before .before .match-replacement .ensures) ∙ c .before .before .target .given .1)) .0
+returns-6 c =
+    let b4 = c .before .before .before .before in let b8 = b4 .before .before .before .before in let b11 = b8 .before .before .before in let b14 = b11 .before .before .before in let b16 = b14 .before .before in
+    c .offer .ensures ∙ (offer-is (b16 .args .self) (b16 .args .row .now) (b14 .if1 .left) (pred-row _ _ _ (b14 .if1 .left) (b11 .before .before .check .ensures) (b11 .length .given .1)) (b8 .before .if2 .left) _ (sym (b8 .equality-of .ensures) ∙ b4 .before .before .sides .given .1) _ _ _ (sym (b4 .match-replacement .ensures) ∙ c .before .before .target .given .1)) .0
 
 pub check-spec : {M : Type 1} → statement M
 check-spec =

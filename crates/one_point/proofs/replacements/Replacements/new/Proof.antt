@@ -4,9 +4,6 @@ use Rattle.one_point.specs.Places.{newOf}
 use borrow.Author.Needs.{needs}
 use Rattle.one_point.proofs.replacements.Replacements.new.Statement.{statement}
 use Rattle.one_point.proofs.replacements.Replacements.new.Tie as tie
-use Rattle.one_point.proofs.replacements.Replacements.new.Reads as reads
-use Rattle.one_point.proofs.replacements.Replacements.new.Lts as lts
-use Rattle.one_point.proofs.replacements.Replacements.says.Reads as says-reads
 
 says-requires : tie.Need-says-requires
 says-requires c κs = search needs

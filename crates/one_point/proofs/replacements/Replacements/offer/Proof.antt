@@ -1,5 +1,5 @@
 -- `one_point::replacements::Replacements::offer` meets its contract. Assumes nothing.
-use mathlib.Core.Path.{refl, sym, _∙_}
+use mathlib.Core.Path.{sym, _∙_}
 use native.Mathlib.Omega.{arith}
 use borrow.Author.Tests.{eq-eqb, ne-eqb, lt-ltb, le-ltb, not-true, not-false}
 use Rattle.one_point.specs.Internal.Sides.{offerPart}
@@ -7,10 +7,6 @@ use Rattle.one_point.proofs.PlacesLaws.{place-from}
 use borrow.Author.Needs.{needs}
 use Rattle.one_point.proofs.replacements.Replacements.offer.Statement.{statement}
 use Rattle.one_point.proofs.replacements.Replacements.offer.Tie as tie
-use Rattle.one_point.proofs.replacements.Replacements.offer.Reads as reads
-use Rattle.one_point.proofs.replacements.Replacements.offer.Lts as lts
-use Rattle.one_point.proofs.replacements.Replacements.says.Reads as says-reads
-use Rattle.one_point.proofs.sides.is_above.Reads as is-above-reads
 
 says-requires : tie.Need-says-requires
 says-requires c κs = search needs
