@@ -74,7 +74,7 @@ pred-sort row s f e = go (rowForm pred row) e
     go not-one e = absurd (clash cc)
 
 module _ (row m : List ℕ) (k : ℕ) (x : Checked Predicate row m k) where
-  form-ok : Ok 64 pred (x .form)
+  pub form-ok : Ok 64 pred (x .form)
   form-ok = rw (pred-sort row (x .sort) (x .form) (x .is-found)) at (x .ok)
 
   pub no-quant : (n : ℕ) → n ≡ declaredIn row → n ≡ 0 → quantified (x .form) ≡ other

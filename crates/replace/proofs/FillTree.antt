@@ -58,7 +58,7 @@ pub kept-reverse : (ps : List Place) → keptCount (reverse ps) ≡ keptCount ps
 kept-reverse [] = refl
 kept-reverse (p ∷ ps) = rw (reverse-cons p ps, kept-append (reverse ps) (p ∷ []), kept-reverse ps) (kept-one p (keptCount ps) ∙ sym (kept-cons p ps))
 
-drop-map : (f : Place → ℕ) (i : ℕ) (ps : List Place) → drop i (map f ps) ≡ map f (drop i ps)
+pub drop-map : (f : Place → ℕ) (i : ℕ) (ps : List Place) → drop i (map f ps) ≡ map f (drop i ps)
 drop-map f zero ps = refl
 drop-map f (suc i) [] = refl
 drop-map f (suc i) (p ∷ ps) = drop-map f i ps

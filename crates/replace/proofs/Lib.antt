@@ -9,6 +9,9 @@ pub mod FillTree
 pub mod NameLaws
 pub mod QuantLaws
 pub mod FillLaws
+pub mod ClearLaws
+pub mod FallLaws
+pub mod FallTree
 pub mod PruneLaws
 pub mod ReadyLaws
 pub mod TreeLaws

@@ -61,6 +61,16 @@ pub filled-end : (ws : List ℕ) (i n : ℕ) → length ws ≤ i → n + filledW
 unfolding filledWords
 filled-end ws i n h = rw (gone ws i h) (omega arith)
 
+-- the words of the table that the plan uses
+pub used-first : (p : Plan) → Tabled p → length (take (p .table .n) (p .table .words)) ≡ p .table .n
+used-first p h =
+    let a = h .few in
+    let b = h .words in
+    length-take-le (p .table .n) (p .table .words) (omega arith)
+
+pub used-few : (p : Plan) → Tabled p → length (take (p .table .n) (p .table .words)) ≤ 32
+used-few p h = rw (used-first p h) (h .few)
+
 -- where a piece lies, and how many words it has
 module _ (p : Plan) (n : ℕ) (inside : InRow p n) where
   free-fits : (k i : ℕ) (b : Bool) → leb (p .table .n) i ≡ b → Fits (pick b Same (Part (getD (p .table .starts) i 0) (getD (p .table .ends) i 0) k (p .down))) n
@@ -181,6 +191,31 @@ part-size x q = rw q
 pub part-fits : (n : ℕ) {c : Piece} {s e u d : ℕ} → Fits c n → c ≡ Part s e u d → (s ≤ e) × (e ≤ n)
 unfolding Fits
 part-fits n h q = rw q at h
+
+-- an item by its case
+pub ident-size : (k t v : ℕ) → sizeOf (Ident k t v) ≡ 2
+unfolding sizeOf
+ident-size k t v = refl
+
+pub ident-step : {x : Item} {k t v : ℕ} → x ≡ Ident k t v → sizeOf x ≡ 2
+ident-step e = rw (e, ident-size)
+
+module _ {x : Item} {w : ℕ} (is : x ≡ Plain w) where
+  pub plain-step : sizeOf x ≡ 1
+  unfolding sizeOf
+  plain-step = rw is
+
+  pub plain-size : 1 ≡ pieceSize Same x
+  unfolding pieceSize
+  plain-size = sym plain-step
+
+  pub plain-same : (p : Plan) → Same ≡ pieceOf p x
+  unfolding pieceOf
+  plain-same p = rw is
+
+  pub plain-words : (p : Plan) (list lm : List ℕ) → wordsOf x ≡ planned p list lm x
+  unfolding pieceWords
+  plain-words p list lm = rw (← plain-same p)
 
 -- a piece in the loops
 module _ (p : Plan) (x : Item) {c : Piece} (is : c ≡ pieceOf p x) {n : ℕ} (size : n ≡ pieceSize c x) where

@@ -5,33 +5,34 @@ use mathlib.Core.List.{List, [], _∷_, _++_, map}
 use Prim.Native.Nat.{ℕ, zero, suc, _+_, _-_, _≤_, _<_}
 use native.Mathlib.Nat.{zero-add}
 use native.Mathlib.Omega.{arith}
-use borrow.Author.Tests.{lt-ltb, le-ltb, eq-eqb, ne-eqb}
-use lib.Dec.{eqb, ltb}
-use lib.ListN.{length, getD, take, drop, set, replicate, length-append, length-drop, length-replicate, getD-replicate}
-use lib.Seq.{take-at}
+use borrow.Author.Tests.{lt-ltb, le-ltb, eq-eqb, ne-eqb, eqb-true, eqb-false}
+use lib.Dec.{leb, eqb}
+use lib.ListN.{length, take, drop, replicate, length-append, length-replicate, length-map}
+use lib.Seq.{take-at, length-take-le}
 use Rattle.tree.specs.Form.{Leaf, free, bound, Form, leaf, pick, encode}
 use Rattle.tree.specs.Tag.{Sort, pred}
 use Rattle.form.specs.Decode.{missing, formOf}
 use Rattle.form.specs.Lists.{Place, kept, filled}
-use Rattle.form.specs.Answer.{Outcome, refusal, needs, finish}
+use Rattle.form.specs.Answer.{Outcome, answer, refusal, needs, finish}
 use Rattle.form.specs.Internal.Reads.{mark}
 use Rattle.form.specs.declared.answer.Kind.the-variants.{Predicate}
-use Rattle.form.specs.declared.lists.Table.{Table}
-use Rattle.subst.specs.Walk.{Binding, inside, outside, binding, collectIndex, collectLeaf, collect, each}
-use Rattle.subst.specs.Internal.Items.{items, allItems, store}
+use Rattle.subst.specs.Walk.{Binding, inside, outside, binding, collectIndex, collectLeaf}
+use Rattle.subst.specs.Internal.Items.{items, allItems}
 use Rattle.subst.specs.declared.items.Item.{Item}
 use Rattle.subst.specs.declared.items.Item.the-variants.{Plain, Ident}
 use Rattle.subst.proofs.WalkLaws.{binding-inside, binding-back}
 use Rattle.subst.proofs.RowLaws.{identOf, itemsOf, each-items-in}
 use Rattle.subst.proofs.CheckedLaws.{Checked, too-long, no-form-there, form-there}
-use Rattle.subst.proofs.ItemLaws.{stored}
 use Rattle.replace.specs.Fill.{keptCount, fill, ofQuantified, quantified}
 use Rattle.replace.specs.Prune.{isNot, unused, usedPlaces, prune, pruneOutcome}
-use Rattle.replace.specs.Internal.Pieces.{part, filledWords, InRow, Ready, fillPlan, declaredIn, filledRow, notIndex, usedWords, usedTable}
-use Rattle.replace.proofs.EntryLaws.{PlaceAt}
+use Rattle.replace.specs.Internal.Pieces.{filledWords, declaredIn, notIndex, cleared, usedWords, droppedRow, droppedOutcome}
+use Rattle.replace.proofs.ClearLaws.{cleared-length}
 use Rattle.replace.proofs.FillTree.{wordFor, count-both}
-use Rattle.replace.proofs.QuantLaws.{Quant, quant-items}
-use Rattle.replace.proofs.FillLaws.{filled-tree, no-quant, the-quant, the-count, the-length}
+use Rattle.replace.proofs.NameLaws.{kept-names, encode-quantify}
+use Rattle.replace.proofs.QuantLaws.{Quant, quant-tag, quant-names, quant-items}
+use Rattle.replace.proofs.FillLaws.{form-ok, no-quant, the-quant, the-count, the-length}
+use Rattle.replace.proofs.PruneTree.{used-length, body-is, prune-inside}
+use Rattle.replace.proofs.FallTree.{fall-tree}
 
 -- an index that the body never uses, as the code tests it
 not-here : (n j k i : ℕ) (z : Binding) → binding k i ≡ z → notIndex n j (Ident (k + n) 2 i) ≡ collectIndex true (isNot j) k z
@@ -60,73 +61,37 @@ word-pick : (b : Bool) (x : Form) → wordFor (pick b (filled x) kept) ≡ pick 
 word-pick true x = refl
 word-pick false x = refl
 
-pub used-words : (n : ℕ) (ns : List ℕ) (f : Form) → usedWords n (length ns) (itemsOf n f) ≡ map wordFor (usedPlaces ns f)
-unfolding usedWords
+used-words : (n : ℕ) (ns : List ℕ) (f : Form) → cleared n (replicate (length ns) 1) (itemsOf n f) ≡ map wordFor (usedPlaces ns f)
+unfolding cleared
 used-words n [] f = refl
-used-words n (m ∷ ns) f = rw (unused-items n (length ns) f, used-words n ns f, word-pick (unused (length ns) f) (leaf (free 0)))
+used-words n (m ∷ ns) f = rw (length-replicate {A = ℕ} (length ns) 1, unused-items n (length ns) f, used-words n ns f, word-pick (unused (length ns) f) (leaf (free 0)))
 
-pub used-length : (ns : List ℕ) (f : Form) → length (usedPlaces ns f) ≡ length ns
-used-length [] f = refl
-used-length (n ∷ ns) f = ap suc (used-length ns f)
+-- the words as the code makes them: the first n of 32 ones are cleared
+abbrev ones : ℕ → List ℕ
+ones n = replicate n 1
 
-words-length : (n k : ℕ) (xs : List Item) → length (usedWords n k xs) ≡ k
-unfolding usedWords
-words-length n zero xs = refl
-words-length n (suc k) xs = ap suc (words-length n k xs)
+first-ones : (n m : ℕ) → n ≤ m → take n (ones m) ≡ ones n
+first-ones zero m h = refl
+first-ones (suc n) zero h = absurd (omega arith)
+first-ones (suc n) (suc m) h = ap (λ (l : List ℕ). 1 ∷ l) (first-ones n m (omega arith))
 
--- one more declaration looked at
-pub used-more : (n i : ℕ) (xs : List Item) (l l′ : List ℕ) (w : ℕ) → i < n → w ≡ pick (allItems (notIndex n (n - 1 - i)) xs) 1 0 → l′ ≡ set l i w → store l i (usedWords n (n - i) xs) ≡ store l′ (i + 1) (usedWords n (n - (i + 1)) xs)
-unfolding usedWords store
-used-more n i xs l l′ w h e s =
-    let a : n - i ≡ suc (n - 1 - i) = omega arith in
-    let b : n - (i + 1) ≡ n - 1 - i = omega arith in
-    rw (a, b, s, e)
+module _ (n : ℕ) (few : n ≤ 32) where
+  pub ones-length : length (take n (ones 32)) ≡ n
+  ones-length = length-take-le n (ones 32) few
 
-pub used-none : (n i : ℕ) (xs : List Item) (l : List ℕ) → n ≤ i → store l i (usedWords n (n - i) xs) ≡ l
-unfolding usedWords store
-used-none n i xs l h = let a : n - i ≡ 0 = omega arith in rw a
+  module _ (xs : List Item) (ws : List ℕ) (e : ws ≡ cleared (length (take n (ones 32))) (take n (ones 32)) xs) where
+    words-length : length ws ≡ n
+    words-length = rw (e, cleared-length) ones-length
 
--- the table of the used declarations
-module _ (n : ℕ) (few : n ≤ 32) (xs : List Item) where
-  ends-with : store (replicate 32 0) 0 (usedWords n n xs) ≡ usedWords n n xs ++ drop (length (usedWords n n xs)) (replicate 32 0)
-  ends-with = stored (replicate 32 0) (usedWords n n xs) (rw (words-length n n xs, length-replicate) few)
+    pub used-made : take n (ws ++ drop n (ones 32)) ≡ usedWords n xs
+    unfolding usedWords
+    used-made = take-at ws (drop n (ones 32)) n words-length ∙ (e ∙ rw (ones-length, first-ones n 32 few))
 
-  pub table-words : take (usedTable n xs .n) (usedTable n xs .words) ≡ usedWords n n xs
-  unfolding usedTable
-  table-words = rw ends-with (take-at (usedWords n n xs) (drop (length (usedWords n n xs)) (replicate 32 0)) n (words-length n n xs))
+    pub used-long : length (take n (ws ++ drop n (ones 32))) ≡ n
+    used-long = rw (take-at ws (drop n (ones 32)) n words-length) words-length
 
-  table-long : length (store (replicate 32 0) 0 (usedWords n n xs)) ≡ 32
-  table-long = rw (ends-with, length-append, length-drop, words-length n n xs, length-replicate) (omega arith)
-
-  table-in-row : InRow (fillPlan (usedTable n xs)) 2
-  unfolding InRow usedTable
-  table-in-row i h = rw (getD-replicate {A = ℕ} 32 i 0 0 (omega arith), getD-replicate {A = ℕ} 32 i 2 0 (omega arith)) (omega arith, omega arith)
-
-  pub table-ready : Ready (fillPlan (usedTable n xs)) (1 ∷ 0 ∷ []) (1 ∷ 0 ∷ [])
-  unfolding usedTable
-  table-ready = record { tabled = record { few = few; words = table-long; starts = refl; ends = refl }; in-row = table-in-row; marked = omega arith }
-
-  drop-place : (b : Bool) → PlaceAt (Unit {0}) (1 ∷ 0 ∷ []) (1 ∷ 0 ∷ []) 0 2 (pick b (filled (leaf (free 0))) kept)
-  unfolding part items itemsOf collect
-  drop-place true = (refl, refl)
-  drop-place false = tt
-
-  drop-places : (ns : List ℕ) (f : Form) (i : ℕ) → PlaceAt (Unit {0}) (1 ∷ 0 ∷ []) (1 ∷ 0 ∷ []) 0 2 (getD (usedPlaces ns f) i kept)
-  drop-places [] f i = tt
-  drop-places (m ∷ ns) f zero = drop-place (unused (length ns) f)
-  drop-places (m ∷ ns) f (suc i) = drop-places ns f i
-
-  table-places : (ns : List ℕ) (f : Form) (i : ℕ) → i < n → PlaceAt (Unit {0}) (1 ∷ 0 ∷ []) (1 ∷ 0 ∷ []) (getD (usedTable n xs .starts) i 0) (getD (usedTable n xs .ends) i 0) (getD (usedPlaces ns f) i kept)
-  unfolding usedTable
-  table-places ns f i h = rw (getD-replicate {A = ℕ} 32 i 0 0 (omega arith), getD-replicate {A = ℕ} 32 i 2 0 (omega arith)) (drop-places ns f i)
-
-pub used-long : (n : ℕ) → n ≤ 32 → (xs : List Item) (t : Table) → t ≡ usedTable n xs → length (t .words) ≡ 32
-unfolding usedTable
-used-long n few xs t u = rw u (table-long n few xs)
-
-pub used-made : (n : ℕ) (xs : List Item) (ws : List ℕ) → ws ≡ store (replicate 32 0) 0 (usedWords n n xs) → _≡_ {A = Table} (record { words = ws; starts = replicate 32 0; ends = replicate 32 2; n = n }) (usedTable n xs)
-unfolding usedTable
-used-made n xs ws e = rw e
+    pub used-fits : n ≤ length (ws ++ drop n (ones 32))
+    used-fits = let l = words-length in rw length-append (omega arith)
 
 -- the whole call
 abbrev pruneGo : ℕ → Sort → Form → Outcome
@@ -182,12 +147,12 @@ module _ (row w : List ℕ) (room : ℕ) (x : Checked Predicate row (take (lengt
   body-items : xs ≡ itemsOf n (y .body)
   body-items = ap (λ (r : List ℕ). items (drop (2 + n) r) (drop (2 + n) w)) (x .words) ∙ quant-items (x .form) y n w (the-count row m (length row) x n e y) row-marks
 
-  place-list : usedWords n n xs ≡ map wordFor (ps row room m x n e z)
-  place-list = rw body-items (ap (λ (k : ℕ). usedWords n k (itemsOf n (y .body))) (the-count row m (length row) x n e y) ∙ used-words n (y .decls) (y .body))
+  place-list : usedWords n xs ≡ map wordFor (ps row room m x n e z)
+  unfolding usedWords
+  place-list = rw body-items (ap (λ (k : ℕ). cleared n (replicate k 1) (itemsOf n (y .body))) (the-count row m (length row) x n e y) ∙ used-words n (y .decls) (y .body))
 
-  table-is : (t : Table) → t ≡ usedTable n xs → (t .n ≡ n) × (take n (t .words) ≡ map wordFor (ps row room m x n e z))
-  unfolding usedTable
-  table-is t u = rw u (refl, table-words n (prune-few row room m x n e z) xs ∙ place-list)
+  words-count : length (map wordFor (ps row room m x n e z)) ≡ n
+  words-count = length-map (ps row room m x n e z) wordFor ∙ (used-length (y .decls) (y .body) ∙ sym (the-count row m (length row) x n e y))
 
   kept-all : filledWords (map wordFor (ps row room m x n e z)) ≡ 0 → keptCount (ps row room m x n e z) ≡ length (y .decls)
   kept-all g = let c = count-both (ps row room m x n e z) in let l = used-length (y .decls) (y .body) in omega arith
@@ -195,27 +160,35 @@ module _ (row w : List ℕ) (room : ℕ) (x : Checked Predicate row (take (lengt
   kept-not : (filledWords (map wordFor (ps row room m x n e z)) ≡ 0 → ⊥) → keptCount (ps row room m x n e z) ≡ length (y .decls) → ⊥
   kept-not g k = let c = count-both (ps row room m x n e z) in let l = used-length (y .decls) (y .body) in g (omega arith)
 
-  module _ (t : Table) (u : t ≡ usedTable n xs) (g : ℕ) (f : g ≡ filledWords (take n (t .words))) where
-    count-is : g ≡ filledWords (map wordFor (ps row room m x n e z))
-    count-is = f ∙ ap filledWords (table-is t u .1)
+  -- dropped are the places that the tree leaves out
+  test-same : (b : Bool) → eqb (filledWords (map wordFor (ps row room m x n e z))) 0 ≡ b → eqb (keptCount (ps row room m x n e z)) (length (y .decls)) ≡ b
+  test-same true h = eq-eqb (keptCount (ps row room m x n e z)) (length (y .decls)) (kept-all (eqb-true (filledWords (map wordFor (ps row room m x n e z))) 0 h))
+  test-same false h = ne-eqb (keptCount (ps row room m x n e z)) (length (y .decls)) (kept-not (eqb-false (filledWords (map wordFor (ps row room m x n e z))) 0 h))
 
-    pub prune-all : g ≡ 0 → pruneOutcome row room ≡ refusal 9
-    prune-all h = prune-quant row room m x n e z ∙ rw (eq-eqb (keptCount (ps row room m x n e z)) (length (y .decls)) (kept-all (sym count-is ∙ h)))
+  row-made : droppedRow (map wordFor (ps row room m x n e z)) (encode (x .form)) w ≡ encode (prune (y .tag) (y .decls) (y .body))
+  unfolding droppedRow prune fill
+  row-made =
+      let ok = form-ok row m (length row) x in
+      let short = rw (x .words) at (x .short) in
+      rw (
+        quant-items (x .form) y (length (map wordFor (ps row room m x n e z))) w (words-count ∙ the-count row m (length row) x n e y) row-marks,
+        length-map (ps row room m x n e z) wordFor,
+        fall-tree (ps row room m x n e z) (y .body),
+        ← body-is (x .form) ok short y,
+        quant-tag (x .form) y,
+        quant-names (x .form) y,
+        kept-names (ps row room m x n e z) (y .decls) (encode (y .body)) (used-length (y .decls) (y .body)),
+        encode-quantify,
+      )
 
-    pub table-few : 2 + t .n ≤ length row
-    table-few = let c = table-is t u .0 in let h = prune-fits row room m x n e z in omega arith
+  prune-done : finish pred room (prune (y .tag) (y .decls) (y .body))
+      ≡ needs 14 (leb (length (encode (prune (y .tag) (y .decls) (y .body)))) room) (answer (encode (prune (y .tag) (y .decls) (y .body))))
+  unfolding finish
+  prune-done = rw (prune-inside (x .form) (form-ok row m (length row) x) (rw (x .words) at (x .short)) y)
 
-    pub prune-ready : Ready (fillPlan t) (1 ∷ 0 ∷ []) (1 ∷ 0 ∷ [])
-    prune-ready = rw u (table-ready n (prune-few row room m x n e z) xs)
-
-    prune-made : filledRow (1 ∷ 0 ∷ []) (1 ∷ 0 ∷ []) row w (usedTable n xs) room ≡ finish pred room (prune (y .tag) (y .decls) (y .body))
-    unfolding prune usedTable
-    prune-made =
-        let c = the-count row m (length row) x n e y in
-        let l = used-length (y .decls) (y .body) in
-        ap (λ (r : List ℕ). filledRow (1 ∷ 0 ∷ []) (1 ∷ 0 ∷ []) r w (usedTable n xs) room) (x .words)
-        ∙ filled-tree (x .form) y (usedTable n xs) (1 ∷ 0 ∷ []) (1 ∷ 0 ∷ []) (ps row room m x n e z) (table-words n (prune-few row room m x n e z) xs ∙ place-list) (c ∙ sym l)
-        (λ i h. table-places n (prune-few row room m x n e z) xs (y .decls) (y .body) i (omega arith)) l w row-marks room
-
-    pub prune-row : (g ≡ 0 → ⊥) → filledRow (1 ∷ 0 ∷ []) (1 ∷ 0 ∷ []) row w t room ≡ pruneOutcome row room
-    prune-row h = rw u (prune-made ∙ sym (prune-quant row room m x n e z ∙ rw (ne-eqb (keptCount (ps row room m x n e z)) (length (y .decls)) (kept-not (λ k. h (count-is ∙ k))))))
+  pub prune-row : (ws : List ℕ) → ws ≡ usedWords n xs → droppedOutcome ws row w room ≡ pruneOutcome row room
+  unfolding droppedOutcome
+  prune-row ws u =
+      let v : ws ≡ map wordFor (ps row room m x n e z) = u ∙ place-list in
+      let r : droppedRow ws row w ≡ encode (prune (y .tag) (y .decls) (y .body)) = ap (λ (l : List ℕ). droppedRow l row w) v ∙ (ap (λ (l : List ℕ). droppedRow (map wordFor (ps row room m x n e z)) l w) (x .words) ∙ row-made) in
+      rw (r, v, prune-quant row room m x n e z, prune-done, test-same (eqb (filledWords (map wordFor (ps row room m x n e z))) 0) refl)

@@ -24,10 +24,13 @@ use Rattle.replace.specs.Internal.Pieces.{declaredIn}
 use Rattle.replace.proofs.OkLaws.{ok-deep, ok-walk, areNames, names-good, names-made}
 use Rattle.replace.proofs.FillTree.{kept-reverse}
 use Rattle.replace.proofs.QuantLaws.{Quant, is-quant, not-quant, tag-own, tag-node}
-use Rattle.replace.proofs.PruneLaws.{used-length}
+
+pub used-length : (ns : List ℕ) (f : Form) → length (usedPlaces ns f) ≡ length ns
+used-length [] f = refl
+used-length (n ∷ ns) f = ap suc (used-length ns f)
 
 -- the index that a kept declaration, or one outside, gets: the places from the innermost outwards
-abbrev rank : ℕ → ℕ → List Place → ℕ → ℕ
+abbrev pub rank : ℕ → ℕ → List Place → ℕ → ℕ
 rank m c [] j = m + j
 rank m c (p ∷ ps) zero = c
 rank m c (kept ∷ ps) (suc j) = rank m (suc c) ps j
@@ -114,7 +117,7 @@ used-stays (n ∷ ns) f =
     (stays-more (reverse (usedPlaces ns f)) f (unused (length ns) f) (ap (λ z. unused z f) long) (used-stays ns f))
 
 -- such a body is only renumbered
-abbrev ranked : List Place → ℕ → Outer → Leaf
+abbrev pub ranked : List Place → ℕ → Outer → Leaf
 ranked ps k (named m) = free m
 ranked ps k (dangling j) = bound (k + rank (keptCount ps) 0 (reverse ps) j)
 
@@ -240,7 +243,7 @@ module _ (f : Form) (ok : Ok 64 pred f) (short : length (encode f) ≤ 8192) (q 
   abbrev ps : List Place
   ps = usedPlaces (q .decls) (q .body)
 
-  body-is : subst (fillFor ps) (q .body) ≡ walk (λ k x. leaf (ranked ps k x)) 0 (q .body)
+  pub body-is : subst (fillFor ps) (q .body) ≡ walk (λ k x. leaf (ranked ps k x)) 0 (q .body)
   body-is = subst-ranked ps (q .body) (used-stays (q .decls) (q .body))
 
   body-ok : Ok 63 pred (walk (λ k x. leaf (ranked ps k x)) 0 (q .body))

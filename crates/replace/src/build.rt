@@ -14,7 +14,7 @@ ghost use Rattle.subst.specs.Internal.Items.{items, rewritten, store};
 ghost use Rattle.replace.specs.Internal.Pieces.{planned, sizes, Ready, emitted, replaced};
 
 // The words, stored at the start of the output row.
-fn copy(words: &[u32], out: &mut [u32])
+pub fn copy(words: &[u32], out: &mut [u32])
     requires { ⌜ length (now words) ≤ length (now out) ⌝ }
     ensures { λ _. ⌜ now (out .exit) ≡ store (now (out .entry)) 0 (now (words .entry)) ⌝ }
 {

@@ -64,7 +64,7 @@ fn write_names(words: &[u32], row: &[u32], head: &mut [u32]) -> usize
 }
 
 // The head of the quantifier with the declarations that are kept, none where none is: its length.
-fn write_head(words: &[u32], row: &[u32], head: &mut [u32]) -> usize
+pub(crate) fn write_head(words: &[u32], row: &[u32], head: &mut [u32]) -> usize
     requires { ⌜ 2 + length (now words) ≤ length (now row) ⌝ }
     requires { ⌜ 2 + length (now words) ≤ length (now head) ⌝ }
     requires { ⌜ length (now words) ≤ 32 ⌝ }
@@ -81,7 +81,7 @@ fn write_head(words: &[u32], row: &[u32], head: &mut [u32]) -> usize
 }
 
 // The quantified predicate with its declarations filled by the places of the table.
-pub(crate) fn fill_with(
+fn fill_with(
     list: &[u32],
     list_marks: &[u32],
     row: &[u32],

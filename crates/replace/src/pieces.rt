@@ -10,7 +10,7 @@ ghost use mathlib.Core.List.{[], _∷_};
 ghost use Prim.Native.Nat.{_+_, _-_, _≤_};
 ghost use lib.ListN.{length, drop};
 ghost use Rattle.subst.specs.Internal.Items.{items, rewritten, movedWords, store};
-ghost use Rattle.replace.specs.Internal.Pieces.{part, pieceWords, pieceSize, spot, filledWords, freePiece, fillPiece, pieceOf, planned, sizes, capped, Tabled, Ready, Fits};
+ghost use Rattle.replace.specs.Internal.Pieces.{part, pieceWords, pieceSize, spot, filledWords, freePiece, fillPiece, pieceOf, planned, sizes, capped, planFor, Tabled, Ready, Fits};
 
 // The item itself; an index; or the list row's words from a start to an end, their dangling indices moved up and down.
 pub enum Piece {
@@ -23,6 +23,14 @@ pub enum Piece {
 // row are moved down by `down`.
 pub struct Plan {
     pub table: Table,
+    pub fills: bool,
+    pub gone: u32,
+    pub down: u32,
+}
+
+// A plan without the rows of its table, which are lent beside it.
+pub struct Rule {
+    pub n: usize,
     pub fills: bool,
     pub gone: u32,
     pub down: u32,
@@ -51,7 +59,7 @@ fn index_of(names: &[u32], m: u32) -> usize
     i
 }
 
-fn one_if(w: u32) -> u32
+pub fn one_if(w: u32) -> u32
     ensures { λ r. ⌜ r ≡ filledWords (w ∷ []) ⌝ }
 {
     if w == 0 {
@@ -74,62 +82,54 @@ pub(crate) fn filled_from(words: &[u32], from: usize) -> u32
     n
 }
 
-fn free_piece(plan: Plan, k: u32, m: u32) -> Piece
-    requires { ⌜ Tabled plan ⌝ }
-    ensures { λ r. ⌜ r ≡ freePiece plan k m ⌝ }
+fn free_piece(rule: Rule, words: &[u32], starts: &[usize], ends: &[usize], k: u32, m: u32) -> Piece
+    requires { ⌜ Tabled (planFor rule (now words) (now starts) (now ends)) ⌝ }
+    ensures { λ r. ⌜ r ≡ freePiece (planFor rule (now (words .entry)) (now (starts .entry)) (now (ends .entry))) k m ⌝ }
 {
-    let table = plan.table;
-    let n = table.n;
-    let words = table.words;
+    let n = rule.n;
     let i = index_of(&words[..n], m);
     if n <= i {
         return Piece::Same;
     }
-    let starts = table.starts;
-    let ends = table.ends;
-    Piece::Part(starts[i], ends[i], k, plan.down)
+    Piece::Part(starts[i], ends[i], k, rule.down)
 }
 
 // A dangling index of the body: it falls by the filled places inside its own, or becomes the expression of its place.
-fn fill_piece(plan: Plan, k: u32, v: u32) -> Piece
-    requires { ⌜ Tabled plan ⌝ }
-    ensures { λ r. ⌜ r ≡ fillPiece plan k v ⌝ }
+fn fill_piece(rule: Rule, words: &[u32], starts: &[usize], ends: &[usize], k: u32, v: u32) -> Piece
+    requires { ⌜ Tabled (planFor rule (now words) (now starts) (now ends)) ⌝ }
+    ensures { λ r. ⌜ r ≡ fillPiece (planFor rule (now (words .entry)) (now (starts .entry)) (now (ends .entry))) k v ⌝ }
 {
-    let table = plan.table;
-    let n = table.n;
+    let n = rule.n;
     let b = less(k, n as u32);
     if v < b {
         return Piece::Same;
     }
     let j = (v - b) as usize;
     if n <= j {
-        return Piece::Index(less(v, plan.gone));
+        return Piece::Index(less(v, rule.gone));
     }
     let i = n - 1 - j;
-    let words = table.words;
     if words[i] == 0 {
         return Piece::Index(less(v, filled_from(&words[..n], i + 1)));
     }
-    let starts = table.starts;
-    let ends = table.ends;
-    Piece::Part(starts[i], ends[i], less(k, plan.gone), plan.down)
+    Piece::Part(starts[i], ends[i], less(k, rule.gone), rule.down)
 }
 
-fn piece_of(plan: Plan, it: Item) -> Piece
-    requires { ⌜ Tabled plan ⌝ }
-    ensures { λ r. ⌜ r ≡ pieceOf plan it ⌝ }
+fn piece_of(rule: Rule, words: &[u32], starts: &[usize], ends: &[usize], it: Item) -> Piece
+    requires { ⌜ Tabled (planFor rule (now words) (now starts) (now ends)) ⌝ }
+    ensures { λ r. ⌜ r ≡ pieceOf (planFor rule (now (words .entry)) (now (starts .entry)) (now (ends .entry))) it ⌝ }
 {
     let Item::Ident(k, t, v) = it else {
         return Piece::Same;
     };
-    if plan.fills {
+    if rule.fills {
         if t == 2 {
-            return fill_piece(plan, k, v);
+            return fill_piece(rule, words, starts, ends, k, v);
         }
         return Piece::Same;
     }
     if t == 1 {
-        return free_piece(plan, k, v);
+        return free_piece(rule, words, starts, ends, k, v);
     }
     Piece::Same
 }
@@ -154,16 +154,34 @@ pub(crate) fn words_needed(plan: Plan, row: &[u32], marks: &[u32], from: usize) 
     requires { ⌜ Tabled plan ⌝ }
     ensures { λ r. ⌜ r ≡ capped (sizes plan (items (drop from (now (row .entry))) (drop from (now (marks .entry))))) ⌝ }
 {
+    let table = plan.table;
+    let rule = Rule {
+        n: table.n,
+        fills: plan.fills,
+        gone: plan.gone,
+        down: plan.down,
+    };
+    let words = table.words;
+    let starts = table.starts;
+    let ends = table.ends;
     let mut n = 0;
     let mut i = from;
     while i < row.len() {
         let it = item_at(row, marks, i);
-        let size = piece_size(piece_of(plan, it), it);
+        let Item::Ident(k, t, v) = it else {
+            if 8192 <= n {
+                return 8193;
+            }
+            n += 1;
+            i += 1;
+            continue;
+        };
+        let size = piece_size(piece_of(rule, &words, &starts, &ends, it), it);
         if 8192 - n < size {
             return 8193;
         }
         n += size;
-        i += size_of(it);
+        i += 2;
     }
     n
 }
@@ -216,13 +234,29 @@ pub(crate) fn write_pieces(
     requires { ⌜ at + sizes plan (items (drop from (now row)) (drop from (now marks))) ≤ length (now out) ⌝ }
     ensures { λ _. ⌜ now (out .exit) ≡ store (now (out .entry)) at (rewritten (planned plan (now (list .entry)) (now («list_marks» .entry))) (items (drop from (now (row .entry))) (drop from (now (marks .entry))))) ⌝ }
 {
+    let table = plan.table;
+    let rule = Rule {
+        n: table.n,
+        fills: plan.fills,
+        gone: plan.gone,
+        down: plan.down,
+    };
+    let words = table.words;
+    let starts = table.starts;
+    let ends = table.ends;
     let mut i = from;
     let mut p = at;
     while i < row.len() {
         let it = item_at(row, marks, i);
-        let piece = piece_of(plan, it);
+        let Item::Ident(k, t, v) = it else {
+            put_item(out, p, it);
+            p += 1;
+            i += 1;
+            continue;
+        };
+        let piece = piece_of(rule, &words, &starts, &ends, it);
         write_piece(list, list_marks, piece, it, out, p);
         p += piece_size(piece, it);
-        i += size_of(it);
+        i += 2;
     }
 }

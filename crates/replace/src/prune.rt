@@ -1,98 +1,155 @@
 // Prune: the declarations whose index the body never uses are dropped.
+use crate::build::copy;
 use crate::fill::declared;
-use crate::fill::fill_with;
+use crate::fill::write_head;
 use crate::marks::mark_row;
 use crate::pieces::filled_from;
 use crate::pieces::less;
+use crate::pieces::one_if;
 use form::answer::Answer;
 use form::answer::Kind;
 use form::answer::Limit;
-use form::lists::Table;
 use subst::items::Item;
 use subst::items::item_at;
+use subst::items::put_item;
 use subst::items::size_of;
 ghost use mathlib.Core.Path.{_≡_};
+ghost use mathlib.Core.List.{[], _∷_};
 ghost use Prim.Native.Nat.{_+_, _-_, _≤_, _<_};
 ghost use lib.ListN.{length, drop};
-ghost use Rattle.tree.specs.Form.{pick};
 ghost use Rattle.form.specs.Answer.{told, written};
-ghost use Rattle.subst.specs.Internal.Items.{items, allItems, store};
+ghost use Rattle.subst.specs.Internal.Items.{items, rewritten, store};
 ghost use Rattle.replace.specs.Prune.{pruneOutcome};
-ghost use Rattle.replace.specs.Internal.Pieces.{notIndex, usedWords, usedTable};
+ghost use Rattle.replace.specs.Internal.Pieces.{cleared, Falls, fallItem, fallenWords, droppedOutcome};
 
-// Whether the item is not index j of the body; n declarations are open round the body.
-fn is_not(n: u32, j: u32, it: Item) -> bool
-    ensures { λ r. ⌜ r ≡ notIndex n j it ⌝ }
+// Sets the word of the declaration that the item uses, if any, to 0.
+fn clear_use(it: Item, words: &mut [u32])
+    requires { ⌜ length (now words) ≤ 32 ⌝ }
+    ensures { λ _. ⌜ now (words .exit) ≡ cleared (length (now (words .entry))) (now (words .entry)) (it ∷ []) ⌝ }
 {
     let Item::Ident(k, t, v) = it else {
-        return true;
+        return;
     };
     if t != 2 {
-        return true;
+        return;
     }
-    let b = less(k, n);
+    let n = words.len();
+    let b = less(k, n as u32);
     if v < b {
-        return true;
+        return;
     }
-    j != v - b
+    let j = (v - b) as usize;
+    if j < n {
+        words[n - 1 - j] = 0;
+    }
 }
 
-// Whether the items from `from` on never use index j of the body.
-fn is_unused(row: &[u32], marks: &[u32], from: usize, n: u32, j: u32) -> bool
-    ensures { λ r. ⌜ r ≡ allItems (notIndex n j) (items (drop from (now (row .entry))) (drop from (now (marks .entry)))) ⌝ }
+// The words stand for the declarations, the outermost first: sets the word of each that the items from `from` on use to 0.
+fn clear_used(row: &[u32], marks: &[u32], from: usize, words: &mut [u32])
+    requires { ⌜ length (now words) ≤ 32 ⌝ }
+    ensures { λ _. ⌜ now (words .exit) ≡ cleared (length (now (words .entry))) (now (words .entry)) (items (drop from (now (row .entry))) (drop from (now (marks .entry)))) ⌝ }
 {
     let mut i = from;
     while i < row.len() {
         let it = item_at(row, marks, i);
-        if !is_not(n, j, it) {
-            return false;
-        }
+        clear_use(it, words);
         i += size_of(it);
     }
-    true
 }
 
-fn unused_word(row: &[u32], marks: &[u32], from: usize, n: u32, j: u32) -> u32
-    ensures { λ r. ⌜ r ≡ pick (allItems (notIndex n j) (items (drop from (now (row .entry))) (drop from (now (marks .entry))))) 1 0 ⌝ }
+// For each index of the body, and for those further out, how many of the declarations inside it are dropped.
+fn count_falls(words: &[u32], falls: &mut [u32])
+    requires { ⌜ length (now words) ≤ 32 ⌝ }
+    requires { ⌜ length (now words) < length (now falls) ⌝ }
+    ensures { λ _. ⌜ Falls (now (words .entry)) (now (falls .exit)) ⌝ }
 {
-    if is_unused(row, marks, from, n, j) {
-        return 1;
-    }
-    0
-}
-
-// For each declaration 0 if the body uses it, else 1.
-fn write_used(row: &[u32], marks: &[u32], n: u32, words: &mut [u32])
-    requires { ⌜ n ≤ length (now words) ⌝ }
-    requires { ⌜ n ≤ 32 ⌝ }
-    ensures { λ _. ⌜ now (words .exit) ≡ store (now (words .entry)) 0 (usedWords n n (items (drop (2 + n) (now (row .entry))) (drop (2 + n) (now (marks .entry))))) ⌝ }
-{
-    let mut i = 0u32;
-    while i < n {
-        words[i as usize] = unused_word(row, marks, 2 + (n as usize), n, n - 1 - i);
-        i += 1;
+    let n = words.len();
+    let mut gone = 0u32;
+    let mut j = 0;
+    falls[0] = 0;
+    while j < n {
+        gone += one_if(words[n - 1 - j]);
+        j += 1;
+        falls[j] = gone;
     }
 }
 
-// The places of a fill that drops what the body does not use. The expression of a dropped place stands at the start of the list row,
-// and is never read.
-fn used_table(row: &[u32], marks: &[u32], n: u32) -> Table
-    requires { ⌜ n ≤ 32 ⌝ }
-    ensures { λ r. ⌜ r ≡ usedTable n (items (drop (2 + n) (now (row .entry))) (drop (2 + n) (now (marks .entry)))) ⌝ }
+// The item, its index fallen by the dropped declarations inside it.
+fn fall_item(words: &[u32], falls: &[u32], it: Item) -> Item
+    requires { ⌜ length (now words) ≤ 32 ⌝ }
+    requires { ⌜ length (now words) < length (now falls) ⌝ }
+    requires { ⌜ Falls (now words) (now falls) ⌝ }
+    ensures { λ r. ⌜ r ≡ fallItem (now (words .entry)) it ⌝ }
 {
-    let mut words = [0u32; 32];
-    write_used(row, marks, n, &mut words);
-    let starts = [0usize; 32];
-    let ends = [2usize; 32];
-    Table {
-        words: words,
-        starts: starts,
-        ends: ends,
-        n: n as usize,
+    let Item::Ident(k, t, v) = it else {
+        return it;
+    };
+    if t != 2 {
+        return it;
+    }
+    let n = words.len();
+    let b = less(k, n as u32);
+    if v < b {
+        return it;
+    }
+    let j = (v - b) as usize;
+    if n <= j {
+        return Item::Ident(k, t, less(v, falls[n]));
+    }
+    Item::Ident(k, t, less(v, falls[j]))
+}
+
+// The items from `from` on with their indices fallen, stored at `at`.
+fn write_fallen(
+    words: &[u32],
+    falls: &[u32],
+    row: &[u32],
+    marks: &[u32],
+    from: usize,
+    out: &mut [u32],
+    at: usize,
+)
+    requires { ⌜ length (now words) ≤ 32 ⌝ }
+    requires { ⌜ length (now words) < length (now falls) ⌝ }
+    requires { ⌜ Falls (now words) (now falls) ⌝ }
+    requires { ⌜ at + (length (now row) - from) ≤ length (now out) ⌝ }
+    ensures { λ _. ⌜ now (out .exit) ≡ store (now (out .entry)) at (rewritten (fallenWords (now (words .entry))) (items (drop from (now (row .entry))) (drop from (now (marks .entry))))) ⌝ }
+{
+    let mut i = from;
+    let mut p = at;
+    while i < row.len() {
+        let it = item_at(row, marks, i);
+        put_item(out, p, fall_item(words, falls, it));
+        p += size_of(it);
+        i += size_of(it);
     }
 }
 
-// Prune with marks of its own.
+// The row without the declarations whose word is not 0: 9 where no word is, 14 where the output row is shorter.
+fn drop_decls(words: &[u32], row: &[u32], marks: &[u32], out: &mut [u32]) -> Answer
+    requires { ⌜ length (now words) ≤ 32 ⌝ }
+    requires { ⌜ 2 + length (now words) ≤ length (now row) ⌝ }
+    ensures { λ r. ⌜ r ≡ told (droppedOutcome (now (words .entry)) (now (row .entry)) (now (marks .entry)) (length (now (out .entry)))) ⌝ }
+    ensures { λ _. ⌜ now (out .exit) ≡ written (droppedOutcome (now (words .entry)) (now (row .entry)) (now (marks .entry)) (length (now (out .entry)))) (now (out .entry)) ⌝ }
+{
+    if filled_from(words, 0) == 0 {
+        return Answer::No(9);
+    }
+    let mut head = [0u32; 34];
+    let h = write_head(words, row, &mut head);
+    let from = 2 + words.len();
+    let n = h + (row.len() - from);
+    if out.len() < n {
+        return Answer::No(14);
+    }
+    let mut falls = [0u32; 33];
+    count_falls(words, &mut falls);
+    copy(&head[..h], out);
+    write_fallen(words, &falls, row, marks, from, out, h);
+    Answer::Done(n)
+}
+
+// Prune with marks of its own. What is left is within the limits whenever the row is, so it is not checked.
 fn prune_in(row: &[u32], marks: &mut [u32], out: &mut [u32]) -> Answer
     requires { ⌜ length (now row) ≤ length (now marks) ⌝ }
     requires { ⌜ length (now row) ≤ 8192 ⌝ }
@@ -106,15 +163,10 @@ fn prune_in(row: &[u32], marks: &mut [u32], out: &mut [u32]) -> Answer
     if n == 0 {
         return Answer::No(3);
     }
-    let table = used_table(row, marks, n);
-    let words = table.words;
     let m = n as usize;
-    if filled_from(&words[..m], 0) == 0 {
-        return Answer::No(9);
-    }
-    let mut list = [0u32; 2];
-    list[0] = 1;
-    fill_with(&list, &list, row, marks, table, out)
+    let mut words = [1u32; 32];
+    clear_used(row, marks, 2 + m, &mut words[..m]);
+    drop_decls(&words[..m], row, marks, out)
 }
 
 // Drops the declarations that the body never uses.

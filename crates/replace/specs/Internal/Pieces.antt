@@ -12,12 +12,13 @@ use Rattle.form.specs.Answer.{Outcome, answer, needs}
 use Rattle.form.specs.declared.answer.Kind.{Kind}
 use Rattle.form.specs.declared.answer.Kind.the-variants.{Expression, Predicate}
 use Rattle.form.specs.declared.lists.Table.{Table}
-use Rattle.subst.specs.Internal.Items.{items, sizeOf, wordsOf, rewritten, allItems, store, movedWords}
+use Rattle.subst.specs.Internal.Items.{items, sizeOf, wordsOf, rewritten, allItems, movedWords}
 use Rattle.subst.specs.declared.items.Item.{Item}
 use Rattle.subst.specs.declared.items.Item.the-variants.{Plain, Ident}
 use Rattle.replace.specs.declared.pieces.Piece.{Piece}
 use Rattle.replace.specs.declared.pieces.Piece.the-variants.{Same, Index, Part}
 use Rattle.replace.specs.declared.pieces.Plan.{Plan}
+use Rattle.replace.specs.declared.pieces.Rule.{Rule}
 
 -- the words from s up to e
 unfoldable pub part : ℕ → ℕ → List ℕ → List ℕ
@@ -77,6 +78,10 @@ sizes p (x ∷ xs) = pieceSize (pieceOf p x) x + sizes p xs
 -- a number that matters only up to 8,192
 unfoldable pub capped : ℕ → ℕ
 capped n = pick (leb n 8192) n 8193
+
+-- the plan of a rule and the rows of its table
+abbrev pub planFor : Rule → List ℕ → List ℕ → List ℕ → Plan
+planFor r ws ss es = record { table = record { words = ws; starts = ss; ends = es; n = r .n }; fills = r .fills; gone = r .gone; down = r .down }
 
 -- the plan's table has 32 places, of which it uses n
 pub record Tabled (p : Plan) : Type 0 where
@@ -149,14 +154,37 @@ unfoldable pub notIndex : ℕ → ℕ → Item → Bool
 notIndex n j (Plain w) = true
 notIndex n j (Ident k t v) = pick (eqb t 2) (pick (ltb v (k - n)) true (not (eqb j (v - (k - n))))) true
 
--- for the k inner ones of n declarations, from the outermost on: 1 where the items never use it
-unfoldable pub usedWords : ℕ → ℕ → List Item → List ℕ
-usedWords n zero xs = []
-usedWords n (suc k) xs = pick (allItems (notIndex n k) xs) 1 0 ∷ usedWords n k xs
+-- words of the inner ones of n declarations, from the outermost on: 0 where the items use it
+unfoldable pub cleared : ℕ → List ℕ → List Item → List ℕ
+cleared n [] xs = []
+cleared n (w ∷ ws) xs = pick (allItems (notIndex n (length ws)) xs) w 0 ∷ cleared n ws xs
 
--- all dropped places have the expression that stands in the first two words of the list row
-unfoldable pub usedTable : ℕ → List Item → Table
-usedTable n xs = record { words = store (replicate 32 0) 0 (usedWords n n xs); starts = replicate 32 0; ends = replicate 32 2; n = n }
+-- 1 for each of n declarations that the items never use
+unfoldable pub usedWords : ℕ → List Item → List ℕ
+usedWords n xs = cleared n (replicate n 1) xs
+
+-- of the words of declarations, from the outermost on, those that are inside index j and not 0; as a table
+unfoldable pub fallsAt : List ℕ → ℕ → ℕ
+fallsAt ws j = filledWords (drop (length ws - j) ws)
+
+unfoldable pub Falls : List ℕ → List ℕ → Type 0
+Falls ws fs = (j : ℕ) → j ≤ length ws → getD fs j 0 ≡ fallsAt ws j
+
+-- an item of the body, its index fallen by the declarations inside it whose word is not 0
+unfoldable pub fallItem : List ℕ → Item → Item
+fallItem ws (Plain w) = Plain w
+fallItem ws (Ident k t v) = let b = k - length ws in Ident k t (pick (eqb t 2) (pick (ltb v b) v (v - fallsAt ws (v - b))) v)
+
+abbrev pub fallenWords : List ℕ → Item → List ℕ
+fallenWords ws x = wordsOf (fallItem ws x)
+
+-- a quantified row without the declarations whose word is not 0, and the answer: 9 where no word is
+unfoldable pub droppedRow : List ℕ → List ℕ → List ℕ → List ℕ
+droppedRow ws row marks =
+    headWords (getD row 0 0) (keptWords ws (drop 2 row)) ++ rewritten (fallenWords ws) (items (drop (2 + length ws) row) (drop (2 + length ws) marks))
+
+unfoldable pub droppedOutcome : List ℕ → List ℕ → List ℕ → ℕ → Outcome
+droppedOutcome ws row marks room = needs 9 (not (eqb (filledWords ws) 0)) (needs 14 (leb (length (droppedRow ws row marks)) room) (answer (droppedRow ws row marks)))
 
 -- whether the first n parts lie in a row of so many words; whether a table's parts stand in the list row, and all of it is marked
 unfoldable pub partsIn : List ℕ → List ℕ → ℕ → ℕ → Bool

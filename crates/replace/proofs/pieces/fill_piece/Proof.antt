@@ -1,12 +1,8 @@
 -- `replace::pieces::fill_piece` meets its contract. Assumes nothing.
-use mathlib.Core.Path.{_≡_, refl, sym, ap, _∙_}
-use native.Mathlib.Omega.{arith}
-use borrow.Author.Needs.{needs}
+use mathlib.Core.Path.{sym}
 use borrow.Author.Tests.{lt-ltb, le-ltb, le-leb, lt-leb, eq-eqb, ne-eqb}
-use Prim.Native.Nat.{_≤_}
-use lib.ListN.{length, take}
-use lib.Seq.{length-take-le}
-use Rattle.replace.specs.Internal.Pieces.{placePiece, fillPiece}
+use Rattle.replace.specs.Internal.Pieces.{placePiece, fillPiece, planFor}
+use Rattle.replace.proofs.PieceLaws.{used-first, used-few}
 use borrow.Author.Needs.{needs}
 use Rattle.replace.proofs.pieces.fill_piece.Statement.{statement}
 use Rattle.replace.proofs.pieces.fill_piece.Tie as tie
@@ -44,20 +40,17 @@ sub-i-2 c = search needs
 mul-if3 : tie.Need-mul-if3
 mul-if3 c = search needs
 
-array-read-if3 : tie.Need-array-read-if3
-array-read-if3 c = search needs
-
-array-share-prefix-words : tie.Need-array-share-prefix-words
-array-share-prefix-words c = search needs
+shared-slice-read-if3 : tie.Need-shared-slice-read-if3
+shared-slice-read-if3 c = search needs
 
 slice-aggregate-filled-from : tie.Need-slice-aggregate-filled-from
-slice-aggregate-filled-from c = sym (length-take-le _ _ (let h : c .before .before .before .before .before .before .before .args .plan .table .n ≤ length (c .before .before .before .before .before .before .before .args .plan .table .words) = omega arith in h))
+slice-aggregate-filled-from c = sym (used-first (planFor (c .before .before .before .before .before .before .before .before .before .args .rule) (c .before .before .before .before .before .before .before .before .before .args .words .now) (c .before .before .before .before .before .before .before .before .before .args .starts .now) (c .before .before .before .before .before .before .before .before .before .args .ends .now)) (c .before .before .before .before .before .before .before .before .before .pre))
 
 add-filled-from : tie.Need-add-filled-from
 add-filled-from c = search needs
 
 filled-from-requires : tie.Need-filled-from-requires
-filled-from-requires c κs = let q : length (take (c .before .before .before .before .before .before .before .args .plan .table .n) (c .before .before .before .before .before .before .before .args .plan .table .words)) ≤ 32 = (let l = length-take-le (c .before .before .before .before .before .before .before .args .plan .table .n) (c .before .before .before .before .before .before .before .args .plan .table .words) (let h : c .before .before .before .before .before .before .before .args .plan .table .n ≤ length (c .before .before .before .before .before .before .before .args .plan .table .words) = omega arith in h) in omega arith) in q
+filled-from-requires c κs = used-few (planFor (c .before .before .before .before .before .before .before .before .before .args .rule) (c .before .before .before .before .before .before .before .before .before .args .words .now) (c .before .before .before .before .before .before .before .before .before .args .starts .now) (c .before .before .before .before .before .before .before .before .before .args .ends .now)) (c .before .before .before .before .before .before .before .before .before .pre)
 
 less-requires-3 : tie.Need-less-requires-3
 less-requires-3 c κs = search needs
@@ -66,17 +59,17 @@ returns-3 : tie.Need-returns-3
 unfolding fillPiece placePiece
 returns-3 c = rw (← c .before .before .before .before .before .before .before .less .ensures, le-ltb _ _ (c .before .before .before .before .before .before .if1 .left), lt-leb _ _ (c .before .before .before .before .before .if2 .left), eq-eqb _ _ (c .before .before .before .if3 .taken), ← c .before .filled-from .ensures, ← c .less3 .ensures)
 
-mul-t15 : tie.Need-mul-t15
-mul-t15 c = search needs
+mul-t14 : tie.Need-mul-t14
+mul-t14 c = search needs
 
-array-read-t25 : tie.Need-array-read-t25
-array-read-t25 c = search needs
+shared-slice-read-t22 : tie.Need-shared-slice-read-t22
+shared-slice-read-t22 c = search needs
 
-mul-t26 : tie.Need-mul-t26
-mul-t26 c = search needs
+mul-t23 : tie.Need-mul-t23
+mul-t23 c = search needs
 
-array-read-t29 : tie.Need-array-read-t29
-array-read-t29 c = search needs
+shared-slice-read-t25 : tie.Need-shared-slice-read-t25
+shared-slice-read-t25 c = search needs
 
 less-requires-4 : tie.Need-less-requires-4
 less-requires-4 c κs = search needs
@@ -98,16 +91,15 @@ fill-piece-spec =
     sub-i
     sub-i-2
     mul-if3
-    array-read-if3
-    array-share-prefix-words
+    shared-slice-read-if3
     slice-aggregate-filled-from
     add-filled-from
     filled-from-requires
     less-requires-3
     returns-3
-    mul-t15
-    array-read-t25
-    mul-t26
-    array-read-t29
+    mul-t14
+    shared-slice-read-t22
+    mul-t23
+    shared-slice-read-t25
     less-requires-4
     returns-4)

@@ -1,23 +1,18 @@
 -- `replace::prune::prune_in` meets its contract. Assumes nothing.
-use mathlib.Core.Path.{_≡_, refl, sym, ap, _∙_}
-use native.Mathlib.Omega.{arith}
-use borrow.Author.Needs.{needs}
-use Prim.Native.Nat.{_≤_}
-use lib.ListN.{length, take}
-use lib.Seq.{length-take-le}
+use mathlib.Core.Path.{refl, sym}
+use lib.ListN.{length}
 use Rattle.form.specs.declared.answer.Kind.the-variants.{Predicate}
 use Rattle.subst.proofs.CheckedLaws.{refused, passed, is-missing, checked}
-use Rattle.replace.proofs.PruneLaws.{used-long, prune-missing, prune-other, prune-few, prune-all, prune-ready, table-few, prune-row}
+use Rattle.replace.proofs.PruneLaws.{ones-length, used-made, used-long, used-fits, prune-missing, prune-other, prune-few, prune-fits, prune-row}
 use borrow.Author.Needs.{needs}
 use Rattle.replace.proofs.prune.prune_in.Statement.{statement}
 use Rattle.replace.proofs.prune.prune_in.Tie as tie
 use Rattle.replace.proofs.prune.prune_in.Reads as reads
 use Rattle.replace.proofs.prune.prune_in.Lts as lts
 use Rattle.replace.proofs.fill.declared.Reads as declared-reads
-use Rattle.replace.proofs.fill.fill_with.Reads as fill-with-reads
 use Rattle.replace.proofs.marks.mark_row.Reads as mark-row-reads
-use Rattle.replace.proofs.pieces.filled_from.Reads as filled-from-reads
-use Rattle.replace.proofs.prune.used_table.Reads as used-table-reads
+use Rattle.replace.proofs.prune.clear_used.Reads as clear-used-reads
+use Rattle.replace.proofs.prune.drop_decls.Reads as drop-decls-reads
 
 mark-row-requires : tie.Need-mark-row-requires
 mark-row-requires c κs = search needs
@@ -43,47 +38,38 @@ same-length-2 c = search needs
 returns-2 : tie.Need-returns-2
 returns-2 c = refused _ _ _ _ (prune-other _ _ _ (checked Predicate (c .before .before .before .before .before .before .before .before .before .before .before .before .args .row .now) _ (length (c .before .before .before .before .before .before .before .before .before .before .before .before .args .row .now)) _ refl _ _ (c .before .before .before .before .before .before .before .before .before .before .before .before .pre .1) (c .before .before .before .before .before .before .before .mark-row .ensures .0) (c .before .before .before .k .given .1) (c .before .before .before .before .before .before .before .mark-row .ensures .1)) _ (c .before .declared .ensures) (c .if1 .taken)) refl
 
-used-table-requires : tie.Need-used-table-requires
-used-table-requires c κs = (prune-few _ 0 _ (checked Predicate (c .before .before .before .before .before .before .before .before .before .before .before .before .before .args .row .now) _ (length (c .before .before .before .before .before .before .before .before .before .before .before .before .before .args .row .now)) _ refl _ _ (c .before .before .before .before .before .before .before .before .before .before .before .before .before .pre .1) (c .before .before .before .before .before .before .before .before .mark-row .ensures .0) (c .before .before .before .before .k .given .1) (c .before .before .before .before .before .before .before .before .mark-row .ensures .1)) _ (c .before .before .declared .ensures) (c .before .if1 .left))
-
 cast-m : tie.Need-cast-m
 cast-m c = search needs
 
+add-clear-used : tie.Need-add-clear-used
+add-clear-used c = search needs
+
+array-borrow-prefix-words : tie.Need-array-borrow-prefix-words
+array-borrow-prefix-words c = (prune-few _ 0 _ (checked Predicate (c .before .before .before .before .before .before .before .before .before .before .before .before .before .args .row .now) _ (length (c .before .before .before .before .before .before .before .before .before .before .before .before .before .args .row .now)) _ refl _ _ (c .before .before .before .before .before .before .before .before .before .before .before .before .before .pre .1) (c .before .before .before .before .before .before .before .before .mark-row .ensures .0) (c .before .before .before .before .k .given .1) (c .before .before .before .before .before .before .before .before .mark-row .ensures .1)) _ (c .before .before .declared .ensures) (c .before .if1 .left))
+
+slice-aggregate-clear-used : tie.Need-slice-aggregate-clear-used
+slice-aggregate-clear-used c = sym (ones-length (c .before .before .before .declared .result) (prune-few _ 0 _ (checked Predicate (c .before .before .before .before .before .before .before .before .before .before .before .before .before .before .args .row .now) _ (length (c .before .before .before .before .before .before .before .before .before .before .before .before .before .before .args .row .now)) _ refl _ _ (c .before .before .before .before .before .before .before .before .before .before .before .before .before .before .pre .1) (c .before .before .before .before .before .before .before .before .before .mark-row .ensures .0) (c .before .before .before .before .before .k .given .1) (c .before .before .before .before .before .before .before .before .before .mark-row .ensures .1)) _ (c .before .before .before .declared .ensures) (c .before .before .if1 .left)))
+
+clear-used-requires : tie.Need-clear-used-requires
+clear-used-requires c κs = rw (ones-length (c .before .before .before .declared .result) (prune-few _ 0 _ (checked Predicate (c .before .before .before .before .before .before .before .before .before .before .before .before .before .before .args .row .now) _ (length (c .before .before .before .before .before .before .before .before .before .before .before .before .before .before .args .row .now)) _ refl _ _ (c .before .before .before .before .before .before .before .before .before .before .before .before .before .before .pre .1) (c .before .before .before .before .before .before .before .before .before .mark-row .ensures .0) (c .before .before .before .before .before .k .given .1) (c .before .before .before .before .before .before .before .before .before .mark-row .ensures .1)) _ (c .before .before .before .declared .ensures) (c .before .before .if1 .left))) (prune-few _ 0 _ (checked Predicate (c .before .before .before .before .before .before .before .before .before .before .before .before .before .before .args .row .now) _ (length (c .before .before .before .before .before .before .before .before .before .before .before .before .before .before .args .row .now)) _ refl _ _ (c .before .before .before .before .before .before .before .before .before .before .before .before .before .before .pre .1) (c .before .before .before .before .before .before .before .before .before .mark-row .ensures .0) (c .before .before .before .before .before .k .given .1) (c .before .before .before .before .before .before .before .before .before .mark-row .ensures .1)) _ (c .before .before .before .declared .ensures) (c .before .before .if1 .left))
+
 array-share-prefix-words : tie.Need-array-share-prefix-words
-array-share-prefix-words c = (let f = (prune-few _ 0 _ (checked Predicate (c .before .before .before .before .before .before .before .before .before .before .before .before .before .before .before .args .row .now) _ (length (c .before .before .before .before .before .before .before .before .before .before .before .before .before .before .before .args .row .now)) _ refl _ _ (c .before .before .before .before .before .before .before .before .before .before .before .before .before .before .before .pre .1) (c .before .before .before .before .before .before .before .before .before .before .mark-row .ensures .0) (c .before .before .before .before .before .before .k .given .1) (c .before .before .before .before .before .before .before .before .before .before .mark-row .ensures .1)) _ (c .before .before .before .before .declared .ensures) (c .before .before .before .if1 .left)) in let l = used-long _ f _ _ (c .before .used-table .ensures) in let h : (c .before .before .before .before .declared .result) ≤ length (c .before .used-table .result .words) = omega arith in h)
+array-share-prefix-words c = used-fits (c .before .before .before .before .before .declared .result) (prune-few _ 0 _ (checked Predicate (c .before .before .before .before .before .before .before .before .before .before .before .before .before .before .before .before .args .row .now) _ (length (c .before .before .before .before .before .before .before .before .before .before .before .before .before .before .before .before .args .row .now)) _ refl _ _ (c .before .before .before .before .before .before .before .before .before .before .before .before .before .before .before .before .pre .1) (c .before .before .before .before .before .before .before .before .before .before .before .mark-row .ensures .0) (c .before .before .before .before .before .before .before .k .given .1) (c .before .before .before .before .before .before .before .before .before .before .before .mark-row .ensures .1)) _ (c .before .before .before .before .before .declared .ensures) (c .before .before .before .before .if1 .left)) _ _ (c .before .clear-used .ensures)
 
-slice-aggregate-filled-from : tie.Need-slice-aggregate-filled-from
-slice-aggregate-filled-from c = sym (length-take-le _ _ (let f = (prune-few _ 0 _ (checked Predicate (c .before .before .before .before .before .before .before .before .before .before .before .before .before .before .before .before .args .row .now) _ (length (c .before .before .before .before .before .before .before .before .before .before .before .before .before .before .before .before .args .row .now)) _ refl _ _ (c .before .before .before .before .before .before .before .before .before .before .before .before .before .before .before .before .pre .1) (c .before .before .before .before .before .before .before .before .before .before .before .mark-row .ensures .0) (c .before .before .before .before .before .before .before .k .given .1) (c .before .before .before .before .before .before .before .before .before .before .before .mark-row .ensures .1)) _ (c .before .before .before .before .before .declared .ensures) (c .before .before .before .before .if1 .left)) in let l = used-long _ f _ _ (c .before .before .used-table .ensures) in let h : (c .before .before .before .before .before .declared .result) ≤ length (c .before .before .used-table .result .words) = omega arith in h))
+slice-aggregate-drop-decls : tie.Need-slice-aggregate-drop-decls
+slice-aggregate-drop-decls c = sym (used-long (c .before .before .before .before .before .before .declared .result) (prune-few _ 0 _ (checked Predicate (c .before .before .before .before .before .before .before .before .before .before .before .before .before .before .before .before .before .args .row .now) _ (length (c .before .before .before .before .before .before .before .before .before .before .before .before .before .before .before .before .before .args .row .now)) _ refl _ _ (c .before .before .before .before .before .before .before .before .before .before .before .before .before .before .before .before .before .pre .1) (c .before .before .before .before .before .before .before .before .before .before .before .before .mark-row .ensures .0) (c .before .before .before .before .before .before .before .before .k .given .1) (c .before .before .before .before .before .before .before .before .before .before .before .before .mark-row .ensures .1)) _ (c .before .before .before .before .before .before .declared .ensures) (c .before .before .before .before .before .if1 .left)) _ _ (c .before .before .clear-used .ensures))
 
-filled-from-requires : tie.Need-filled-from-requires
-filled-from-requires c κs = let q : length (take (c .before .before .before .before .before .declared .result) (c .before .before .used-table .result .words)) ≤ 32 = (let f = (prune-few _ 0 _ (checked Predicate (c .before .before .before .before .before .before .before .before .before .before .before .before .before .before .before .before .args .row .now) _ (length (c .before .before .before .before .before .before .before .before .before .before .before .before .before .before .before .before .args .row .now)) _ refl _ _ (c .before .before .before .before .before .before .before .before .before .before .before .before .before .before .before .before .pre .1) (c .before .before .before .before .before .before .before .before .before .before .before .mark-row .ensures .0) (c .before .before .before .before .before .before .before .k .given .1) (c .before .before .before .before .before .before .before .before .before .before .before .mark-row .ensures .1)) _ (c .before .before .before .before .before .declared .ensures) (c .before .before .before .before .if1 .left)) in let l = length-take-le (c .before .before .before .before .before .declared .result) (c .before .before .used-table .result .words) (let f = (prune-few _ 0 _ (checked Predicate (c .before .before .before .before .before .before .before .before .before .before .before .before .before .before .before .before .args .row .now) _ (length (c .before .before .before .before .before .before .before .before .before .before .before .before .before .before .before .before .args .row .now)) _ refl _ _ (c .before .before .before .before .before .before .before .before .before .before .before .before .before .before .before .before .pre .1) (c .before .before .before .before .before .before .before .before .before .before .before .mark-row .ensures .0) (c .before .before .before .before .before .before .before .k .given .1) (c .before .before .before .before .before .before .before .before .before .before .before .mark-row .ensures .1)) _ (c .before .before .before .before .before .declared .ensures) (c .before .before .before .before .if1 .left)) in let l = used-long _ f _ _ (c .before .before .used-table .ensures) in let h : (c .before .before .before .before .before .declared .result) ≤ length (c .before .before .used-table .result .words) = omega arith in h) in omega arith) in q
+drop-decls-requires : tie.Need-drop-decls-requires
+drop-decls-requires c κs = (rw (used-long (c .before .before .before .before .before .before .before .before .declared .result) (prune-few _ 0 _ (checked Predicate (c .before .before .before .before .before .before .before .before .before .before .before .before .before .before .before .before .before .before .before .args .row .now) _ (length (c .before .before .before .before .before .before .before .before .before .before .before .before .before .before .before .before .before .before .before .args .row .now)) _ refl _ _ (c .before .before .before .before .before .before .before .before .before .before .before .before .before .before .before .before .before .before .before .pre .1) (c .before .before .before .before .before .before .before .before .before .before .before .before .before .before .mark-row .ensures .0) (c .before .before .before .before .before .before .before .before .before .before .k .given .1) (c .before .before .before .before .before .before .before .before .before .before .before .before .before .before .mark-row .ensures .1)) _ (c .before .before .before .before .before .before .before .before .declared .ensures) (c .before .before .before .before .before .before .before .if1 .left)) _ _ (c .before .before .before .before .clear-used .ensures)) (prune-few _ 0 _ (checked Predicate (c .before .before .before .before .before .before .before .before .before .before .before .before .before .before .before .before .before .before .before .args .row .now) _ (length (c .before .before .before .before .before .before .before .before .before .before .before .before .before .before .before .before .before .before .before .args .row .now)) _ refl _ _ (c .before .before .before .before .before .before .before .before .before .before .before .before .before .before .before .before .before .before .before .pre .1) (c .before .before .before .before .before .before .before .before .before .before .before .before .before .before .mark-row .ensures .0) (c .before .before .before .before .before .before .before .before .before .before .k .given .1) (c .before .before .before .before .before .before .before .before .before .before .before .before .before .before .mark-row .ensures .1)) _ (c .before .before .before .before .before .before .before .before .declared .ensures) (c .before .before .before .before .before .before .before .if1 .left)), rw (used-long (c .before .before .before .before .before .before .before .before .declared .result) (prune-few _ 0 _ (checked Predicate (c .before .before .before .before .before .before .before .before .before .before .before .before .before .before .before .before .before .before .before .args .row .now) _ (length (c .before .before .before .before .before .before .before .before .before .before .before .before .before .before .before .before .before .before .before .args .row .now)) _ refl _ _ (c .before .before .before .before .before .before .before .before .before .before .before .before .before .before .before .before .before .before .before .pre .1) (c .before .before .before .before .before .before .before .before .before .before .before .before .before .before .mark-row .ensures .0) (c .before .before .before .before .before .before .before .before .before .before .k .given .1) (c .before .before .before .before .before .before .before .before .before .before .before .before .before .before .mark-row .ensures .1)) _ (c .before .before .before .before .before .before .before .before .declared .ensures) (c .before .before .before .before .before .before .before .if1 .left)) _ _ (c .before .before .before .before .clear-used .ensures)) (prune-fits _ 0 _ (checked Predicate (c .before .before .before .before .before .before .before .before .before .before .before .before .before .before .before .before .before .before .before .args .row .now) _ (length (c .before .before .before .before .before .before .before .before .before .before .before .before .before .before .before .before .before .before .before .args .row .now)) _ refl _ _ (c .before .before .before .before .before .before .before .before .before .before .before .before .before .before .before .before .before .before .before .pre .1) (c .before .before .before .before .before .before .before .before .before .before .before .before .before .before .mark-row .ensures .0) (c .before .before .before .before .before .before .before .before .before .before .k .given .1) (c .before .before .before .before .before .before .before .before .before .before .before .before .before .before .mark-row .ensures .1)) _ (c .before .before .before .before .before .before .before .before .declared .ensures) (c .before .before .before .before .before .before .before .if1 .left)))
 
 same-length-3 : tie.Need-same-length-3
 same-length-3 c = search needs
 
-returns-3 : tie.Need-returns-3
-returns-3 c = refused _ _ _ _ (prune-all (c .before .before .before .before .before .before .before .before .before .before .before .before .before .before .before .before .before .before .args .row .now) (c .before .before .before .before .before .before .before .before .before .before .before .before .before .mark-row .last .1 .1 .0) _ (checked Predicate (c .before .before .before .before .before .before .before .before .before .before .before .before .before .before .before .before .before .before .args .row .now) _ (length (c .before .before .before .before .before .before .before .before .before .before .before .before .before .before .before .before .before .before .args .row .now)) _ refl _ _ (c .before .before .before .before .before .before .before .before .before .before .before .before .before .before .before .before .before .before .pre .1) (c .before .before .before .before .before .before .before .before .before .before .before .before .before .mark-row .ensures .0) (c .before .before .before .before .before .before .before .before .before .k .given .1) (c .before .before .before .before .before .before .before .before .before .before .before .before .before .mark-row .ensures .1)) _ (c .before .before .before .before .before .before .before .declared .ensures) (c .before .before .before .before .before .before .if1 .left) _ (c .before .before .before .before .used-table .ensures) _ (c .before .filled-from .ensures) (c .if2 .taken)) refl
-
-array-write-list : tie.Need-array-write-list
-array-write-list c = search needs
-
-slice-aggregate-fill-with : tie.Need-slice-aggregate-fill-with
-slice-aggregate-fill-with c = search needs
-
-slice-aggregate-fill-with-2 : tie.Need-slice-aggregate-fill-with-2
-slice-aggregate-fill-with-2 c = search needs
-
-fill-with-requires : tie.Need-fill-with-requires
-fill-with-requires c κs = (prune-ready (c .before .before .before .before .before .before .before .before .before .before .before .before .before .before .before .before .before .before .before .before .before .before .args .row .now) (c .before .before .before .before .before .before .before .before .before .before .before .before .before .before .before .before .before .mark-row .last .1 .1 .0) 0 (checked Predicate (c .before .before .before .before .before .before .before .before .before .before .before .before .before .before .before .before .before .before .before .before .before .before .args .row .now) _ (length (c .before .before .before .before .before .before .before .before .before .before .before .before .before .before .before .before .before .before .before .before .before .before .args .row .now)) _ refl _ _ (c .before .before .before .before .before .before .before .before .before .before .before .before .before .before .before .before .before .before .before .before .before .before .pre .1) (c .before .before .before .before .before .before .before .before .before .before .before .before .before .before .before .before .before .mark-row .ensures .0) (c .before .before .before .before .before .before .before .before .before .before .before .before .before .k .given .1) (c .before .before .before .before .before .before .before .before .before .before .before .before .before .before .before .before .before .mark-row .ensures .1)) _ (c .before .before .before .before .before .before .before .before .before .before .before .declared .ensures) (c .before .before .before .before .before .before .before .before .before .before .if1 .left) _ (c .before .before .before .before .before .before .before .before .used-table .ensures) _ (c .before .before .before .before .before .filled-from .ensures), table-few (c .before .before .before .before .before .before .before .before .before .before .before .before .before .before .before .before .before .before .before .before .before .before .args .row .now) (c .before .before .before .before .before .before .before .before .before .before .before .before .before .before .before .before .before .mark-row .last .1 .1 .0) 0 (checked Predicate (c .before .before .before .before .before .before .before .before .before .before .before .before .before .before .before .before .before .before .before .before .before .before .args .row .now) _ (length (c .before .before .before .before .before .before .before .before .before .before .before .before .before .before .before .before .before .before .before .before .before .before .args .row .now)) _ refl _ _ (c .before .before .before .before .before .before .before .before .before .before .before .before .before .before .before .before .before .before .before .before .before .before .pre .1) (c .before .before .before .before .before .before .before .before .before .before .before .before .before .before .before .before .before .mark-row .ensures .0) (c .before .before .before .before .before .before .before .before .before .before .before .before .before .k .given .1) (c .before .before .before .before .before .before .before .before .before .before .before .before .before .before .before .before .before .mark-row .ensures .1)) _ (c .before .before .before .before .before .before .before .before .before .before .before .declared .ensures) (c .before .before .before .before .before .before .before .before .before .before .if1 .left) _ (c .before .before .before .before .before .before .before .before .used-table .ensures) _ (c .before .before .before .before .before .filled-from .ensures))
-
 same-length-4 : tie.Need-same-length-4
 same-length-4 c = search needs
 
-same-length-5 : tie.Need-same-length-5
-same-length-5 c = search needs
-
-returns-4 : tie.Need-returns-4
-returns-4 c = passed _ _ _ _ _ (prune-row (c .before .before .before .before .before .before .before .before .before .before .before .before .before .before .before .before .before .before .before .before .before .before .before .before .before .args .row .now) (c .before .before .before .before .before .before .before .before .before .before .before .before .before .before .before .before .before .before .before .before .mark-row .last .1 .1 .0) _ (checked Predicate (c .before .before .before .before .before .before .before .before .before .before .before .before .before .before .before .before .before .before .before .before .before .before .before .before .before .args .row .now) _ (length (c .before .before .before .before .before .before .before .before .before .before .before .before .before .before .before .before .before .before .before .before .before .before .before .before .before .args .row .now)) _ refl _ _ (c .before .before .before .before .before .before .before .before .before .before .before .before .before .before .before .before .before .before .before .before .before .before .before .before .before .pre .1) (c .before .before .before .before .before .before .before .before .before .before .before .before .before .before .before .before .before .before .before .before .mark-row .ensures .0) (c .before .before .before .before .before .before .before .before .before .before .before .before .before .before .before .before .k .given .1) (c .before .before .before .before .before .before .before .before .before .before .before .before .before .before .before .before .before .before .before .before .mark-row .ensures .1)) _ (c .before .before .before .before .before .before .before .before .before .before .before .before .before .before .declared .ensures) (c .before .before .before .before .before .before .before .before .before .before .before .before .before .if1 .left) _ (c .before .before .before .before .before .before .before .before .before .before .before .used-table .ensures) _ (c .before .before .before .before .before .before .before .before .filled-from .ensures) (c .before .before .before .before .before .before .before .if2 .left)) (c .before .before .fill-with .ensures)
+returns-3 : tie.Need-returns-3
+returns-3 c = passed _ _ _ _ _ (prune-row (c .before .before .before .before .before .before .before .before .before .before .before .before .before .before .before .before .before .before .before .before .before .before .args .row .now) (c .before .before .before .before .before .before .before .before .before .before .before .before .before .before .before .before .before .mark-row .last .1 .1 .0) _ (checked Predicate (c .before .before .before .before .before .before .before .before .before .before .before .before .before .before .before .before .before .before .before .before .before .before .args .row .now) _ (length (c .before .before .before .before .before .before .before .before .before .before .before .before .before .before .before .before .before .before .before .before .before .before .args .row .now)) _ refl _ _ (c .before .before .before .before .before .before .before .before .before .before .before .before .before .before .before .before .before .before .before .before .before .before .pre .1) (c .before .before .before .before .before .before .before .before .before .before .before .before .before .before .before .before .before .mark-row .ensures .0) (c .before .before .before .before .before .before .before .before .before .before .before .before .before .k .given .1) (c .before .before .before .before .before .before .before .before .before .before .before .before .before .before .before .before .before .mark-row .ensures .1)) _ (c .before .before .before .before .before .before .before .before .before .before .before .declared .ensures) (c .before .before .before .before .before .before .before .before .before .before .if1 .left) _ (used-made (c .before .before .before .before .before .before .before .before .before .before .before .declared .result) (prune-few _ 0 _ (checked Predicate (c .before .before .before .before .before .before .before .before .before .before .before .before .before .before .before .before .before .before .before .before .before .before .args .row .now) _ (length (c .before .before .before .before .before .before .before .before .before .before .before .before .before .before .before .before .before .before .before .before .before .before .args .row .now)) _ refl _ _ (c .before .before .before .before .before .before .before .before .before .before .before .before .before .before .before .before .before .before .before .before .before .before .pre .1) (c .before .before .before .before .before .before .before .before .before .before .before .before .before .before .before .before .before .mark-row .ensures .0) (c .before .before .before .before .before .before .before .before .before .before .before .before .before .k .given .1) (c .before .before .before .before .before .before .before .before .before .before .before .before .before .before .before .before .before .mark-row .ensures .1)) _ (c .before .before .before .before .before .before .before .before .before .before .before .declared .ensures) (c .before .before .before .before .before .before .before .before .before .before .if1 .left)) _ _ (c .before .before .before .before .before .before .before .clear-used .ensures))) (c .before .before .drop-decls .ensures)
 
 pub prune-in-spec : {M : Type 1} → statement M
 prune-in-spec =
@@ -97,17 +83,14 @@ prune-in-spec =
     declared-requires
     same-length-2
     returns-2
-    used-table-requires
     cast-m
+    add-clear-used
+    array-borrow-prefix-words
+    slice-aggregate-clear-used
+    clear-used-requires
     array-share-prefix-words
-    slice-aggregate-filled-from
-    filled-from-requires
+    slice-aggregate-drop-decls
+    drop-decls-requires
     same-length-3
-    returns-3
-    array-write-list
-    slice-aggregate-fill-with
-    slice-aggregate-fill-with-2
-    fill-with-requires
     same-length-4
-    same-length-5
-    returns-4)
+    returns-3)
