@@ -2,7 +2,7 @@
 use mathlib.Core.Path.{_≡_, refl, ap, sym, _∙_}
 use mathlib.Core.Bool.{Bool, true, false}
 use mathlib.Core.List.{List, [], _∷_, _++_, append-nil, map}
-use Prim.Native.Nat.{ℕ, zero, suc, _+_, _-_, _≤_}
+use Prim.Native.Nat.{ℕ, suc, _+_, _-_, _≤_}
 use native.Mathlib.Omega.{arith}
 use lib.Dec.{leb, ltb}
 use lib.ListN.{length, take, drop, set, replicate, length-append, length-map}
@@ -32,7 +32,7 @@ use Rattle.one_point.specs.declared.member.Comprehension.{Comprehension}
 use Rattle.one_point.proofs.WriteLaws.{wrote-end, wrote-on}
 use Rattle.one_point.proofs.EqualityLaws.{wrote-in, wrote-self, based}
 use Rattle.one_point.proofs.ScanLimits.{OkParts, equal-ok, counted-ok, parts-few}
-use Rattle.one_point.proofs.PartialLaws.{mark-front}
+use Rattle.one_point.proofs.PartialLaws.{mark-front, map-replicate}
 use Rattle.one_point.proofs.MemberTree.{shiftRight, parts-lift, offersOf, share-offers, front-lift}
 
 -- where the parts stand
@@ -278,10 +278,6 @@ module _ (g : Form) (ok : Ok 62 pred g) where
       rw (mark-front (withGuard g (equalities 0 qs)) k m h, mark-front (withGuard g (equalities n qs)) k m (omega arith), guard-marks k n qs, l)
 
 -- membership by shares
-kept-lift : (n m : ℕ) → map (lifted n) (replicate m kept) ≡ replicate m kept
-kept-lift n zero = refl
-kept-lift n (suc m) = ap (λ z. kept ∷ z) (kept-lift n m)
-
 any-lift : (n : ℕ) (ps : List Place) → anyFilled (map (lifted n) ps) ≡ anyFilled ps
 any-lift n ps = rw (front-lift n ps, length-map ps (lifted n))
 
@@ -293,7 +289,7 @@ pub member-shares : (element : Form) (ns : List ℕ) (g value : Form) (ps : List
 member-shares element ns g value ps qs e =
     let n = length ns in
     let a : offerAll n (parts value (lift n element)) (noPlaces n) ≡ offersOf n (share n (parts value element) (noPlaces n))
-    = ap (λ z. offerAll n z (noPlaces n)) (parts-lift n value element) ∙ (ap (λ z. offerAll n (map (shiftRight n) (parts value element)) z) (sym (kept-lift n n)) ∙ share-offers n (parts value element) (noPlaces n)) in
+    = ap (λ z. offerAll n z (noPlaces n)) (parts-lift n value element) ∙ (ap (λ z. offerAll n (map (shiftRight n) (parts value element)) z) (sym (map-replicate (lifted n) n kept)) ∙ share-offers n (parts value element) (noPlaces n)) in
     rw a (fill-shares ns g (share n (parts value element) (noPlaces n)) ps qs e)
 
 pub set-count : {row : List ℕ} {c : Comprehension} (x : SetIn row c) (n : ℕ) (ps : List Place) → length row ≤ 8192 → length (leftParts (share n (parts (x .value) (x .element)) ps)) ≤ 8192

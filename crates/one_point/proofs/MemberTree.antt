@@ -192,7 +192,7 @@ kept-snoc : (j : ℕ) → replicate j kept ++ (kept ∷ []) ≡ kept ∷ replica
 kept-snoc zero = refl
 kept-snoc (suc j) = ap (λ z. kept ∷ z) (kept-snoc j)
 
-reverse-kept : (j : ℕ) → reverse (replicate j kept) ≡ replicate j kept
+pub reverse-kept : (j : ℕ) → reverse (replicate j kept) ≡ replicate j kept
 reverse-kept zero = refl
 reverse-kept (suc j) = rw (reverse-cons kept (replicate j kept), reverse-kept j) (kept-snoc j)
 

@@ -158,14 +158,14 @@ module _ (t : ℕ) (which : (eqb t 851 || eqb t 852) ≡ true) (rest : List ℕ)
   unfolding partialWords fill
   partial-words ns = rw stays (round-words t which lowered g (ok-heads t which (omega arith) ok) restFrom whole-body inner-body ns (keptNames lowered rest))
 
+pub map-replicate : {A B : Type 0} (f : A → B) (n : ℕ) (a : A) → map f (replicate n a) ≡ replicate n (f a)
+map-replicate f zero a = refl
+map-replicate f (suc n) a = ap (λ z. f a ∷ z) (map-replicate f n a)
+
 -- one place filled, j before it and i after it
 front-filled : (j : ℕ) (e : Form) (ps : List Place) → front (replicate j kept ++ (filled e ∷ ps)) ≡ j
 front-filled zero e ps = refl
 front-filled (suc j) e ps = ap suc (front-filled j e ps)
-
-lower-kept : (m n : ℕ) → map (lowerPlace m) (replicate n kept) ≡ replicate n kept
-lower-kept m zero = refl
-lower-kept m (suc n) = ap (λ z. kept ∷ z) (lower-kept m n)
 
 set-filled : (j i : ℕ) (e : Form) → set (replicate (j + suc i) kept) j (filled e) ≡ replicate j kept ++ (filled e ∷ replicate i kept)
 set-filled zero i e = rw zero-add
@@ -184,11 +184,7 @@ module _ (n i : ℕ) (e : Form) (lt : i < n) where
   from-front = rw places-are (drop-at (replicate (n - suc i) kept) (filled e ∷ replicate i kept) (n - suc i) (length-replicate (n - suc i) kept))
 
   pub rest-is : (m : ℕ) → map (lowerPlace m) (drop (n - suc i) (setPlace n i e (noPlaces n))) ≡ filled (lower m e) ∷ replicate i kept
-  rest-is m = rw from-front (ap (λ z. filled (lower m e) ∷ z) (lower-kept m i))
-
-words-kept : (n : ℕ) → map wordFor (replicate n kept) ≡ replicate n 0
-words-kept zero = refl
-words-kept (suc n) = ap (λ z. 0 ∷ z) (words-kept n)
+  rest-is m = rw from-front (ap (λ z. filled (lower m e) ∷ z) (map-replicate (lowerPlace m) i kept))
 
 getD-kept : (n k : ℕ) → getD (replicate n kept) k kept ≡ kept
 getD-kept zero k = refl
@@ -250,7 +246,7 @@ module _ (t : ℕ) (which : (eqb t 851 || eqb t 852) ≡ true) (ns : List ℕ) (
 
   pub point-words : partialWords t (take (length ns - suc i) ns) (drop (length ns - suc i) ns) tb list lm (encode g) marks ≡ encode (instantiatePartial t ns (setPlace (length ns) i e (noPlaces (length ns))) g)
   point-words =
-      partial-words t which (drop j ns) tb list lm ps (words ∙ ap (λ z. 1 ∷ z) (sym (words-kept i))) (number ∙ sym ps-length) ps-fit (omega arith) ps-placed ps-higher g ok marks after marked (take j ns)
+      partial-words t which (drop j ns) tb list lm ps (words ∙ ap (λ z. 1 ∷ z) (sym (map-replicate wordFor i kept))) (number ∙ sym ps-length) ps-fit (omega arith) ps-placed ps-higher g ok marks after marked (take j ns)
       ∙ ap encode (sym point-is)
 
   pub point-row : (room : ℕ) → partialRow t (take (length ns - suc i) ns) (drop (length ns - suc i) ns) tb list lm (encode g) marks room

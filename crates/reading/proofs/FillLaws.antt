@@ -1,7 +1,7 @@
 -- One declaration filled, those after it kept: the value of what is filled. Assumes nothing.
 use mathlib.Core.Path.{_≡_, refl, ap, _∙_, sym}
 use mathlib.Core.Bool.{true}
-use mathlib.Core.List.{List, [], _∷_, _++_, reverse, reverseAux, reverseAux-eq}
+use mathlib.Core.List.{List, [], _∷_, _++_, reverse, reverseAux-eq}
 use Prim.Native.Nat.{ℕ, zero, suc, _+_, _-_, _≤_}
 use native.Mathlib.Nat.{zero-add, add-zero}
 use native.Mathlib.Omega.{arith}
@@ -15,6 +15,7 @@ use Rattle.subst.specs.Shift.{reaches, fall, lower}
 use Rattle.replace.specs.Fill.{keptCount, keptNames, fillIndex, fillFor}
 use Rattle.subst.proofs.WalkLaws.{binding-add, self, undo}
 use Rattle.one_point.specs.Replacement.{above}
+use Rattle.one_point.proofs.MemberTree.{reverse-kept}
 use Rattle.reading.specs.Reading.{Reading, Env, cons, value}
 use Rattle.reading.specs.Premise.{push, readInBody}
 use Rattle.reading.proofs.ValueLaws.{outerValue, push-add, lift-value, subst-value}
@@ -35,14 +36,8 @@ module _ (R : Reading) (e : Form) (η ρ : Env) (m : ℕ) (there : value R ρ (l
       j
 
 -- the places from the innermost outwards
-reverse-kept : (n m : ℕ) → reverseAux (replicate n kept) (replicate m kept) ≡ replicate (n + m) kept
-reverse-kept zero m = rw zero-add
-reverse-kept (suc n) m =
-    let z : suc n + m ≡ n + suc m = omega arith in
-    reverse-kept n (suc m) ∙ rw z
-
 reverse-filled : (e : Form) (n : ℕ) → reverse (filled e ∷ replicate n kept) ≡ replicate n kept ++ (filled e ∷ [])
-reverse-filled e n = reverseAux-eq (replicate n kept) (filled e ∷ []) ∙ ap (λ z. z ++ (filled e ∷ [])) (rw add-zero at (reverse-kept n 0))
+reverse-filled e n = reverseAux-eq (replicate n kept) (filled e ∷ []) ∙ ap (λ z. z ++ (filled e ∷ [])) (reverse-kept n)
 
 keptCount-kept : (n : ℕ) → keptCount (replicate n kept) ≡ n
 keptCount-kept zero = refl

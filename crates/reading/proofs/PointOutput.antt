@@ -1,4 +1,4 @@
--- The row that one point answers keeps the truth: the mission's point 3, of what the call writes. Assumes only the premise: the replacement's
+-- The row that one point answers keeps the truth of what the call was given. Assumes only the premise: the replacement's
 -- value lies in the range of the declaration that it replaces.
 use mathlib.Core.Path.{_≡_}
 use mathlib.Core.Bool.{true}

@@ -1,4 +1,4 @@
--- The premise of the mission's point 3: the replacement's value lies in the range of the declaration that it replaces.
+-- The premise under which one point keeps the truth: the replacement's value lies in the range of the declaration that it replaces.
 use mathlib.Core.Bool.{Bool, true, false, _||_}
 use mathlib.Core.List.{List, [], _∷_}
 use Prim.Native.Nat.{ℕ, suc, _-_}

@@ -80,7 +80,7 @@ loop-less c = let h = entry-rises _ _ _ _ _ _ (c .before .before .before .before
 
 loop-again : tie.Need-loop-again Inv-loop μ-loop
 unfolding addRow
-loop-again c = let u : counted (c .if1 .table) (c .before .before .before .before .before .before .before .before .before .loop .table .n + 1) ≡ addRow (c .before .before .before .before .before .before .before .before .before .loop .table) (getD (c .before .before .before .before .before .before .before .before .before .before .before .before .before .args .row .now) (c .before .before .before .before .before .before .before .before .before .loop .p) 0) (c .before .before .before .before .before .before .before .before .before .loop .p + 1) (c .before .before .q .given .0 .0) = ⊎-elim (λ w. rw (w .2, lt-leb _ _ (w .0 .taken))) (λ w. rw (w .1, le-leb _ _ (w .0 .left))) (c .if1 .came) in (λ b r t. c .before .before .before .before .before .before .before .before .before .loop .inv .0 b r (list-more _ _ _ (c .before .before .before .before .before .before .before .before .loop-test .taken) _ _ _ _ (c .before .before .before .before .before .before .entry-at .ensures) _ _ (c .before .before .q .given .1) u b r t), let h = entry-rises _ _ _ _ _ _ (c .before .before .before .before .before .before .entry-at .ensures) (c .before .before .q .given .1) in omega arith, c .before .before .before .before .before .before .entry-at .kept .1 .1 .0 ∙ c .before .before .before .before .before .before .before .before .before .loop .inv .2)
+loop-again c = let b6 = c .before .before .before .before .before .before in let b9 = b6 .before .before .before in let b13 = b9 .before .before .before .before in let u : counted (c .if1 .table) (b9 .loop .table .n + 1) ≡ addRow (b9 .loop .table) (getD (b13 .args .row .now) (b9 .loop .p) 0) (b9 .loop .p + 1) (c .before .before .q .given .0 .0) = ⊎-elim (λ w. rw (w .2, lt-leb _ _ (w .0 .taken))) (λ w. rw (w .1, le-leb _ _ (w .0 .left))) (c .if1 .came) in (λ b r t. b9 .loop .inv .0 b r (list-more _ _ _ (b6 .before .before .loop-test .taken) _ _ _ _ (b6 .entry-at .ensures) _ _ (c .before .before .q .given .1) u b r t), let h = entry-rises _ _ _ _ _ _ (b6 .entry-at .ensures) (c .before .before .q .given .1) in omega arith, b6 .entry-at .kept .1 .1 .0 ∙ b9 .loop .inv .2)
 
 same-length-2 : tie.Need-same-length-2 Inv-loop μ-loop
 same-length-2 c = c .before .loop .inv .2

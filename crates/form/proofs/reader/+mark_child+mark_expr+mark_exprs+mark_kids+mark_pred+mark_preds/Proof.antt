@@ -174,13 +174,13 @@ mark-expr-add-mark-kids : (t : ℕ) → mark-expr-lts.Need-add-mark-kids (mark-e
 mark-expr-add-mark-kids t c = let w = few _ _ _ _ _ expr _ _ (c .before .before .before .before .before .before .before .before .expr-head .ensures) (c .before .before .before .before .before .before .p .given .1) in omega arith
 
 mark-expr-mark-kids-requires : (t : ℕ) → mark-expr-lts.Need-mark-kids-requires (mark-expr-calls t) (mark-expr-at t) mark-expr.Post
-mark-expr-mark-kids-requires t c κs = let w = few _ _ _ _ _ expr _ _ (c .before .before .before .before .before .before .before .before .expr-head .ensures) (c .before .before .before .before .before .before .p .given .1) in let h = kids-after expr (c .before .before .before .before .before .before .before .before .before .before .before .before .before .before .args .row .now) (c .before .before .before .before .before .before .before .before .before .before .before .before .before .before .args .at) 0 (c .before .before .before .before .before .before .before .before .before .before .if2 .left) (c .before .before .before .before .before .before .before .before .expr-head .ensures) _ _ _ _ (c .before .before .before .before .before .before .p .given .1) in omega arith
+mark-expr-mark-kids-requires t c κs = let b6 = c .before .before .before .before .before .before in let b10 = b6 .before .before .before .before in let b14 = b10 .before .before .before .before in let w = few _ _ _ _ _ expr _ _ (b6 .before .before .expr-head .ensures) (b6 .p .given .1) in let h = kids-after expr (b14 .args .row .now) (b14 .args .at) 0 (b10 .if2 .left) (b6 .before .before .expr-head .ensures) _ _ _ _ (b6 .p .given .1) in omega arith
 
 mark-expr-same-length : (t : ℕ) → mark-expr-lts.Need-same-length (mark-expr-calls t) (mark-expr-at t) mark-expr.Post
 mark-expr-same-length t c = c .before .before .mark-kids .kept .1 .0 ∙ c .before .before .before .before .before .before .mark-tag .kept .0
 
 mark-expr-returns-4 : (t : ℕ) → mark-expr-lts.Need-returns-4 (mark-expr-calls t) (mark-expr-at t) mark-expr.Post
-mark-expr-returns-4 t c = a-form expr _ _ _ (c .before .before .before .before .before .before .before .before .before .before .before .before .before .if2 .left) (c .before .before .before .before .before .before .before .before .before .before .before .expr-head .ensures) _ _ _ _ _ _ _ _ _ (c .before .before .before .before .before .before .before .before .before .before .before .before .before .before .if1 .left) (c .before .before .before .before .before .before .before .before .before .p .given .1) (c .before .before .before .before .before .before .mark-tag .ensures) (c .before .before .mark-kids .ensures)
+mark-expr-returns-4 t c = let b6 = c .before .before .before .before .before .before in let b9 = b6 .before .before .before in let b13 = b9 .before .before .before .before in a-form expr _ _ _ (b13 .if2 .left) (b9 .before .before .expr-head .ensures) _ _ _ _ _ _ _ _ _ (b13 .before .if1 .left) (b9 .p .given .1) (b6 .mark-tag .ensures) (c .before .before .mark-kids .ensures)
 
 abbrev mark-exprs-Inv-loop : mark-exprs-lts.InvT-loop
 mark-exprs-Inv-loop row marks₀ at n depth under p₀ left₀ marks p left = ((b : List ℕ) (r : Step) → ToldAll p under (decodeAll (λ s l. decode depth s l) (replicate left expr) (drop p row)) marks b r → ToldAll at under (decodeAll (λ s l. decode depth s l) (replicate n expr) (drop at row)) marks₀ b r) × (at ≤ p) × (length marks ≡ length marks₀)
@@ -213,7 +213,7 @@ mark-exprs-loop-less : (t : ℕ) → mark-exprs-lts.Need-loop-less (mark-exprs-c
 mark-exprs-loop-less t c = search needs
 
 mark-exprs-loop-again : (t : ℕ) → mark-exprs-lts.Need-loop-again (mark-exprs-calls t) (mark-exprs-at t) mark-exprs.Post mark-exprs-Inv-loop mark-exprs-μ-loop
-mark-exprs-loop-again t c = (λ b r t. c .before .before .before .before .before .before .before .before .loop .inv .0 b r (all-more _ _ _ expr _ _ _ _ _ _ (c .before .before .before .before .before .before .before .loop-test .taken) (c .before .before .before .before .before .mark-child .ensures) (c .before .q .given .1) b r t), le-trans (c .before .before .before .before .before .before .before .before .loop .inv .1) (rises _ _ _ _ _ _ _ (c .before .before .before .before .before .mark-child .ensures) (c .before .q .given .1)), c .before .before .before .before .before .mark-child .kept .1 .0 ∙ c .before .before .before .before .before .before .before .before .loop .inv .2)
+mark-exprs-loop-again t c = let b5 = c .before .before .before .before .before in let b8 = b5 .before .before .before in (λ b r t. b8 .loop .inv .0 b r (all-more _ _ _ expr _ _ _ _ _ _ (b5 .before .before .loop-test .taken) (b5 .mark-child .ensures) (c .before .q .given .1) b r t), le-trans (b8 .loop .inv .1) (rises _ _ _ _ _ _ _ (b5 .mark-child .ensures) (c .before .q .given .1)), b5 .mark-child .kept .1 .0 ∙ b8 .loop .inv .2)
 
 mark-exprs-same-length-2 : (t : ℕ) → mark-exprs-lts.Need-same-length-2 (mark-exprs-calls t) (mark-exprs-at t) mark-exprs.Post mark-exprs-Inv-loop mark-exprs-μ-loop
 mark-exprs-same-length-2 t c = c .before .loop .inv .2
@@ -243,7 +243,7 @@ mark-kids-same-length-2 : (t : ℕ) → mark-kids-lts.Need-same-length-2 (mark-k
 mark-kids-same-length-2 t c = c .before .before .mark-exprs .kept .1 .0 ∙ c .before .before .before .before .before .before .before .before .before .mark-preds .kept .1 .0
 
 mark-kids-returns-2 : (t : ℕ) → mark-kids-lts.Need-returns-2 (mark-kids-calls t) (mark-kids-at t) mark-kids.Post
-mark-kids-returns-2 t c = both-go _ _ _ (replicate (c .before .before .before .before .before .before .before .before .before .before .before .before .before .args .preds) pred) (replicate (c .before .before .before .before .before .before .before .before .before .before .before .before .before .args .exprs) expr) _ _ _ _ _ _ _ (c .before .before .before .before .before .before .before .before .before .mark-preds .ensures) (c .before .before .before .before .before .p .given .1) (c .before .before .mark-exprs .ensures)
+mark-kids-returns-2 t c = let b5 = c .before .before .before .before .before in let b9 = b5 .before .before .before .before in let b13 = b9 .before .before .before .before in both-go _ _ _ (replicate (b13 .args .preds) pred) (replicate (b13 .args .exprs) expr) _ _ _ _ _ _ _ (b9 .mark-preds .ensures) (b5 .p .given .1) (c .before .before .mark-exprs .ensures)
 
 mark-pred-returns : (t : ℕ) → mark-pred-lts.Need-returns (mark-pred-calls t) (mark-pred-at t) mark-pred.Post
 mark-pred-returns t c = too-deep pred _ _ _ _ _ _ (c .if1 .taken)
@@ -282,13 +282,13 @@ mark-pred-add-mark-kids : (t : ℕ) → mark-pred-lts.Need-add-mark-kids (mark-p
 mark-pred-add-mark-kids t c = let w = few _ _ _ _ _ pred _ _ (c .before .before .before .before .before .before .before .before .pred-head .ensures) (c .before .before .before .before .before .before .p .given .1) in omega arith
 
 mark-pred-mark-kids-requires : (t : ℕ) → mark-pred-lts.Need-mark-kids-requires (mark-pred-calls t) (mark-pred-at t) mark-pred.Post
-mark-pred-mark-kids-requires t c κs = let w = few _ _ _ _ _ pred _ _ (c .before .before .before .before .before .before .before .before .pred-head .ensures) (c .before .before .before .before .before .before .p .given .1) in let h = kids-after pred (c .before .before .before .before .before .before .before .before .before .before .before .before .before .before .args .row .now) (c .before .before .before .before .before .before .before .before .before .before .before .before .before .before .args .at) 0 (c .before .before .before .before .before .before .before .before .before .before .if2 .left) (c .before .before .before .before .before .before .before .before .pred-head .ensures) _ _ _ _ (c .before .before .before .before .before .before .p .given .1) in omega arith
+mark-pred-mark-kids-requires t c κs = let b6 = c .before .before .before .before .before .before in let b10 = b6 .before .before .before .before in let b14 = b10 .before .before .before .before in let w = few _ _ _ _ _ pred _ _ (b6 .before .before .pred-head .ensures) (b6 .p .given .1) in let h = kids-after pred (b14 .args .row .now) (b14 .args .at) 0 (b10 .if2 .left) (b6 .before .before .pred-head .ensures) _ _ _ _ (b6 .p .given .1) in omega arith
 
 mark-pred-same-length : (t : ℕ) → mark-pred-lts.Need-same-length (mark-pred-calls t) (mark-pred-at t) mark-pred.Post
 mark-pred-same-length t c = c .before .before .mark-kids .kept .1 .0 ∙ c .before .before .before .before .before .before .mark-tag .kept .0
 
 mark-pred-returns-4 : (t : ℕ) → mark-pred-lts.Need-returns-4 (mark-pred-calls t) (mark-pred-at t) mark-pred.Post
-mark-pred-returns-4 t c = a-form pred _ _ _ (c .before .before .before .before .before .before .before .before .before .before .before .before .before .if2 .left) (c .before .before .before .before .before .before .before .before .before .before .before .pred-head .ensures) _ _ _ _ _ _ _ _ _ (c .before .before .before .before .before .before .before .before .before .before .before .before .before .before .if1 .left) (c .before .before .before .before .before .before .before .before .before .p .given .1) (c .before .before .before .before .before .before .mark-tag .ensures) (c .before .before .mark-kids .ensures)
+mark-pred-returns-4 t c = let b6 = c .before .before .before .before .before .before in let b9 = b6 .before .before .before in let b13 = b9 .before .before .before .before in a-form pred _ _ _ (b13 .if2 .left) (b9 .before .before .pred-head .ensures) _ _ _ _ _ _ _ _ _ (b13 .before .if1 .left) (b9 .p .given .1) (b6 .mark-tag .ensures) (c .before .before .mark-kids .ensures)
 
 abbrev mark-preds-Inv-loop : mark-preds-lts.InvT-loop
 mark-preds-Inv-loop row marks₀ at n depth under p₀ left₀ marks p left = ((b : List ℕ) (r : Step) → ToldAll p under (decodeAll (λ s l. decode depth s l) (replicate left pred) (drop p row)) marks b r → ToldAll at under (decodeAll (λ s l. decode depth s l) (replicate n pred) (drop at row)) marks₀ b r) × (at ≤ p) × (length marks ≡ length marks₀)
@@ -321,7 +321,7 @@ mark-preds-loop-less : (t : ℕ) → mark-preds-lts.Need-loop-less (mark-preds-c
 mark-preds-loop-less t c = search needs
 
 mark-preds-loop-again : (t : ℕ) → mark-preds-lts.Need-loop-again (mark-preds-calls t) (mark-preds-at t) mark-preds.Post mark-preds-Inv-loop mark-preds-μ-loop
-mark-preds-loop-again t c = (λ b r t. c .before .before .before .before .before .before .before .before .loop .inv .0 b r (all-more _ _ _ pred _ _ _ _ _ _ (c .before .before .before .before .before .before .before .loop-test .taken) (c .before .before .before .before .before .mark-pred .ensures) (c .before .q .given .1) b r t), le-trans (c .before .before .before .before .before .before .before .before .loop .inv .1) (rises _ _ _ _ _ _ _ (c .before .before .before .before .before .mark-pred .ensures) (c .before .q .given .1)), c .before .before .before .before .before .mark-pred .kept .1 .0 ∙ c .before .before .before .before .before .before .before .before .loop .inv .2)
+mark-preds-loop-again t c = let b5 = c .before .before .before .before .before in let b8 = b5 .before .before .before in (λ b r t. b8 .loop .inv .0 b r (all-more _ _ _ pred _ _ _ _ _ _ (b5 .before .before .loop-test .taken) (b5 .mark-pred .ensures) (c .before .q .given .1) b r t), le-trans (b8 .loop .inv .1) (rises _ _ _ _ _ _ _ (b5 .mark-pred .ensures) (c .before .q .given .1)), b5 .mark-pred .kept .1 .0 ∙ b8 .loop .inv .2)
 
 mark-preds-same-length-2 : (t : ℕ) → mark-preds-lts.Need-same-length-2 (mark-preds-calls t) (mark-preds-at t) mark-preds.Post mark-preds-Inv-loop mark-preds-μ-loop
 mark-preds-same-length-2 t c = c .before .loop .inv .2

@@ -20,7 +20,7 @@ put-mark-requires : tie.Need-put-mark-requires
 put-mark-requires c κs = search needs
 
 add-t11 : tie.Need-add-t11
-add-t11 c = let (x, y) = leaf-room (c .before .before .before .before .before .before .before .before .args .row .now) (c .before .before .before .before .before .before .before .before .args .at) (c .before .before .before .before .before .before .before .before .args .depth) (sym (c .before .before .before .before .before .is-leaf .ensures) ∙ c .before .before .before .before .if1 .taken) in omega arith
+add-t11 c = let b4 = c .before .before .before .before in let b8 = b4 .before .before .before .before in let (x, y) = leaf-room (b8 .args .row .now) (b8 .args .at) (b8 .args .depth) (sym (b4 .before .is-leaf .ensures) ∙ b4 .if1 .taken) in omega arith
 
 same-length : tie.Need-same-length
 same-length c = search needs

@@ -67,13 +67,17 @@ same-length-2 : tie.Need-same-length-2 Inv-loop μ-loop
 same-length-2 c = c .before .before .before .before .put-mark .kept .0 ∙ c .before .before .before .before .before .before .before .before .before .before .before .before .before .loop .inv .5
 
 returns-4 : tie.Need-returns-4 Inv-loop μ-loop
-returns-4 c = c .before .before .before .before .before .before .before .before .before .before .before .before .before .loop .inv .0 _ _ (scan-end _ _ _ _ _ _ (c .before .before .before .before .before .before .before .before .before .before .before .before .loop-test .taken) (c .before .before .before .before .before .before .before .before .before .before .next .ensures) _ (c .before .before .before .before .before .before .before .before .s .given .1) _ _ (c .before .depth-after .ensures) _ _ (mark-is _ _ _ _ _ _ (c .before .before .before .before .before .noted .ensures) (c .before .before .before .before .put-mark .ensures)) (c .if3 .taken))
+returns-4 c =
+    let b4 = c .before .before .before .before in let b8 = b4 .before .before .before .before in let b12 = b8 .before .before .before .before in
+    b12 .before .loop .inv .0 _ _ (scan-end _ _ _ _ _ _ (b12 .loop-test .taken) (b8 .before .before .next .ensures) _ (b8 .s .given .1) _ _ (c .before .depth-after .ensures) _ _ (mark-is _ _ _ _ _ _ (b4 .before .noted .ensures) (b4 .put-mark .ensures)) (c .if3 .taken))
 
 loop-less : tie.Need-loop-less Inv-loop μ-loop
 loop-less c = omega arith
 
 loop-again : tie.Need-loop-again Inv-loop μ-loop
-loop-again c = let f = mark-few _ _ _ _ _ (c .before .before .before .before .put-mark .ensures) in let g = depth-few (c .before .before .before .before .before .before .before .before .before .before .before .before .before .loop .depth) (getD (c .before .before .before .before .before .before .before .before .before .before .before .before .before .before .before .before .before .before .before .args .line .now) (c .before .before .before .before .before .before .before .before .before .before .before .before .before .loop .p) 0) in let e = c .before .depth-after .ensures in (λ b r t. c .before .before .before .before .before .before .before .before .before .before .before .before .before .loop .inv .0 b r (scan-more _ _ _ _ _ _ (c .before .before .before .before .before .before .before .before .before .before .before .before .loop-test .taken) (c .before .before .before .before .before .before .before .before .before .before .next .ensures) _ (c .before .before .before .before .before .before .before .before .s .given .1) _ _ (c .before .depth-after .ensures) _ _ (mark-is _ _ _ _ _ _ (c .before .before .before .before .before .noted .ensures) (c .before .before .before .before .put-mark .ensures)) (c .if3 .left) b r t), omega arith, omega arith, omega arith, omega arith, c .before .before .before .before .put-mark .kept .0 ∙ c .before .before .before .before .before .before .before .before .before .before .before .before .before .loop .inv .5)
+loop-again c =
+    let b4 = c .before .before .before .before in let b8 = b4 .before .before .before .before in let b12 = b8 .before .before .before .before in let b13 = b12 .before in let b19 = b13 .before .before .before .before .before .before in
+    let f = mark-few _ _ _ _ _ (b4 .put-mark .ensures) in let g = depth-few (b13 .loop .depth) (getD (b19 .args .line .now) (b13 .loop .p) 0) in let e = c .before .depth-after .ensures in (λ b r t. b13 .loop .inv .0 b r (scan-more _ _ _ _ _ _ (b12 .loop-test .taken) (b8 .before .before .next .ensures) _ (b8 .s .given .1) _ _ (c .before .depth-after .ensures) _ _ (mark-is _ _ _ _ _ _ (b4 .before .noted .ensures) (b4 .put-mark .ensures)) (c .if3 .left) b r t), omega arith, omega arith, omega arith, omega arith, b4 .put-mark .kept .0 ∙ b13 .loop .inv .5)
 
 same-length-3 : tie.Need-same-length-3 Inv-loop μ-loop
 same-length-3 c = c .before .loop .inv .5

@@ -71,7 +71,9 @@ same-length c = c .before .before .read-shift .kept .1 .0
 
 returns-3 : tie.Need-returns-3
 unfolding args listWords put
-returns-3 c = line-args _ _ _ (c .before .before .before .before .before .before .before .before .before .before .if1 .left) (c .before .before .before .before .before .before .before .before .before .read-head .ensures) Shift _ (at-head _ _ _ (c .before .before .before .before .before .before .before .head .given .1) (c .before .before .before .before .enum-told2 .given .1)) _ _ _ (c .before .before .read-shift .ensures) refl
+returns-3 c =
+    let b4 = c .before .before .before .before in let b7 = b4 .before .before .before in let b10 = b7 .before .before .before in
+    line-args _ _ _ (b10 .if1 .left) (b7 .before .before .read-head .ensures) Shift _ (at-head _ _ _ (b7 .head .given .1) (b4 .enum-told2 .given .1)) _ _ _ (c .before .before .read-shift .ensures) refl
 
 same-length-2 : tie.Need-same-length-2
 same-length-2 c = c .before .before .before .before .read-listed .kept .1 .0
@@ -81,7 +83,9 @@ same-length-3 c = c .before .before .before .before .read-listed .kept .1 .1 .0
 
 returns-4 : tie.Need-returns-4
 unfolding args listWords put
-returns-4 c = line-args _ _ _ (c .before .before .before .before .before .before .before .before .before .before .before .before .before .if1 .left) (c .before .before .before .before .before .before .before .before .before .before .before .before .read-head .ensures) Free _ (at-head _ _ _ (c .before .before .before .before .before .before .before .before .before .before .head .given .1) (c .before .before .before .before .before .before .before .enum-told3 .given .1)) _ _ _ (c .before .before .before .before .read-listed .ensures .0) (c .before .before .before .before .read-listed .ensures .1)
+returns-4 c =
+    let b4 = c .before .before .before .before in let b7 = b4 .before .before .before in let b10 = b7 .before .before .before in let b13 = b10 .before .before .before in
+    line-args _ _ _ (b13 .if1 .left) (b10 .before .before .read-head .ensures) Free _ (at-head _ _ _ (b10 .head .given .1) (b7 .enum-told3 .given .1)) _ _ _ (b4 .read-listed .ensures .0) (b4 .read-listed .ensures .1)
 
 same-length-4 : tie.Need-same-length-4
 same-length-4 c = c .before .before .before .before .read-listed2 .kept .1 .0
@@ -91,7 +95,9 @@ same-length-5 c = c .before .before .before .before .read-listed2 .kept .1 .1 .0
 
 returns-5 : tie.Need-returns-5
 unfolding args listWords put
-returns-5 c = line-args _ _ _ (c .before .before .before .before .before .before .before .before .before .before .before .before .before .if1 .left) (c .before .before .before .before .before .before .before .before .before .before .before .before .read-head .ensures) Bind _ (at-head _ _ _ (c .before .before .before .before .before .before .before .before .before .before .head .given .1) (c .before .before .before .before .before .before .before .enum-told4 .given .1)) _ _ _ (c .before .before .before .before .read-listed2 .ensures .0) (c .before .before .before .before .read-listed2 .ensures .1)
+returns-5 c =
+    let b4 = c .before .before .before .before in let b7 = b4 .before .before .before in let b10 = b7 .before .before .before in let b13 = b10 .before .before .before in
+    line-args _ _ _ (b13 .if1 .left) (b10 .before .before .read-head .ensures) Bind _ (at-head _ _ _ (b10 .head .given .1) (b7 .enum-told4 .given .1)) _ _ _ (b4 .read-listed2 .ensures .0) (b4 .read-listed2 .ensures .1)
 
 same-length-6 : tie.Need-same-length-6
 same-length-6 c = c .before .before .before .before .read-listed3 .kept .1 .0
@@ -101,28 +107,36 @@ same-length-7 c = c .before .before .before .before .read-listed3 .kept .1 .1 .0
 
 returns-6 : tie.Need-returns-6
 unfolding args listWords put
-returns-6 c = line-args _ _ _ (c .before .before .before .before .before .before .before .before .before .before .before .before .before .if1 .left) (c .before .before .before .before .before .before .before .before .before .before .before .before .read-head .ensures) Fill _ (at-head _ _ _ (c .before .before .before .before .before .before .before .before .before .before .head .given .1) (c .before .before .before .before .before .before .before .enum-told5 .given .1)) _ _ _ (c .before .before .before .before .read-listed3 .ensures .0) (c .before .before .before .before .read-listed3 .ensures .1)
+returns-6 c =
+    let b4 = c .before .before .before .before in let b7 = b4 .before .before .before in let b10 = b7 .before .before .before in let b13 = b10 .before .before .before in
+    line-args _ _ _ (b13 .if1 .left) (b10 .before .before .read-head .ensures) Fill _ (at-head _ _ _ (b10 .head .given .1) (b7 .enum-told5 .given .1)) _ _ _ (b4 .read-listed3 .ensures .0) (b4 .read-listed3 .ensures .1)
 
 same-length-8 : tie.Need-same-length-8
 same-length-8 c = c .before .before .read-form .kept .1 .0
 
 returns-7 : tie.Need-returns-7
 unfolding args listWords put
-returns-7 c = line-args _ _ _ (c .before .before .before .before .before .before .before .before .before .before .if1 .left) (c .before .before .before .before .before .before .before .before .before .read-head .ensures) Prune _ (at-head _ _ _ (c .before .before .before .before .before .before .before .head .given .1) (c .before .before .before .before .enum-told6 .given .1)) _ _ _ (c .before .before .read-form .ensures) refl
+returns-7 c =
+    let b4 = c .before .before .before .before in let b7 = b4 .before .before .before in let b10 = b7 .before .before .before in
+    line-args _ _ _ (b10 .if1 .left) (b7 .before .before .read-head .ensures) Prune _ (at-head _ _ _ (b7 .head .given .1) (b4 .enum-told6 .given .1)) _ _ _ (c .before .before .read-form .ensures) refl
 
 same-length-9 : tie.Need-same-length-9
 same-length-9 c = c .before .before .read-form2 .kept .1 .0
 
 returns-8 : tie.Need-returns-8
 unfolding args listWords put
-returns-8 c = line-args _ _ _ (c .before .before .before .before .before .before .before .before .before .before .if1 .left) (c .before .before .before .before .before .before .before .before .before .read-head .ensures) Point _ (at-head _ _ _ (c .before .before .before .before .before .before .before .head .given .1) (c .before .before .before .before .enum-told7 .given .1)) _ _ _ (c .before .before .read-form2 .ensures) refl
+returns-8 c =
+    let b4 = c .before .before .before .before in let b7 = b4 .before .before .before in let b10 = b7 .before .before .before in
+    line-args _ _ _ (b10 .if1 .left) (b7 .before .before .read-head .ensures) Point _ (at-head _ _ _ (b7 .head .given .1) (b4 .enum-told7 .given .1)) _ _ _ (c .before .before .read-form2 .ensures) refl
 
 same-length-10 : tie.Need-same-length-10
 same-length-10 c = c .before .before .read-form3 .kept .1 .0
 
 returns-9 : tie.Need-returns-9
 unfolding args listWords put
-returns-9 c = line-args _ _ _ (c .before .before .before .before .before .before .before .before .before .before .if1 .left) (c .before .before .before .before .before .before .before .before .before .read-head .ensures) Member _ (at-head _ _ _ (c .before .before .before .before .before .before .before .head .given .1) (c .before .before .before .before .enum-told8 .given .1)) _ _ _ (c .before .before .read-form3 .ensures) refl
+returns-9 c =
+    let b4 = c .before .before .before .before in let b7 = b4 .before .before .before in let b10 = b7 .before .before .before in
+    line-args _ _ _ (b10 .if1 .left) (b7 .before .before .read-head .ensures) Member _ (at-head _ _ _ (b7 .head .given .1) (b4 .enum-told8 .given .1)) _ _ _ (c .before .before .read-form3 .ensures) refl
 
 pub read-line-spec : {M : Type 1} → statement M
 read-line-spec =

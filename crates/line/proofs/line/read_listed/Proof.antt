@@ -18,7 +18,9 @@ same-length : tie.Need-same-length
 same-length c = c .before .before .before .before .read-group .kept .1 .0
 
 returns : tie.Need-returns
-returns c = (list-bad _ _ _ _ _ _ _ _ (c .before .before .before .before .read-group .ensures) (c .enum-told .given .1), list-kept _ _ (c .before .before .before .before .before .before .before .before .before .args .form .now) (c .before .before .before .before .before .before .before .before .before .args .head) _ _ _ _ (c .before .before .before .before .read-group .ensures))
+returns c =
+    let b4 = c .before .before .before .before in let b9 = b4 .before .before .before .before .before in
+    (list-bad _ _ _ _ _ _ _ _ (b4 .read-group .ensures) (c .enum-told .given .1), list-kept _ _ (b9 .args .form .now) (b9 .args .head) _ _ _ _ (b4 .read-group .ensures))
 
 read-next-requires : tie.Need-read-next-requires
 read-next-requires c κs = search needs
@@ -30,7 +32,9 @@ same-length-3 : tie.Need-same-length-3
 same-length-3 c = c .before .before .read-next .kept .1 .0
 
 returns-2 : tie.Need-returns-2
-returns-2 c = (list-go _ _ _ _ _ _ _ _ (c .before .before .before .before .before .before .before .before .before .read-group .ensures) _ _ (c .before .before .before .before .before .p .given .1) _ _ (c .before .before .read-next .ensures), list-kept _ _ (c .before .before .before .before .before .before .before .before .before .before .before .before .before .before .args .form .now) (c .before .before .before .before .before .before .before .before .before .before .before .before .before .before .args .head) _ _ _ _ (c .before .before .before .before .before .before .before .before .before .read-group .ensures))
+returns-2 c =
+    let b5 = c .before .before .before .before .before in let b9 = b5 .before .before .before .before in let b14 = b9 .before .before .before .before .before in
+    (list-go _ _ _ _ _ _ _ _ (b9 .read-group .ensures) _ _ (b5 .p .given .1) _ _ (c .before .before .read-next .ensures), list-kept _ _ (b14 .args .form .now) (b14 .args .head) _ _ _ _ (b9 .read-group .ensures))
 
 pub read-listed-spec : {M : Type 1} → statement M
 read-listed-spec =

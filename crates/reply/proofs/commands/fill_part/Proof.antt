@@ -31,10 +31,14 @@ returns-2 : tie.Need-returns-2
 returns-2 c = test-passed _ _ (form-tests _ _ _) _ _ (c .before .before .before .before .before .before .check-form-part .ensures) (c .before .before .before .before .checked .given .1) _ _ _ _ (test-refused _ _ (list-tests _ _ _) _ _ (c .before .before .check-list-part .ensures) (c .enum-told2 .given .1) _ _)
 
 slice-aggregate-instantiate : tie.Need-slice-aggregate-instantiate
-slice-aggregate-instantiate c = sym (length-take-le _ _ (held-fits _ _ _ _ (c .before .before .before .before .before .before .before .before .before .before .before .before .before .before .pre .listed) (test-short _ _ (list-tests _ _ _) _ _ (c .before .before .before .before .check-list-part .ensures) (c .before .before .listed .given .1) _ (c .before .before .before .before .before .before .before .before .before .before .before .before .before .before .pre .listed .counted))))
+slice-aggregate-instantiate c =
+    let b4 = c .before .before .before .before in let b14 = b4 .before .before .before .before .before .before .before .before .before .before in
+    sym (length-take-le _ _ (held-fits _ _ _ _ (b14 .pre .listed) (test-short _ _ (list-tests _ _ _) _ _ (b4 .check-list-part .ensures) (c .before .before .listed .given .1) _ (b14 .pre .listed .counted))))
 
 slice-aggregate-instantiate-2 : tie.Need-slice-aggregate-instantiate-2
-slice-aggregate-instantiate-2 c = sym (length-take-le _ _ (held-fits _ _ _ _ (c .before .before .before .before .before .before .before .before .before .before .before .before .before .before .before .pre .formed) (test-short _ _ (form-tests _ _ _) _ _ (c .before .before .before .before .before .before .before .before .before .check-form-part .ensures) (c .before .before .before .before .before .before .before .checked .given .1) _ (c .before .before .before .before .before .before .before .before .before .before .before .before .before .before .before .pre .formed .counted))))
+slice-aggregate-instantiate-2 c =
+    let b7 = c .before .before .before .before .before .before .before in let b15 = b7 .before .before .before .before .before .before .before .before in
+    sym (length-take-le _ _ (held-fits _ _ _ _ (b15 .pre .formed) (test-short _ _ (form-tests _ _ _) _ _ (b7 .before .before .check-form-part .ensures) (b7 .checked .given .1) _ (b15 .pre .formed .counted))))
 
 instantiate-requires : tie.Need-instantiate-requires
 instantiate-requires c κs = search needs
@@ -46,7 +50,9 @@ same-length-2 : tie.Need-same-length-2
 same-length-2 c = search needs
 
 returns-3 : tie.Need-returns-3
-returns-3 c = test-passed _ _ (form-tests _ _ _) _ _ (c .before .before .before .before .before .before .before .before .before .before .before .before .before .before .before .before .check-form-part .ensures) (c .before .before .before .before .before .before .before .before .before .before .before .before .before .before .checked .given .1) _ _ _ _ (test-passed _ _ (list-tests _ _ _) _ _ (c .before .before .before .before .before .before .before .before .before .before .before .before .check-list-part .ensures) (c .before .before .before .before .before .before .before .before .before .before .listed .given .1) _ _ _ _ (rw (held-row _ _ _ _ (c .before .before .before .before .before .before .before .before .before .before .before .before .before .before .before .before .before .before .before .before .before .before .pre .formed) (test-short _ _ (form-tests _ _ _) _ _ (c .before .before .before .before .before .before .before .before .before .before .before .before .before .before .before .before .check-form-part .ensures) (c .before .before .before .before .before .before .before .before .before .before .before .before .before .before .checked .given .1) _ (c .before .before .before .before .before .before .before .before .before .before .before .before .before .before .before .before .before .before .before .before .before .before .pre .formed .counted)), held-row _ _ _ _ (c .before .before .before .before .before .before .before .before .before .before .before .before .before .before .before .before .before .before .before .before .before .before .pre .listed) (test-short _ _ (list-tests _ _ _) _ _ (c .before .before .before .before .before .before .before .before .before .before .before .before .check-list-part .ensures) (c .before .before .before .before .before .before .before .before .before .before .listed .given .1) _ (c .before .before .before .before .before .before .before .before .before .before .before .before .before .before .before .before .before .before .before .before .before .before .pre .listed .counted))) at (c .before .before .before .before .instantiate .ensures)))
+returns-3 c =
+    let b4 = c .before .before .before .before in let b10 = b4 .before .before .before .before .before .before in let b12 = b10 .before .before in let b14 = b12 .before .before in let b16 = b14 .before .before in let b22 = b16 .before .before .before .before .before .before in
+    test-passed _ _ (form-tests _ _ _) _ _ (b16 .check-form-part .ensures) (b14 .checked .given .1) _ _ _ _ (test-passed _ _ (list-tests _ _ _) _ _ (b12 .check-list-part .ensures) (b10 .listed .given .1) _ _ _ _ (rw (held-row _ _ _ _ (b22 .pre .formed) (test-short _ _ (form-tests _ _ _) _ _ (b16 .check-form-part .ensures) (b14 .checked .given .1) _ (b22 .pre .formed .counted)), held-row _ _ _ _ (b22 .pre .listed) (test-short _ _ (list-tests _ _ _) _ _ (b12 .check-list-part .ensures) (b10 .listed .given .1) _ (b22 .pre .listed .counted))) at (b4 .instantiate .ensures)))
 
 pub fill-part-spec : {M : Type 1} → statement M
 fill-part-spec =

@@ -28,7 +28,9 @@ same-length : tie.Need-same-length
 same-length c = search needs
 
 returns-2 : tie.Need-returns-2
-returns-2 c = test-passed _ _ (form-tests _ _ _) _ _ (c .before .before .before .before .before .before .before .before .check-form-part .ensures) (c .before .before .before .before .before .before .checked .given .1) _ _ _ _ (rw (held-row _ _ _ _ (c .before .before .before .before .before .before .before .before .before .before .before .before .pre) (test-short _ _ (form-tests _ _ _) _ _ (c .before .before .before .before .before .before .before .before .check-form-part .ensures) (c .before .before .before .before .before .before .checked .given .1) _ (c .before .before .before .before .before .before .before .before .before .before .before .before .pre .counted))) at (c .before .before .remove-unused-decls .ensures))
+returns-2 c =
+    let b6 = c .before .before .before .before .before .before in let b8 = b6 .before .before in let b12 = b8 .before .before .before .before in
+    test-passed _ _ (form-tests _ _ _) _ _ (b8 .check-form-part .ensures) (b6 .checked .given .1) _ _ _ _ (rw (held-row _ _ _ _ (b12 .pre) (test-short _ _ (form-tests _ _ _) _ _ (b8 .check-form-part .ensures) (b6 .checked .given .1) _ (b12 .pre .counted))) at (c .before .before .remove-unused-decls .ensures))
 
 pub prune-part-spec : {M : Type 1} → statement M
 prune-part-spec =

@@ -29,7 +29,9 @@ same-length : tie.Need-same-length
 same-length c = search needs
 
 returns-2 : tie.Need-returns-2
-returns-2 c = test-passed _ _ (form-tests _ _ _) _ _ (c .before .before .before .before .before .before .before .before .check-form-part .ensures) (c .before .before .before .before .before .before .checked .given .1) _ _ _ _ (rw (held-row _ _ _ _ (c .before .before .before .before .before .before .before .before .before .before .before .before .pre) (test-short _ _ (form-tests _ _ _) _ _ (c .before .before .before .before .before .before .before .before .check-form-part .ensures) (c .before .before .before .before .before .before .checked .given .1) _ (c .before .before .before .before .before .before .before .before .before .before .before .before .pre .counted))) at (rw (back (c .before .before .before .before .before .before .before .before .before .before .before .before .args .offset) (c .before .before .before .before .before .before .before .before .before .before .before .before .fits .offset)) at (c .before .before .shift-bound-identifiers .ensures)))
+returns-2 c =
+    let b6 = c .before .before .before .before .before .before in let b8 = b6 .before .before in let b12 = b8 .before .before .before .before in
+    test-passed _ _ (form-tests _ _ _) _ _ (b8 .check-form-part .ensures) (b6 .checked .given .1) _ _ _ _ (rw (held-row _ _ _ _ (b12 .pre) (test-short _ _ (form-tests _ _ _) _ _ (b8 .check-form-part .ensures) (b6 .checked .given .1) _ (b12 .pre .counted))) at (rw (back (b12 .args .offset) (b12 .fits .offset)) at (c .before .before .shift-bound-identifiers .ensures)))
 
 pub shift-part-spec : {M : Type 1} → statement M
 shift-part-spec =

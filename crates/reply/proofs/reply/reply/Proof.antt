@@ -28,7 +28,9 @@ same-length-4 : tie.Need-same-length-4
 same-length-4 c = search needs
 
 returns : tie.Need-returns
-returns c = too-short (lineOutcome (c .before .before .before .before .before .before .before .before .before .before .before .before .before .before .before .before .before .before .before .before .before .before .before .args .line .now) (length (c .before .before .before .before .before .before .before .before .before .before .before .before .before .before .before .before .before .before .before .before .before .before .before .args .list .now)) (length (c .before .before .before .before .before .before .before .before .before .before .before .before .before .before .before .before .before .before .before .before .before .before .before .args .form .now)) (length (c .before .before .before .before .before .before .before .before .before .before .before .before .before .before .before .before .before .before .before .before .before .before .before .args .work .now)) (length (c .before .before .before .before .before .before .before .before .before .before .before .before .before .before .before .before .before .before .before .before .before .before .before .args .result .now))) _ _ _ (c .before .before .before .before .before .before .before .before .before .before .before .before .answer-line .ensures) _ (c .before .before .n .given .1) (c .if1 .taken)
+returns c =
+    let b12 = c .before .before .before .before .before .before .before .before .before .before .before .before in let b23 = b12 .before .before .before .before .before .before .before .before .before .before .before in
+    too-short (lineOutcome (b23 .args .line .now) (length (b23 .args .list .now)) (length (b23 .args .form .now)) (length (b23 .args .work .now)) (length (b23 .args .result .now))) _ _ _ (b12 .answer-line .ensures) _ (c .before .before .n .given .1) (c .if1 .taken)
 
 slice-reshare-prefix-print-form : tie.Need-slice-reshare-prefix-print-form
 slice-reshare-prefix-print-form c = search needs
@@ -62,7 +64,9 @@ same-length-9 c = search needs
 
 returns-2 : tie.Need-returns-2
 unfolding replyOutcome
-returns-2 c = said-same _ _ _ _ _ (row-there (lineOutcome (c .before .before .before .before .before .before .before .before .before .before .before .before .before .before .before .before .before .before .before .before .before .before .before .before .before .before .before .before .args .line .now) (length (c .before .before .before .before .before .before .before .before .before .before .before .before .before .before .before .before .before .before .before .before .before .before .before .before .before .before .before .before .args .list .now)) (length (c .before .before .before .before .before .before .before .before .before .before .before .before .before .before .before .before .before .before .before .before .before .before .before .before .before .before .before .before .args .form .now)) (length (c .before .before .before .before .before .before .before .before .before .before .before .before .before .before .before .before .before .before .before .before .before .before .before .before .before .before .before .before .args .work .now)) (length (c .before .before .before .before .before .before .before .before .before .before .before .before .before .before .before .before .before .before .before .before .before .before .before .before .before .before .before .before .args .result .now))) _ _ _ (c .before .before .before .before .before .before .before .before .before .before .before .before .before .before .before .before .before .answer-line .ensures) _ (length (c .before .before .before .before .before .before .before .before .before .before .before .before .before .before .before .before .before .before .before .before .before .before .before .before .before .before .before .before .args .bytes .now)) (c .before .before .before .before .before .before .before .n .given .1)) (c .before .before .print-form .ensures)
+returns-2 c =
+    let b7 = c .before .before .before .before .before .before .before in let b17 = b7 .before .before .before .before .before .before .before .before .before .before in let b28 = b17 .before .before .before .before .before .before .before .before .before .before .before in
+    said-same _ _ _ _ _ (row-there (lineOutcome (b28 .args .line .now) (length (b28 .args .list .now)) (length (b28 .args .form .now)) (length (b28 .args .work .now)) (length (b28 .args .result .now))) _ _ _ (b17 .answer-line .ensures) _ (length (b28 .args .bytes .now)) (b7 .n .given .1)) (c .before .before .print-form .ensures)
 
 same-length-10 : tie.Need-same-length-10
 same-length-10 c = search needs
@@ -81,7 +85,9 @@ same-length-14 c = search needs
 
 returns-3 : tie.Need-returns-3
 unfolding replyOutcome
-returns-3 c = said-same _ _ _ _ _ (no-there (lineOutcome (c .before .before .before .before .before .before .before .before .before .before .before .before .before .before .before .before .before .before .before .before .before .before .before .before .before .before .args .line .now) (length (c .before .before .before .before .before .before .before .before .before .before .before .before .before .before .before .before .before .before .before .before .before .before .before .before .before .before .args .list .now)) (length (c .before .before .before .before .before .before .before .before .before .before .before .before .before .before .before .before .before .before .before .before .before .before .before .before .before .before .args .form .now)) (length (c .before .before .before .before .before .before .before .before .before .before .before .before .before .before .before .before .before .before .before .before .before .before .before .before .before .before .args .work .now)) (length (c .before .before .before .before .before .before .before .before .before .before .before .before .before .before .before .before .before .before .before .before .before .before .before .before .before .before .args .result .now))) _ _ _ (c .before .before .before .before .before .before .before .before .before .before .before .before .before .before .before .answer-line .ensures) _ (length (c .before .before .before .before .before .before .before .before .before .before .before .before .before .before .before .before .before .before .before .before .before .before .before .before .before .before .args .bytes .now)) (c .before .before .before .before .before .k .given .1)) (c .before .before .print-no .ensures)
+returns-3 c =
+    let b5 = c .before .before .before .before .before in let b15 = b5 .before .before .before .before .before .before .before .before .before .before in let b26 = b15 .before .before .before .before .before .before .before .before .before .before .before in
+    said-same _ _ _ _ _ (no-there (lineOutcome (b26 .args .line .now) (length (b26 .args .list .now)) (length (b26 .args .form .now)) (length (b26 .args .work .now)) (length (b26 .args .result .now))) _ _ _ (b15 .answer-line .ensures) _ (length (b26 .args .bytes .now)) (b5 .k .given .1)) (c .before .before .print-no .ensures)
 
 pub reply-spec : {M : Type 1} → statement M
 reply-spec =

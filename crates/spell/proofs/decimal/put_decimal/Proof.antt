@@ -75,7 +75,7 @@ same-length-3 : tie.Need-same-length-3
 same-length-3 c = search needs
 
 returns-3 : tie.Need-returns-3
-returns-3 c = three-digits _ _ _ _ _ _ _ _ _ (c .before .before .before .before .before .before .before .before .before .before .before .before .before .if2 .left) (c .before .before .before .before .before .before .before .before .before .before .before .before .if3 .taken) (c .before .before .before .before .before .before .before .before .before .before .put-byte4 .ensures) (c .before .before .before .before .before .before .put-byte5 .ensures) (c .before .before .put-byte6 .ensures)
+returns-3 c = let b6 = c .before .before .before .before .before .before in let b10 = b6 .before .before .before .before in let b13 = b10 .before .before .before in three-digits _ _ _ _ _ _ _ _ _ (b13 .if2 .left) (b10 .before .before .if3 .taken) (b10 .put-byte4 .ensures) (b6 .put-byte5 .ensures) (c .before .before .put-byte6 .ensures)
 
 put-digits-requires : tie.Need-put-digits-requires
 put-digits-requires c κs = search needs

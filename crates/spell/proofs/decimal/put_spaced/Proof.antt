@@ -39,7 +39,9 @@ loop-less : tie.Need-loop-less Inv-loop μ-loop
 loop-less c = omega arith
 
 loop-again : tie.Need-loop-again Inv-loop μ-loop
-loop-again c = let e : c .before .before .before .before .before .before .before .put-byte .result ≡ c .before .before .before .before .before .before .before .before .before .before .loop .q + 1 = wrote-end _ _ _ _ _ (c .before .before .before .before .before .before .before .put-byte .ensures) in let f = wrote-end _ _ _ _ _ (c .before .before .put-decimal .ensures) in let g = decimal-few (getD (c .before .before .before .before .before .before .before .before .before .before .before .before .before .args .row .now) (c .before .before .before .before .before .before .before .before .before .before .loop .p) 0) in (λ b r w. c .before .before .before .before .before .before .before .before .before .before .loop .inv .0 b r (spaced-more _ _ _ _ _ _ _ _ _ (c .before .before .before .before .before .before .before .before .before .loop-test .taken) (c .before .before .before .before .before .before .before .before .before .before .before .before .before .pre .1) (c .before .before .before .before .before .before .before .put-byte .ensures) (c .before .before .put-decimal .ensures) b r w), omega arith, omega arith, omega arith, c .before .before .put-decimal .kept .0 ∙ c .before .before .before .before .before .before .before .put-byte .kept .0 ∙ c .before .before .before .before .before .before .before .before .before .before .loop .inv .4)
+loop-again c =
+    let b2 = c .before .before in let b7 = b2 .before .before .before .before .before in let b10 = b7 .before .before .before in let b13 = b10 .before .before .before in
+    let e : b7 .put-byte .result ≡ b10 .loop .q + 1 = wrote-end _ _ _ _ _ (b7 .put-byte .ensures) in let f = wrote-end _ _ _ _ _ (b2 .put-decimal .ensures) in let g = decimal-few (getD (b13 .args .row .now) (b10 .loop .p) 0) in (λ b r w. b10 .loop .inv .0 b r (spaced-more _ _ _ _ _ _ _ _ _ (b7 .before .before .loop-test .taken) (b13 .pre .1) (b7 .put-byte .ensures) (b2 .put-decimal .ensures) b r w), omega arith, omega arith, omega arith, b2 .put-decimal .kept .0 ∙ b7 .put-byte .kept .0 ∙ b10 .loop .inv .4)
 
 same-length : tie.Need-same-length Inv-loop μ-loop
 same-length c = c .before .loop .inv .4

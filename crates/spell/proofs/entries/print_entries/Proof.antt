@@ -43,10 +43,14 @@ enum-told : tie.Need-enum-told Inv-loop μ-loop
 enum-told c = search needs
 
 same-length-2 : tie.Need-same-length-2 Inv-loop μ-loop
-same-length-2 c = c .before .before .before .before .print-entry .kept .1 .0 ∙ c .before .before .before .before .before .before .before .before .put-byte .kept .0 ∙ c .before .before .before .before .before .before .before .before .before .before .before .before .loop .inv .2
+same-length-2 c =
+    let b4 = c .before .before .before .before in let b8 = b4 .before .before .before .before in let b12 = b8 .before .before .before .before in
+    b4 .print-entry .kept .1 .0 ∙ b8 .put-byte .kept .0 ∙ b12 .loop .inv .2
 
 returns-2 : tie.Need-returns-2 Inv-loop μ-loop
-returns-2 c = (tt, c .before .before .before .before .before .before .before .before .before .before .before .before .loop .inv .0 _ _ (entries-stop _ _ _ _ _ _ _ (c .before .before .before .before .before .before .before .before .before .before .before .loop-test .taken) (c .before .before .before .before .before .before .before .before .before .before .if1 .left) _ _ _ _ (c .before .before .before .before .print-entry .ensures) _ (c .enum-told .given .1)))
+returns-2 c =
+    let b4 = c .before .before .before .before in let b10 = b4 .before .before .before .before .before .before in
+    (tt, b10 .before .before .loop .inv .0 _ _ (entries-stop _ _ _ _ _ _ _ (b10 .before .loop-test .taken) (b10 .if1 .left) _ _ _ _ (b4 .print-entry .ensures) _ (c .enum-told .given .1)))
 
 sub-left : tie.Need-sub-left Inv-loop μ-loop
 sub-left c = search needs
@@ -55,7 +59,9 @@ loop-less : tie.Need-loop-less Inv-loop μ-loop
 loop-less c = omega arith
 
 loop-again : tie.Need-loop-again Inv-loop μ-loop
-loop-again c = let e : c .before .before .before .before .before .before .before .before .before .put-byte .result ≡ c .before .before .before .before .before .before .before .before .before .before .before .before .before .loop .o + 1 = wrote-end _ _ _ _ _ (c .before .before .before .before .before .before .before .before .before .put-byte .ensures) in let w = entry-within _ _ 0 _ _ (c .before .before .before .before .before .before .before .before .before .before .before .before .before .loop .o) (c .before .before .before .before .before .before .before .before .before .before .before .before .before .loop .out) (c .before .before .before .before .before .before .before .before .before .before .before .before .loop-test .taken) (c .before .before .before .before .before .before .before .before .before .before .before .if1 .left) _ _ _ _ (c .before .before .before .before .before .print-entry .ensures) _ _ (c .before .q .given .1) in (λ b r t. c .before .before .before .before .before .before .before .before .before .before .before .before .before .loop .inv .0 b r (entries-more _ _ _ _ _ _ _ (c .before .before .before .before .before .before .before .before .before .before .before .before .loop-test .taken) (c .before .before .before .before .before .before .before .before .before .before .before .if1 .left) _ _ _ _ (c .before .before .before .before .before .print-entry .ensures) _ _ (c .before .q .given .1) (c .before .before .before .before .before .before .before .before .before .put-byte .ensures) b r t), omega arith, c .before .before .before .before .before .print-entry .kept .1 .0 ∙ c .before .before .before .before .before .before .before .before .before .put-byte .kept .0 ∙ c .before .before .before .before .before .before .before .before .before .before .before .before .before .loop .inv .2)
+loop-again c =
+    let b5 = c .before .before .before .before .before in let b9 = b5 .before .before .before .before in let b11 = b9 .before .before in let b12 = b11 .before in let b13 = b12 .before in
+    let e : b9 .put-byte .result ≡ b13 .loop .o + 1 = wrote-end _ _ _ _ _ (b9 .put-byte .ensures) in let w = entry-within _ _ 0 _ _ (b13 .loop .o) (b13 .loop .out) (b12 .loop-test .taken) (b11 .if1 .left) _ _ _ _ (b5 .print-entry .ensures) _ _ (c .before .q .given .1) in (λ b r t. b13 .loop .inv .0 b r (entries-more _ _ _ _ _ _ _ (b12 .loop-test .taken) (b11 .if1 .left) _ _ _ _ (b5 .print-entry .ensures) _ _ (c .before .q .given .1) (b9 .put-byte .ensures) b r t), omega arith, b5 .print-entry .kept .1 .0 ∙ b9 .put-byte .kept .0 ∙ b13 .loop .inv .2)
 
 same-length-3 : tie.Need-same-length-3 Inv-loop μ-loop
 same-length-3 c = c .before .loop .inv .2

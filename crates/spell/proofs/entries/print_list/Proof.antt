@@ -34,7 +34,7 @@ same-length-2 : tie.Need-same-length-2
 same-length-2 c = c .before .before .put-byte2 .kept .0 ∙ c .before .before .before .before .before .before .put-byte .kept .0 ∙ c .before .before .before .before .before .before .before .before .before .before .before .before .before .before .print-entries .kept .1 .0
 
 returns-2 : tie.Need-returns-2
-returns-2 c = list-empty _ _ _ _ _ _ _ _ _ _ (c .before .before .before .before .before .before .before .before .before .before .before .before .before .before .print-entries .ensures .1) (c .before .before .before .before .before .before .before .before .before .before .o .given .1) (c .before .before .before .before .before .before .before .before .if1 .taken) (c .before .before .before .before .before .before .put-byte .ensures) (c .before .before .put-byte2 .ensures)
+returns-2 c = let b6 = c .before .before .before .before .before .before in let b10 = b6 .before .before .before .before in let b14 = b10 .before .before .before .before in list-empty _ _ _ _ _ _ _ _ _ _ (b14 .print-entries .ensures .1) (b10 .o .given .1) (b6 .before .before .if1 .taken) (b6 .put-byte .ensures) (c .before .before .put-byte2 .ensures)
 
 put-byte-requires-3 : tie.Need-put-byte-requires-3
 put-byte-requires-3 c κs = let k = at-most _ _ _ (c .before .before .before .before .before .before .before .print-entries .ensures .0) (c .before .before .before .o .given .1) in let m = c .before .before .before .before .before .before .before .before .before .before .before .pre in omega arith

@@ -46,7 +46,7 @@ same-length-2 : tie.Need-same-length-2
 same-length-2 c = c .before .before .put-byte2 .kept .0 ∙ c .before .before .before .before .before .before .put-byte .kept .0
 
 returns-4 : tie.Need-returns-4
-returns-4 c = place-kept _ _ _ (c .before .before .before .before .before .before .before .before .before .before .before .if1 .left) _ _ _ _ _ (c .before .before .before .before .before .before .before .before .before .if2 .left) (c .before .before .before .before .before .before .before .before .if3 .left) (c .before .before .before .before .before .before .put-byte .ensures) (c .before .before .put-byte2 .ensures)
+returns-4 c = let b6 = c .before .before .before .before .before .before in let b9 = b6 .before .before .before in place-kept _ _ _ (b9 .before .before .if1 .left) _ _ _ _ _ (b9 .if2 .left) (b6 .before .before .if3 .left) (b6 .put-byte .ensures) (c .before .before .put-byte2 .ensures)
 
 pub print-place-spec : {M : Type 1} → statement M
 print-place-spec =

@@ -37,7 +37,9 @@ same-length-3 : tie.Need-same-length-3
 same-length-3 c = search needs
 
 returns-4 : tie.Need-returns-4
-returns-4 c = c .same .ensures ∙ form-same _ _ (c .before .before .before .before .before .before .before .before .before .before .before .before .before .before .pre .0) _ _ _ (c .before .before .before .before .before .before .before .before .print-row .ensures) _ (c .before .before .before .before .n .given .1) (c .before .before .if2 .left) (c .before .before .before .before .before .before .before .before .before .before .before .before .before .before .pre .1)
+returns-4 c =
+    let b4 = c .before .before .before .before in let b8 = b4 .before .before .before .before in let b14 = b8 .before .before .before .before .before .before in
+    c .same .ensures ∙ form-same _ _ (b14 .pre .0) _ _ _ (b8 .print-row .ensures) _ (b4 .n .given .1) (c .before .before .if2 .left) (b14 .pre .1)
 
 pub fits-form-in-spec : {M : Type 1} → statement M
 fits-form-in-spec =

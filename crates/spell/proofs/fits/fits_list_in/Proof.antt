@@ -28,7 +28,9 @@ same-length-2 : tie.Need-same-length-2
 same-length-2 c = search needs
 
 returns-3 : tie.Need-returns-3
-returns-3 c = list-other _ _ _ (c .before .before .before .before .before .before .before .before .before .before .before .before .pre .0) (c .before .before .before .before .before .before .before .before .if1 .left) _ _ _ (c .before .before .before .before .before .before .print-list .ensures) _ (c .before .before .n .given .1) (c .if2 .taken)
+returns-3 c =
+    let b6 = c .before .before .before .before .before .before in let b12 = b6 .before .before .before .before .before .before in
+    list-other _ _ _ (b12 .pre .0) (b6 .before .before .if1 .left) _ _ _ (b6 .print-list .ensures) _ (c .before .before .n .given .1) (c .if2 .taken)
 
 same-requires : tie.Need-same-requires
 same-requires c κs = let k = c .before .before .before .before .before .before .before .print-list .kept .1 .0 in let p = c .before .before .before .before .before .before .before .before .before .before .before .before .before .pre .1 in omega arith
@@ -37,7 +39,9 @@ same-length-3 : tie.Need-same-length-3
 same-length-3 c = search needs
 
 returns-4 : tie.Need-returns-4
-returns-4 c = c .same .ensures ∙ list-same _ _ _ (c .before .before .before .before .before .before .before .before .before .before .before .before .before .before .pre .0) (c .before .before .before .before .before .before .before .before .before .before .if1 .left) _ _ _ (c .before .before .before .before .before .before .before .before .print-list .ensures) _ (c .before .before .before .before .n .given .1) (c .before .before .if2 .left) (c .before .before .before .before .before .before .before .before .before .before .before .before .before .before .pre .1)
+returns-4 c =
+    let b4 = c .before .before .before .before in let b8 = b4 .before .before .before .before in let b14 = b8 .before .before .before .before .before .before in
+    c .same .ensures ∙ list-same _ _ _ (b14 .pre .0) (b8 .before .before .if1 .left) _ _ _ (b8 .print-list .ensures) _ (b4 .n .given .1) (c .before .before .if2 .left) (b14 .pre .1)
 
 pub fits-list-in-spec : {M : Type 1} → statement M
 fits-list-in-spec =

@@ -25,7 +25,9 @@ same-length-2 : tie.Need-same-length-2
 same-length-2 c = search needs
 
 returns-3 : tie.Need-returns-3
-returns-3 c = c .same .ensures ∙ names-same _ _ (c .before .before .before .before .before .before .before .before .before .before .before .pre .0) (c .before .before .before .before .before .before .before .if1 .left) _ _ _ (c .before .before .before .before .before .print-names .ensures) (c .before .before .if2 .left) (c .before .before .before .before .before .before .before .before .before .before .before .pre .1)
+returns-3 c =
+    let b5 = c .before .before .before .before .before in let b11 = b5 .before .before .before .before .before .before in
+    c .same .ensures ∙ names-same _ _ (b11 .pre .0) (b5 .before .before .if1 .left) _ _ _ (b5 .print-names .ensures) (c .before .before .if2 .left) (b11 .pre .1)
 
 pub fits-names-in-spec : {M : Type 1} → statement M
 fits-names-in-spec =

@@ -25,7 +25,9 @@ shared-slice-read-if1-2 : tie.Need-shared-slice-read-if1-2 Inv-loop μ-loop
 shared-slice-read-if1-2 c = omega arith
 
 returns : tie.Need-returns Inv-loop μ-loop
-returns c = let n = length-take-le (length (c .before .before .before .before .before .args .text .now)) (c .before .before .before .before .before .args .bytes .now) (c .before .before .before .before .before .pre) in sym (same-other _ (take (length (c .before .before .before .before .before .args .text .now)) (c .before .before .before .before .before .args .bytes .now)) _ (c .before .before .before .loop-test .taken) (omega arith) (λ e. c .if1 .taken (e ∙ getD-take (length (c .before .before .before .before .before .args .text .now)) (c .before .before .before .before .before .args .bytes .now) (c .before .before .before .before .loop .i) 0 (c .before .before .before .loop-test .taken)))) ∙ c .before .before .before .before .loop .inv
+returns c =
+    let b3 = c .before .before .before in let b4 = b3 .before in let b5 = b4 .before in
+    let n = length-take-le (length (b5 .args .text .now)) (b5 .args .bytes .now) (b5 .pre) in sym (same-other _ (take (length (b5 .args .text .now)) (b5 .args .bytes .now)) _ (b3 .loop-test .taken) (omega arith) (λ e. c .if1 .taken (e ∙ getD-take (length (b5 .args .text .now)) (b5 .args .bytes .now) (b4 .loop .i) 0 (b3 .loop-test .taken)))) ∙ b4 .loop .inv
 
 add-i : tie.Need-add-i Inv-loop μ-loop
 add-i c = omega arith
@@ -34,7 +36,9 @@ loop-less : tie.Need-loop-less Inv-loop μ-loop
 loop-less c = omega arith
 
 loop-again : tie.Need-loop-again Inv-loop μ-loop
-loop-again c = let n = length-take-le (length (c .before .before .before .before .before .args .text .now)) (c .before .before .before .before .before .args .bytes .now) (c .before .before .before .before .before .pre) in sym (same-more _ (take (length (c .before .before .before .before .before .args .text .now)) (c .before .before .before .before .before .args .bytes .now)) _ (c .before .before .before .loop-test .taken) (omega arith) (c .if1 .left ∙ sym (getD-take (length (c .before .before .before .before .before .args .text .now)) (c .before .before .before .before .before .args .bytes .now) (c .before .before .before .before .loop .i) 0 (c .before .before .before .loop-test .taken)))) ∙ c .before .before .before .before .loop .inv
+loop-again c =
+    let b3 = c .before .before .before in let b4 = b3 .before in let b5 = b4 .before in
+    let n = length-take-le (length (b5 .args .text .now)) (b5 .args .bytes .now) (b5 .pre) in sym (same-more _ (take (length (b5 .args .text .now)) (b5 .args .bytes .now)) _ (b3 .loop-test .taken) (omega arith) (c .if1 .left ∙ sym (getD-take (length (b5 .args .text .now)) (b5 .args .bytes .now) (b4 .loop .i) 0 (b3 .loop-test .taken)))) ∙ b4 .loop .inv
 
 returns-2 : tie.Need-returns-2 Inv-loop μ-loop
 returns-2 c = let n = length-take-le (length (c .before .before .args .text .now)) (c .before .before .args .bytes .now) (c .before .before .pre) in sym (same-done (c .before .before .args .text .now) (take (length (c .before .before .args .text .now)) (c .before .before .args .bytes .now)) (c .before .loop .i) (c .loop-test .left) (omega arith)) ∙ c .before .loop .inv

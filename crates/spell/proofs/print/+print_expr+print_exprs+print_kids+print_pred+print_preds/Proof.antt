@@ -128,13 +128,13 @@ print-expr-returns-3 : (t : ℕ) → print-expr-lts.Need-returns-3 (print-expr-c
 print-expr-returns-3 t c = no-own expr _ _ (c .before .before .before .before .if2 .left) (c .before .before .expr-head .ensures) _ _ _ _ (c .before .before .before .before .before .if1 .left) (c .enum-told .given .1)
 
 print-expr-put-head-requires : (t : ℕ) → print-expr-lts.Need-put-head-requires (print-expr-calls t) (print-expr-at t) print-expr.Post
-print-expr-put-head-requires t c κs = let (h, w) = kids-within expr (c .before .before .before .before .before .before .before .before .before .before .args .row .now) (c .before .before .before .before .before .before .before .before .before .before .args .at) (c .before .before .before .before .before .before .if2 .left) (c .before .before .before .before .expr-head .ensures) _ _ _ _ (c .before .before .p .given .1) in (h, w, omega arith)
+print-expr-put-head-requires t c κs = let b4 = c .before .before .before .before in let b10 = b4 .before .before .before .before .before .before in let (h, w) = kids-within expr (b10 .args .row .now) (b10 .args .at) (b4 .before .before .if2 .left) (b4 .expr-head .ensures) _ _ _ _ (c .before .before .p .given .1) in (h, w, omega arith)
 
 print-expr-sub-print-kids : (t : ℕ) → print-expr-lts.Need-sub-print-kids (print-expr-calls t) (print-expr-at t) print-expr.Post
 print-expr-sub-print-kids t c = search needs
 
 print-expr-print-kids-requires : (t : ℕ) → print-expr-lts.Need-print-kids-requires (print-expr-calls t) (print-expr-at t) print-expr.Post
-print-expr-print-kids-requires t c κs = let (h, w) = kids-within expr (c .before .before .before .before .before .before .before .before .before .before .before .before .before .before .args .row .now) (c .before .before .before .before .before .before .before .before .before .before .before .before .before .before .args .at) (c .before .before .before .before .before .before .before .before .before .before .if2 .left) (c .before .before .before .before .before .before .before .before .expr-head .ensures) _ _ _ _ (c .before .before .before .before .before .before .p .given .1) in let f : c .before .before .before .put-head .result ≤ c .before .before .before .before .before .before .before .before .before .before .before .before .before .before .args .o + 11 + 11 * (c .before .before .before .before .before .before .p .given .0 .0 - (c .before .before .before .before .before .before .before .before .before .before .before .before .before .before .args .at + 1)) = opening-few _ _ _ _ _ _ _ (c .before .before .before .put-head .ensures) in omega arith
+print-expr-print-kids-requires t c κs = let b3 = c .before .before .before in let b6 = b3 .before .before .before in let b10 = b6 .before .before .before .before in let b14 = b10 .before .before .before .before in let (h, w) = kids-within expr (b14 .args .row .now) (b14 .args .at) (b10 .if2 .left) (b6 .before .before .expr-head .ensures) _ _ _ _ (b6 .p .given .1) in let f : b3 .put-head .result ≤ b14 .args .o + 11 + 11 * (b6 .p .given .0 .0 - (b14 .args .at + 1)) = opening-few _ _ _ _ _ _ _ (b3 .put-head .ensures) in omega arith
 
 print-expr-enum-known-q : (t : ℕ) → print-expr-lts.Need-enum-known-q (print-expr-calls t) (print-expr-at t) print-expr.Post
 print-expr-enum-known-q t c = search needs
@@ -146,16 +146,16 @@ print-expr-same-length : (t : ℕ) → print-expr-lts.Need-same-length (print-ex
 print-expr-same-length t c = c .before .before .before .before .print-kids .kept .1 .0 ∙ c .before .before .before .before .before .before .before .before .put-head .kept .1 .0
 
 print-expr-returns-4 : (t : ℕ) → print-expr-lts.Need-returns-4 (print-expr-calls t) (print-expr-at t) print-expr.Post
-print-expr-returns-4 t c = kids-stop expr _ _ (c .before .before .before .before .before .before .before .before .before .before .before .before .before .before .before .if2 .left) (c .before .before .before .before .before .before .before .before .before .before .before .before .before .expr-head .ensures) _ _ _ _ _ _ _ _ _ _ _ _ (c .before .before .before .before .before .before .before .before .before .before .before .before .before .before .before .before .if1 .left) (c .before .before .before .before .before .before .before .before .before .before .before .p .given .1) (c .before .before .before .before .print-kids .ensures) (c .enum-told2 .given .1)
+print-expr-returns-4 t c = let b4 = c .before .before .before .before in let b11 = b4 .before .before .before .before .before .before .before in let b15 = b11 .before .before .before .before in kids-stop expr _ _ (b15 .if2 .left) (b11 .before .before .expr-head .ensures) _ _ _ _ _ _ _ _ _ _ _ _ (b15 .before .if1 .left) (b11 .p .given .1) (b4 .print-kids .ensures) (c .enum-told2 .given .1)
 
 print-expr-put-byte-requires : (t : ℕ) → print-expr-lts.Need-put-byte-requires (print-expr-calls t) (print-expr-at t) print-expr.Post
-print-expr-put-byte-requires t c κs = let (h, w) = kids-within expr (c .before .before .before .before .before .before .before .before .before .before .before .before .before .before .before .before .before .before .before .before .before .args .row .now) (c .before .before .before .before .before .before .before .before .before .before .before .before .before .before .before .before .before .before .before .before .before .args .at) (c .before .before .before .before .before .before .before .before .before .before .before .before .before .before .before .before .before .if2 .left) (c .before .before .before .before .before .before .before .before .before .before .before .before .before .before .before .expr-head .ensures) _ _ _ _ (c .before .before .before .before .before .before .before .before .before .before .before .before .before .p .given .1) in let f : c .before .before .before .before .before .before .before .before .before .before .put-head .result ≤ c .before .before .before .before .before .before .before .before .before .before .before .before .before .before .before .before .before .before .before .before .before .args .o + 11 + 11 * (c .before .before .before .before .before .before .before .before .before .before .before .before .before .p .given .0 .0 - (c .before .before .before .before .before .before .before .before .before .before .before .before .before .before .before .before .before .before .before .before .before .args .at + 1)) = opening-few _ _ _ _ _ _ _ (c .before .before .before .before .before .before .before .before .before .before .put-head .ensures) in let (g, k) = all-within _ _ _ _ _ _ _ _ _ _ (c .before .before .before .before .before .before .print-kids .ensures) (c .before .before .q .given .1) in omega arith
+print-expr-put-byte-requires t c κs = let b6 = c .before .before .before .before .before .before in let b10 = b6 .before .before .before .before in let b13 = b10 .before .before .before in let b17 = b13 .before .before .before .before in let b21 = b17 .before .before .before .before in let (h, w) = kids-within expr (b21 .args .row .now) (b21 .args .at) (b17 .if2 .left) (b13 .before .before .expr-head .ensures) _ _ _ _ (b13 .p .given .1) in let f : b10 .put-head .result ≤ b21 .args .o + 11 + 11 * (b13 .p .given .0 .0 - (b21 .args .at + 1)) = opening-few _ _ _ _ _ _ _ (b10 .put-head .ensures) in let (g, k) = all-within _ _ _ _ _ _ _ _ _ _ (b6 .print-kids .ensures) (c .before .before .q .given .1) in omega arith
 
 print-expr-same-length-2 : (t : ℕ) → print-expr-lts.Need-same-length-2 (print-expr-calls t) (print-expr-at t) print-expr.Post
-print-expr-same-length-2 t c = c .before .before .put-byte .kept .0 ∙ c .before .before .before .before .before .before .before .before .before .print-kids .kept .1 .0 ∙ c .before .before .before .before .before .before .before .before .before .before .before .before .before .put-head .kept .1 .0
+print-expr-same-length-2 t c = let b9 = c .before .before .before .before .before .before .before .before .before in let b13 = b9 .before .before .before .before in c .before .before .put-byte .kept .0 ∙ b9 .print-kids .kept .1 .0 ∙ b13 .put-head .kept .1 .0
 
 print-expr-returns-5 : (t : ℕ) → print-expr-lts.Need-returns-5 (print-expr-calls t) (print-expr-at t) print-expr.Post
-print-expr-returns-5 t c = a-form expr _ _ (c .before .before .before .before .before .before .before .before .before .before .before .before .before .before .before .before .before .before .before .before .if2 .left) (c .before .before .before .before .before .before .before .before .before .before .before .before .before .before .before .before .before .before .expr-head .ensures) _ _ _ _ _ _ _ _ _ _ _ _ _ _ _ (c .before .before .before .before .before .before .before .before .before .before .before .before .before .before .before .before .before .before .before .before .before .if1 .left) (c .before .before .before .before .before .before .before .before .before .before .before .before .before .before .before .before .p .given .1) (c .before .before .before .before .before .before .before .before .before .before .before .before .before .put-head .ensures) (c .before .before .before .before .before .before .before .before .before .print-kids .ensures) (c .before .before .before .before .before .q .given .1) (c .before .before .put-byte .ensures)
+print-expr-returns-5 t c = let b5 = c .before .before .before .before .before in let b9 = b5 .before .before .before .before in let b13 = b9 .before .before .before .before in let b16 = b13 .before .before .before in let b20 = b16 .before .before .before .before in a-form expr _ _ (b20 .if2 .left) (b16 .before .before .expr-head .ensures) _ _ _ _ _ _ _ _ _ _ _ _ _ _ _ (b20 .before .if1 .left) (b16 .p .given .1) (b13 .put-head .ensures) (b9 .print-kids .ensures) (b5 .q .given .1) (c .before .before .put-byte .ensures)
 
 abbrev print-exprs-Inv-loop : print-exprs-lts.InvT-loop
 print-exprs-Inv-loop row out₀ at n depth o p₀ i₀ left₀ out p i left = ((b : List ℕ) (r : Ends) → PrintedAll p i (decodeAll (λ s l. decode depth s l) (replicate left expr) (drop p row)) out b r → PrintedAll at o (decodeAll (λ s l. decode depth s l) (replicate n expr) (drop at row)) out₀ b r) × (at ≤ p) × (i + 13 * (length row - p) ≤ o + 13 * (length row - at)) × (length out ≡ length out₀)
@@ -182,7 +182,7 @@ print-exprs-same-length : (t : ℕ) → print-exprs-lts.Need-same-length (print-
 print-exprs-same-length t c = c .before .before .before .before .print-expr .kept .1 .0 ∙ c .before .before .before .before .before .before .before .before .put-byte .kept .0 ∙ c .before .before .before .before .before .before .before .before .before .before .before .loop .inv .3
 
 print-exprs-returns : (t : ℕ) → print-exprs-lts.Need-returns (print-exprs-calls t) (print-exprs-at t) print-exprs.Post print-exprs-Inv-loop print-exprs-μ-loop
-print-exprs-returns t c = c .before .before .before .before .before .before .before .before .before .before .before .loop .inv .0 _ _ (all-stop _ _ expr _ _ _ _ _ _ _ _ _ (c .before .before .before .before .before .before .before .before .before .before .loop-test .taken) (c .before .before .before .before .print-expr .ensures) (c .enum-told .given .1))
+print-exprs-returns t c = let b4 = c .before .before .before .before in let b10 = b4 .before .before .before .before .before .before in b10 .before .loop .inv .0 _ _ (all-stop _ _ expr _ _ _ _ _ _ _ _ _ (b10 .loop-test .taken) (b4 .print-expr .ensures) (c .enum-told .given .1))
 
 print-exprs-sub-left : (t : ℕ) → print-exprs-lts.Need-sub-left (print-exprs-calls t) (print-exprs-at t) print-exprs.Post print-exprs-Inv-loop print-exprs-μ-loop
 print-exprs-sub-left t c = search needs
@@ -191,7 +191,7 @@ print-exprs-loop-less : (t : ℕ) → print-exprs-lts.Need-loop-less (print-expr
 print-exprs-loop-less t c = search needs
 
 print-exprs-loop-again : (t : ℕ) → print-exprs-lts.Need-loop-again (print-exprs-calls t) (print-exprs-at t) print-exprs.Post print-exprs-Inv-loop print-exprs-μ-loop
-print-exprs-loop-again t c = let e : c .before .before .before .before .before .before .before .before .before .put-byte .result ≡ c .before .before .before .before .before .before .before .before .before .before .before .before .loop .i + 1 = wrote-end _ _ _ _ _ (c .before .before .before .before .before .before .before .before .before .put-byte .ensures) in let (g, k) = printed-within _ _ expr _ _ _ _ _ _ _ (c .before .before .before .before .before .print-expr .ensures) (c .before .q .given .1) in (λ b r t. c .before .before .before .before .before .before .before .before .before .before .before .before .loop .inv .0 b r (all-more _ _ expr _ _ _ _ _ _ _ _ _ _ (c .before .before .before .before .before .before .before .before .before .before .before .loop-test .taken) (c .before .before .before .before .before .before .before .before .before .put-byte .ensures) (c .before .before .before .before .before .print-expr .ensures) (c .before .q .given .1) b r t), le-trans (c .before .before .before .before .before .before .before .before .before .before .before .before .loop .inv .1) g, omega arith, c .before .before .before .before .before .print-expr .kept .1 .0 ∙ c .before .before .before .before .before .before .before .before .before .put-byte .kept .0 ∙ c .before .before .before .before .before .before .before .before .before .before .before .before .loop .inv .3)
+print-exprs-loop-again t c = let b5 = c .before .before .before .before .before in let b9 = b5 .before .before .before .before in let b12 = b9 .before .before .before in let e : b9 .put-byte .result ≡ b12 .loop .i + 1 = wrote-end _ _ _ _ _ (b9 .put-byte .ensures) in let (g, k) = printed-within _ _ expr _ _ _ _ _ _ _ (b5 .print-expr .ensures) (c .before .q .given .1) in (λ b r t. b12 .loop .inv .0 b r (all-more _ _ expr _ _ _ _ _ _ _ _ _ _ (b9 .before .before .loop-test .taken) (b9 .put-byte .ensures) (b5 .print-expr .ensures) (c .before .q .given .1) b r t), le-trans (b12 .loop .inv .1) g, omega arith, b5 .print-expr .kept .1 .0 ∙ b9 .put-byte .kept .0 ∙ b12 .loop .inv .3)
 
 print-exprs-same-length-2 : (t : ℕ) → print-exprs-lts.Need-same-length-2 (print-exprs-calls t) (print-exprs-at t) print-exprs.Post print-exprs-Inv-loop print-exprs-μ-loop
 print-exprs-same-length-2 t c = c .before .loop .inv .3
@@ -221,7 +221,7 @@ print-kids-same-length-2 : (t : ℕ) → print-kids-lts.Need-same-length-2 (prin
 print-kids-same-length-2 t c = c .before .before .print-exprs .kept .1 .0 ∙ c .before .before .before .before .before .before .before .before .before .print-preds .kept .1 .0
 
 print-kids-returns-2 : (t : ℕ) → print-kids-lts.Need-returns-2 (print-kids-calls t) (print-kids-at t) print-kids.Post
-print-kids-returns-2 t c = both-go _ _ (replicate (c .before .before .before .before .before .before .before .before .before .before .before .before .before .args .preds) pred) (replicate (c .before .before .before .before .before .before .before .before .before .before .before .before .before .args .exprs) expr) _ _ _ _ _ _ _ _ _ (c .before .before .before .before .before .before .before .before .before .print-preds .ensures) (c .before .before .before .before .before .p .given .1) (c .before .before .print-exprs .ensures)
+print-kids-returns-2 t c = let b5 = c .before .before .before .before .before in let b9 = b5 .before .before .before .before in let b13 = b9 .before .before .before .before in both-go _ _ (replicate (b13 .args .preds) pred) (replicate (b13 .args .exprs) expr) _ _ _ _ _ _ _ _ _ (b9 .print-preds .ensures) (b5 .p .given .1) (c .before .before .print-exprs .ensures)
 
 print-pred-returns : (t : ℕ) → print-pred-lts.Need-returns (print-pred-calls t) (print-pred-at t) print-pred.Post
 print-pred-returns t c = too-deep pred _ _ _ _ _ _ (c .if1 .taken)
@@ -251,13 +251,13 @@ print-pred-returns-3 : (t : ℕ) → print-pred-lts.Need-returns-3 (print-pred-c
 print-pred-returns-3 t c = no-own pred _ _ (c .before .before .before .before .if2 .left) (c .before .before .pred-head .ensures) _ _ _ _ (c .before .before .before .before .before .if1 .left) (c .enum-told .given .1)
 
 print-pred-put-head-requires : (t : ℕ) → print-pred-lts.Need-put-head-requires (print-pred-calls t) (print-pred-at t) print-pred.Post
-print-pred-put-head-requires t c κs = let (h, w) = kids-within pred (c .before .before .before .before .before .before .before .before .before .before .args .row .now) (c .before .before .before .before .before .before .before .before .before .before .args .at) (c .before .before .before .before .before .before .if2 .left) (c .before .before .before .before .pred-head .ensures) _ _ _ _ (c .before .before .p .given .1) in (h, w, omega arith)
+print-pred-put-head-requires t c κs = let b4 = c .before .before .before .before in let b10 = b4 .before .before .before .before .before .before in let (h, w) = kids-within pred (b10 .args .row .now) (b10 .args .at) (b4 .before .before .if2 .left) (b4 .pred-head .ensures) _ _ _ _ (c .before .before .p .given .1) in (h, w, omega arith)
 
 print-pred-sub-print-kids : (t : ℕ) → print-pred-lts.Need-sub-print-kids (print-pred-calls t) (print-pred-at t) print-pred.Post
 print-pred-sub-print-kids t c = search needs
 
 print-pred-print-kids-requires : (t : ℕ) → print-pred-lts.Need-print-kids-requires (print-pred-calls t) (print-pred-at t) print-pred.Post
-print-pred-print-kids-requires t c κs = let (h, w) = kids-within pred (c .before .before .before .before .before .before .before .before .before .before .before .before .before .before .args .row .now) (c .before .before .before .before .before .before .before .before .before .before .before .before .before .before .args .at) (c .before .before .before .before .before .before .before .before .before .before .if2 .left) (c .before .before .before .before .before .before .before .before .pred-head .ensures) _ _ _ _ (c .before .before .before .before .before .before .p .given .1) in let f : c .before .before .before .put-head .result ≤ c .before .before .before .before .before .before .before .before .before .before .before .before .before .before .args .o + 11 + 11 * (c .before .before .before .before .before .before .p .given .0 .0 - (c .before .before .before .before .before .before .before .before .before .before .before .before .before .before .args .at + 1)) = opening-few _ _ _ _ _ _ _ (c .before .before .before .put-head .ensures) in omega arith
+print-pred-print-kids-requires t c κs = let b3 = c .before .before .before in let b6 = b3 .before .before .before in let b10 = b6 .before .before .before .before in let b14 = b10 .before .before .before .before in let (h, w) = kids-within pred (b14 .args .row .now) (b14 .args .at) (b10 .if2 .left) (b6 .before .before .pred-head .ensures) _ _ _ _ (b6 .p .given .1) in let f : b3 .put-head .result ≤ b14 .args .o + 11 + 11 * (b6 .p .given .0 .0 - (b14 .args .at + 1)) = opening-few _ _ _ _ _ _ _ (b3 .put-head .ensures) in omega arith
 
 print-pred-enum-known-q : (t : ℕ) → print-pred-lts.Need-enum-known-q (print-pred-calls t) (print-pred-at t) print-pred.Post
 print-pred-enum-known-q t c = search needs
@@ -269,16 +269,16 @@ print-pred-same-length : (t : ℕ) → print-pred-lts.Need-same-length (print-pr
 print-pred-same-length t c = c .before .before .before .before .print-kids .kept .1 .0 ∙ c .before .before .before .before .before .before .before .before .put-head .kept .1 .0
 
 print-pred-returns-4 : (t : ℕ) → print-pred-lts.Need-returns-4 (print-pred-calls t) (print-pred-at t) print-pred.Post
-print-pred-returns-4 t c = kids-stop pred _ _ (c .before .before .before .before .before .before .before .before .before .before .before .before .before .before .before .if2 .left) (c .before .before .before .before .before .before .before .before .before .before .before .before .before .pred-head .ensures) _ _ _ _ _ _ _ _ _ _ _ _ (c .before .before .before .before .before .before .before .before .before .before .before .before .before .before .before .before .if1 .left) (c .before .before .before .before .before .before .before .before .before .before .before .p .given .1) (c .before .before .before .before .print-kids .ensures) (c .enum-told2 .given .1)
+print-pred-returns-4 t c = let b4 = c .before .before .before .before in let b11 = b4 .before .before .before .before .before .before .before in let b15 = b11 .before .before .before .before in kids-stop pred _ _ (b15 .if2 .left) (b11 .before .before .pred-head .ensures) _ _ _ _ _ _ _ _ _ _ _ _ (b15 .before .if1 .left) (b11 .p .given .1) (b4 .print-kids .ensures) (c .enum-told2 .given .1)
 
 print-pred-put-byte-requires : (t : ℕ) → print-pred-lts.Need-put-byte-requires (print-pred-calls t) (print-pred-at t) print-pred.Post
-print-pred-put-byte-requires t c κs = let (h, w) = kids-within pred (c .before .before .before .before .before .before .before .before .before .before .before .before .before .before .before .before .before .before .before .before .before .args .row .now) (c .before .before .before .before .before .before .before .before .before .before .before .before .before .before .before .before .before .before .before .before .before .args .at) (c .before .before .before .before .before .before .before .before .before .before .before .before .before .before .before .before .before .if2 .left) (c .before .before .before .before .before .before .before .before .before .before .before .before .before .before .before .pred-head .ensures) _ _ _ _ (c .before .before .before .before .before .before .before .before .before .before .before .before .before .p .given .1) in let f : c .before .before .before .before .before .before .before .before .before .before .put-head .result ≤ c .before .before .before .before .before .before .before .before .before .before .before .before .before .before .before .before .before .before .before .before .before .args .o + 11 + 11 * (c .before .before .before .before .before .before .before .before .before .before .before .before .before .p .given .0 .0 - (c .before .before .before .before .before .before .before .before .before .before .before .before .before .before .before .before .before .before .before .before .before .args .at + 1)) = opening-few _ _ _ _ _ _ _ (c .before .before .before .before .before .before .before .before .before .before .put-head .ensures) in let (g, k) = all-within _ _ _ _ _ _ _ _ _ _ (c .before .before .before .before .before .before .print-kids .ensures) (c .before .before .q .given .1) in omega arith
+print-pred-put-byte-requires t c κs = let b6 = c .before .before .before .before .before .before in let b10 = b6 .before .before .before .before in let b13 = b10 .before .before .before in let b17 = b13 .before .before .before .before in let b21 = b17 .before .before .before .before in let (h, w) = kids-within pred (b21 .args .row .now) (b21 .args .at) (b17 .if2 .left) (b13 .before .before .pred-head .ensures) _ _ _ _ (b13 .p .given .1) in let f : b10 .put-head .result ≤ b21 .args .o + 11 + 11 * (b13 .p .given .0 .0 - (b21 .args .at + 1)) = opening-few _ _ _ _ _ _ _ (b10 .put-head .ensures) in let (g, k) = all-within _ _ _ _ _ _ _ _ _ _ (b6 .print-kids .ensures) (c .before .before .q .given .1) in omega arith
 
 print-pred-same-length-2 : (t : ℕ) → print-pred-lts.Need-same-length-2 (print-pred-calls t) (print-pred-at t) print-pred.Post
-print-pred-same-length-2 t c = c .before .before .put-byte .kept .0 ∙ c .before .before .before .before .before .before .before .before .before .print-kids .kept .1 .0 ∙ c .before .before .before .before .before .before .before .before .before .before .before .before .before .put-head .kept .1 .0
+print-pred-same-length-2 t c = let b9 = c .before .before .before .before .before .before .before .before .before in let b13 = b9 .before .before .before .before in c .before .before .put-byte .kept .0 ∙ b9 .print-kids .kept .1 .0 ∙ b13 .put-head .kept .1 .0
 
 print-pred-returns-5 : (t : ℕ) → print-pred-lts.Need-returns-5 (print-pred-calls t) (print-pred-at t) print-pred.Post
-print-pred-returns-5 t c = a-form pred _ _ (c .before .before .before .before .before .before .before .before .before .before .before .before .before .before .before .before .before .before .before .before .if2 .left) (c .before .before .before .before .before .before .before .before .before .before .before .before .before .before .before .before .before .before .pred-head .ensures) _ _ _ _ _ _ _ _ _ _ _ _ _ _ _ (c .before .before .before .before .before .before .before .before .before .before .before .before .before .before .before .before .before .before .before .before .before .if1 .left) (c .before .before .before .before .before .before .before .before .before .before .before .before .before .before .before .before .p .given .1) (c .before .before .before .before .before .before .before .before .before .before .before .before .before .put-head .ensures) (c .before .before .before .before .before .before .before .before .before .print-kids .ensures) (c .before .before .before .before .before .q .given .1) (c .before .before .put-byte .ensures)
+print-pred-returns-5 t c = let b5 = c .before .before .before .before .before in let b9 = b5 .before .before .before .before in let b13 = b9 .before .before .before .before in let b16 = b13 .before .before .before in let b20 = b16 .before .before .before .before in a-form pred _ _ (b20 .if2 .left) (b16 .before .before .pred-head .ensures) _ _ _ _ _ _ _ _ _ _ _ _ _ _ _ (b20 .before .if1 .left) (b16 .p .given .1) (b13 .put-head .ensures) (b9 .print-kids .ensures) (b5 .q .given .1) (c .before .before .put-byte .ensures)
 
 abbrev print-preds-Inv-loop : print-preds-lts.InvT-loop
 print-preds-Inv-loop row out₀ at n depth o p₀ i₀ left₀ out p i left = ((b : List ℕ) (r : Ends) → PrintedAll p i (decodeAll (λ s l. decode depth s l) (replicate left pred) (drop p row)) out b r → PrintedAll at o (decodeAll (λ s l. decode depth s l) (replicate n pred) (drop at row)) out₀ b r) × (at ≤ p) × (i + 13 * (length row - p) ≤ o + 13 * (length row - at)) × (length out ≡ length out₀)
@@ -305,7 +305,7 @@ print-preds-same-length : (t : ℕ) → print-preds-lts.Need-same-length (print-
 print-preds-same-length t c = c .before .before .before .before .print-pred .kept .1 .0 ∙ c .before .before .before .before .before .before .before .before .put-byte .kept .0 ∙ c .before .before .before .before .before .before .before .before .before .before .before .loop .inv .3
 
 print-preds-returns : (t : ℕ) → print-preds-lts.Need-returns (print-preds-calls t) (print-preds-at t) print-preds.Post print-preds-Inv-loop print-preds-μ-loop
-print-preds-returns t c = c .before .before .before .before .before .before .before .before .before .before .before .loop .inv .0 _ _ (all-stop _ _ pred _ _ _ _ _ _ _ _ _ (c .before .before .before .before .before .before .before .before .before .before .loop-test .taken) (c .before .before .before .before .print-pred .ensures) (c .enum-told .given .1))
+print-preds-returns t c = let b4 = c .before .before .before .before in let b10 = b4 .before .before .before .before .before .before in b10 .before .loop .inv .0 _ _ (all-stop _ _ pred _ _ _ _ _ _ _ _ _ (b10 .loop-test .taken) (b4 .print-pred .ensures) (c .enum-told .given .1))
 
 print-preds-sub-left : (t : ℕ) → print-preds-lts.Need-sub-left (print-preds-calls t) (print-preds-at t) print-preds.Post print-preds-Inv-loop print-preds-μ-loop
 print-preds-sub-left t c = search needs
@@ -314,7 +314,7 @@ print-preds-loop-less : (t : ℕ) → print-preds-lts.Need-loop-less (print-pred
 print-preds-loop-less t c = search needs
 
 print-preds-loop-again : (t : ℕ) → print-preds-lts.Need-loop-again (print-preds-calls t) (print-preds-at t) print-preds.Post print-preds-Inv-loop print-preds-μ-loop
-print-preds-loop-again t c = let e : c .before .before .before .before .before .before .before .before .before .put-byte .result ≡ c .before .before .before .before .before .before .before .before .before .before .before .before .loop .i + 1 = wrote-end _ _ _ _ _ (c .before .before .before .before .before .before .before .before .before .put-byte .ensures) in let (g, k) = printed-within _ _ pred _ _ _ _ _ _ _ (c .before .before .before .before .before .print-pred .ensures) (c .before .q .given .1) in (λ b r t. c .before .before .before .before .before .before .before .before .before .before .before .before .loop .inv .0 b r (all-more _ _ pred _ _ _ _ _ _ _ _ _ _ (c .before .before .before .before .before .before .before .before .before .before .before .loop-test .taken) (c .before .before .before .before .before .before .before .before .before .put-byte .ensures) (c .before .before .before .before .before .print-pred .ensures) (c .before .q .given .1) b r t), le-trans (c .before .before .before .before .before .before .before .before .before .before .before .before .loop .inv .1) g, omega arith, c .before .before .before .before .before .print-pred .kept .1 .0 ∙ c .before .before .before .before .before .before .before .before .before .put-byte .kept .0 ∙ c .before .before .before .before .before .before .before .before .before .before .before .before .loop .inv .3)
+print-preds-loop-again t c = let b5 = c .before .before .before .before .before in let b9 = b5 .before .before .before .before in let b12 = b9 .before .before .before in let e : b9 .put-byte .result ≡ b12 .loop .i + 1 = wrote-end _ _ _ _ _ (b9 .put-byte .ensures) in let (g, k) = printed-within _ _ pred _ _ _ _ _ _ _ (b5 .print-pred .ensures) (c .before .q .given .1) in (λ b r t. b12 .loop .inv .0 b r (all-more _ _ pred _ _ _ _ _ _ _ _ _ _ (b9 .before .before .loop-test .taken) (b9 .put-byte .ensures) (b5 .print-pred .ensures) (c .before .q .given .1) b r t), le-trans (b12 .loop .inv .1) g, omega arith, b5 .print-pred .kept .1 .0 ∙ b9 .put-byte .kept .0 ∙ b12 .loop .inv .3)
 
 print-preds-same-length-2 : (t : ℕ) → print-preds-lts.Need-same-length-2 (print-preds-calls t) (print-preds-at t) print-preds.Post print-preds-Inv-loop print-preds-μ-loop
 print-preds-same-length-2 t c = c .before .loop .inv .3

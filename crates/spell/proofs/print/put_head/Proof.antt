@@ -25,7 +25,9 @@ add-put-spaced : tie.Need-add-put-spaced
 add-put-spaced c = search needs
 
 put-spaced-requires : tie.Need-put-spaced-requires
-put-spaced-requires c κs = let e : c .before .before .before .before .before .before .before .before .put-byte .result ≡ c .before .before .before .before .before .before .before .before .before .before .before .before .args .o + 1 = wrote-end _ _ _ _ _ (c .before .before .before .before .before .before .before .before .put-byte .ensures) in let f = wrote-end _ _ _ _ _ (c .before .before .before .put-decimal .ensures) in let g = decimal-few (getD (c .before .before .before .before .before .before .before .before .before .before .before .before .args .row .now) (c .before .before .before .before .before .before .before .before .before .before .before .before .args .at) 0) in (omega arith, c .before .before .before .before .before .before .before .before .before .before .before .before .pre .1, omega arith)
+put-spaced-requires c κs =
+    let b3 = c .before .before .before in let b8 = b3 .before .before .before .before .before in let b12 = b8 .before .before .before .before in
+    let e : b8 .put-byte .result ≡ b12 .args .o + 1 = wrote-end _ _ _ _ _ (b8 .put-byte .ensures) in let f = wrote-end _ _ _ _ _ (b3 .put-decimal .ensures) in let g = decimal-few (getD (b12 .args .row .now) (b12 .args .at) 0) in (omega arith, b12 .pre .1, omega arith)
 
 same-length : tie.Need-same-length
 same-length c = search needs

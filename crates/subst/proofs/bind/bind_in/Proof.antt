@@ -41,7 +41,7 @@ same-length-3 : tie.Need-same-length-3
 same-length-3 c = search needs
 
 returns-3 : tie.Need-returns-3
-returns-3 c = refused _ _ _ _ (bind-names _ _ _ _ _ (checked-fresh _ _ _ _ (c .before .before .before .before .before .before .before .before .before .before .before .before .before .before .pre) _ _ (c .before .before .before .before .before .before .before .before .mark .ensures .0) (c .before .before .before .before .n .given .1) (c .before .before .before .before .before .before .before .before .mark .ensures .1)) (c .before .before .if1 .left) (sym (c .before .good-names .ensures) ∙ not-yes _ (c .if2 .taken))) refl
+returns-3 c = let b4 = c .before .before .before .before in let b8 = b4 .before .before .before .before in let b14 = b8 .before .before .before .before .before .before in refused _ _ _ _ (bind-names _ _ _ _ _ (checked-fresh _ _ _ _ (b14 .pre) _ _ (b8 .mark .ensures .0) (b4 .n .given .1) (b8 .mark .ensures .1)) (c .before .before .if1 .left) (sym (c .before .good-names .ensures) ∙ not-yes _ (c .if2 .taken))) refl
 
 bind-marked-requires : tie.Need-bind-marked-requires
 bind-marked-requires c κs = good-few _ (sym (c .before .before .before .good-names .ensures) ∙ not-no _ (c .before .before .if2 .left))
@@ -53,7 +53,7 @@ same-length-5 : tie.Need-same-length-5
 same-length-5 c = search needs
 
 returns-4 : tie.Need-returns-4
-returns-4 c = passed _ _ _ _ _ (bind-row _ _ _ _ _ (checked-fresh _ _ _ _ (c .before .before .before .before .before .before .before .before .before .before .before .before .before .before .before .before .before .before .before .pre) _ _ (c .before .before .before .before .before .before .before .before .before .before .before .before .before .mark .ensures .0) (c .before .before .before .before .before .before .before .before .before .n .given .1) (c .before .before .before .before .before .before .before .before .before .before .before .before .before .mark .ensures .1)) (c .before .before .before .before .before .before .before .before .before .before .before .before .before .before .before .before .before .before .before .pre .enough) (c .before .before .before .before .before .before .before .if1 .left) (sym (c .before .before .before .before .before .before .good-names .ensures) ∙ not-no _ (c .before .before .before .before .before .if2 .left))) (c .before .before .bind-marked .ensures)
+returns-4 c = let b5 = c .before .before .before .before .before in let b9 = b5 .before .before .before .before in let b13 = b9 .before .before .before .before in let b19 = b13 .before .before .before .before .before .before in passed _ _ _ _ _ (bind-row _ _ _ _ _ (checked-fresh _ _ _ _ (b19 .pre) _ _ (b13 .mark .ensures .0) (b9 .n .given .1) (b13 .mark .ensures .1)) (b19 .pre .enough) (b5 .before .before .if1 .left) (sym (b5 .before .good-names .ensures) ∙ not-no _ (b5 .if2 .left))) (c .before .before .bind-marked .ensures)
 
 pub bind-in-spec : {M : Type 1} → statement M
 bind-in-spec =

@@ -40,7 +40,7 @@ same-length c = search needs
 
 returns-3 : tie.Need-returns-3
 unfolding bindWords
-returns-3 c = answers _ _ _ _ _ (c .before .before .before .before .before .before .before .before .before .before .before .before .args .out .now) _ (rw (c .before .before .before .before .before .before .before .top-of .ensures) at (c .before .before .before .before .before .before .all-in .ensures)) (not-no _ (c .before .before .before .before .before .if1 .left)) (keeps _) (c .before .before .before .before .if2 .left) _ (c .before .before .write-bound .ensures)
+returns-3 c = let b4 = c .before .before .before .before in let b7 = b4 .before .before .before in let b12 = b7 .before .before .before .before .before in answers _ _ _ _ _ (b12 .args .out .now) _ (rw (b7 .top-of .ensures) at (b4 .before .before .all-in .ensures)) (not-no _ (b4 .before .if1 .left)) (keeps _) (b4 .if2 .left) _ (c .before .before .write-bound .ensures)
 
 pub bind-marked-spec : {M : Type 1} → statement M
 bind-marked-spec =

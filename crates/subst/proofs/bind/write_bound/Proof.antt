@@ -42,10 +42,10 @@ add-i : tie.Need-add-i Inv-loop μ-loop
 add-i c = let s = size-in _ (c .before .before .before .before .before .before .before .before .before .before .before .before .before .args .marks .now) _ (c .before .before .before .before .before .before .before .loop-test .taken) (c .before .before .before .before .before .before .item-at .ensures) in let e = c .size-of .ensures in omega arith
 
 loop-less : tie.Need-loop-less Inv-loop μ-loop
-loop-less c = let s = size-in _ (c .before .before .before .before .before .before .before .before .before .before .before .before .before .args .marks .now) _ (c .before .before .before .before .before .before .before .loop-test .taken) (c .before .before .before .before .before .before .item-at .ensures) in let e = c .size-of .ensures in let p = size-pos (c .before .before .before .before .before .before .item-at .result) in omega arith
+loop-less c = let b6 = c .before .before .before .before .before .before in let b13 = b6 .before .before .before .before .before .before .before in let s = size-in _ (b13 .args .marks .now) _ (b6 .before .loop-test .taken) (b6 .item-at .ensures) in let e = c .size-of .ensures in let p = size-pos (b6 .item-at .result) in omega arith
 
 loop-again : tie.Need-loop-again Inv-loop μ-loop
-loop-again c = (c .before .before .before .before .before .before .before .before .loop .inv .0 ∙ (store-more _ (keeps _) _ _ _ (c .before .before .before .before .before .before .before .loop-test .taken) (c .before .before .before .before .before .before .item-at .ensures) _ _ (rw (c .before .before .before .before .bound-item .ensures) at (c .before .before .before .put-item .ensures)) ∙ rw (c .size-of .ensures)), c .before .before .before .put-item .kept .0 ∙ c .before .before .before .before .before .before .before .before .loop .inv .1)
+loop-again c = let b3 = c .before .before .before in let b6 = b3 .before .before .before in (b6 .before .before .loop .inv .0 ∙ (store-more _ (keeps _) _ _ _ (b6 .before .loop-test .taken) (b6 .item-at .ensures) _ _ (rw (b3 .before .bound-item .ensures) at (b3 .put-item .ensures)) ∙ rw (c .size-of .ensures)), b3 .put-item .kept .0 ∙ b6 .before .before .loop .inv .1)
 
 same-length : tie.Need-same-length Inv-loop μ-loop
 same-length c = c .before .loop .inv .1

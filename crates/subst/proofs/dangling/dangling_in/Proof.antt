@@ -26,7 +26,7 @@ returns : tie.Need-returns
 returns c = refused _ _ _ _ (dangling-missing _ _ (c .before .before .before .before .before .before .before .before .before .pre .short) (is-missing _ _ _ _ (c .before .before .before .before .before .before .before .before .before .pre .short) (c .before .before .before .before .mark .ensures .0) (c .enum-told .given .1))) refl
 
 set-marked-requires : tie.Need-set-marked-requires
-set-marked-requires c κs = all-small _ _ _ 0 (c .before .before .before .before .before .before .before .before .before .before .before .before .pre .enough) (checked-fresh _ _ _ _ (c .before .before .before .before .before .before .before .before .before .before .before .before .pre) _ _ (c .before .before .before .before .before .before .before .mark .ensures .0) (c .before .before .before .n .given .1) (c .before .before .before .before .before .before .before .mark .ensures .1))
+set-marked-requires c κs = let b3 = c .before .before .before in let b7 = b3 .before .before .before .before in let b12 = b7 .before .before .before .before .before in all-small _ _ _ 0 (b12 .pre .enough) (checked-fresh _ _ _ _ (b12 .pre) _ _ (b7 .mark .ensures .0) (b3 .n .given .1) (b7 .mark .ensures .1))
 
 same-length-2 : tie.Need-same-length-2
 same-length-2 c = search needs
@@ -35,7 +35,7 @@ same-length-3 : tie.Need-same-length-3
 same-length-3 c = search needs
 
 returns-2 : tie.Need-returns-2
-returns-2 c = passed _ _ _ _ _ (dangling-row _ _ _ _ (c .before .before .before .before .before .before .before .before .before .before .before .before .before .before .before .pre .enough) (checked-fresh _ _ _ _ (c .before .before .before .before .before .before .before .before .before .before .before .before .before .before .before .pre) _ _ (c .before .before .before .before .before .before .before .before .before .before .mark .ensures .0) (c .before .before .before .before .before .before .n .given .1) (c .before .before .before .before .before .before .before .before .before .before .mark .ensures .1))) (c .before .before .set-marked .ensures)
+returns-2 c = let b6 = c .before .before .before .before .before .before in let b10 = b6 .before .before .before .before in let b15 = b10 .before .before .before .before .before in passed _ _ _ _ _ (dangling-row _ _ _ _ (b15 .pre .enough) (checked-fresh _ _ _ _ (b15 .pre) _ _ (b10 .mark .ensures .0) (b6 .n .given .1) (b10 .mark .ensures .1))) (c .before .before .set-marked .ensures)
 
 pub dangling-in-spec : {M : Type 1} → statement M
 dangling-in-spec =

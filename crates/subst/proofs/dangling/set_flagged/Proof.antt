@@ -34,7 +34,7 @@ same-length-3 : tie.Need-same-length-3
 same-length-3 c = search needs
 
 returns-2 : tie.Need-returns-2
-returns-2 c = set-answers _ _ _ _ (c .before .before .before .before .before .before .before .before .before .before .before .before .before .before .before .before .args .out .now) (c .before .before .before .before .before .before .before .before .before .before .before .before .before .before .before .before .pre) (c .before .before .before .before .before .before .before .before .before .before .flag-items .ensures) _ (c .before .before .before .before .before .before .count-flags .ensures) (c .before .before .before .before .before .if1 .left) _ (c .before .before .write-flags .ensures)
+returns-2 c = let b5 = c .before .before .before .before .before in let b10 = b5 .before .before .before .before .before in let b16 = b10 .before .before .before .before .before .before in set-answers _ _ _ _ (b16 .args .out .now) (b16 .pre) (b10 .flag-items .ensures) _ (b5 .before .count-flags .ensures) (b5 .if1 .left) _ (c .before .before .write-flags .ensures)
 
 pub set-flagged-spec : {M : Type 1} → statement M
 set-flagged-spec =

@@ -39,7 +39,7 @@ loop-less : tie.Need-loop-less Inv-loop μ-loop
 loop-less c = omega arith
 
 loop-again : tie.Need-loop-again Inv-loop μ-loop
-loop-again c = (c .before .before .before .before .before .before .loop .inv .0 ∙ write-next (c .before .before .before .before .before .before .before .before .before .args .flags .now) _ _ _ _ _ (c .before .before .before .before .before .loop-test .taken) (c .before .before .put-flag .ensures .0) (c .before .before .put-flag .ensures .1), c .before .before .put-flag .kept .0 ∙ c .before .before .before .before .before .before .loop .inv .1, let h = flag-one 0 (getD (c .before .before .before .before .before .before .before .before .before .args .flags .now) (c .before .before .before .before .before .before .loop .i) 0) in let e = c .before .before .put-flag .ensures .0 in let b = c .before .before .before .before .before .before .loop .inv .2 in omega arith)
+loop-again c = let b5 = c .before .before .before .before .before in let b9 = b5 .before .before .before .before in (b5 .before .loop .inv .0 ∙ write-next (b9 .args .flags .now) _ _ _ _ _ (b5 .loop-test .taken) (c .before .before .put-flag .ensures .0) (c .before .before .put-flag .ensures .1), c .before .before .put-flag .kept .0 ∙ b5 .before .loop .inv .1, let h = flag-one 0 (getD (b9 .args .flags .now) (b5 .before .loop .i) 0) in let e = c .before .before .put-flag .ensures .0 in let b = b5 .before .loop .inv .2 in omega arith)
 
 same-length : tie.Need-same-length Inv-loop μ-loop
 same-length c = c .before .loop .inv .1

@@ -19,7 +19,7 @@ choose-requires : tie.Need-choose-requires
 choose-requires c κs = search needs
 
 returns : tie.Need-returns
-returns c = (c .choose .ensures .0 ∙ part-is (liftPart (c .before .before .before .before .before .before .before .before .args .base .now) (c .before .before .before .before .before .before .before .before .args .depth) (length (c .before .before .before .before .before .before .before .before .args .work .now))) (c .before .before .before .before .before .before .before .before .args .base .now) (c .before .before .before .before .before .before .before .before .args .work .now) _ _ (c .before .before .before .before .make-copy .ensures), c .choose .ensures .1 ∙ part-at (liftPart (c .before .before .before .before .before .before .before .before .args .base .now) (c .before .before .before .before .before .before .before .before .args .depth) (length (c .before .before .before .before .before .before .before .before .args .work .now))) _ _ _ (c .before .before .before .before .make-copy .ensures .0))
+returns c = let b4 = c .before .before .before .before in let b8 = b4 .before .before .before .before in (c .choose .ensures .0 ∙ part-is (liftPart (b8 .args .base .now) (b8 .args .depth) (length (b8 .args .work .now))) (b8 .args .base .now) (b8 .args .work .now) _ _ (b4 .make-copy .ensures), c .choose .ensures .1 ∙ part-at (liftPart (b8 .args .base .now) (b8 .args .depth) (length (b8 .args .work .now))) _ _ _ (b4 .make-copy .ensures .0))
 
 pub at-depth-spec : {M : Type 1} → statement M
 at-depth-spec = tie.close (tie.spec make-copy-requires choose-requires returns)

@@ -45,7 +45,7 @@ same-length-3 : tie.Need-same-length-3
 same-length-3 c = search needs
 
 returns-2 : tie.Need-returns-2
-returns-2 c = passed _ _ _ _ _ (shift-row _ (c .before .before .before .before .before .before .before .before .before .before .before .before .before .before .before .before .before .args .offset) _ _ _ (c .before .before .before .before .before .before .before .before .before .before .before .before .before .before .before .before .before .pre .enough) (checked-fresh _ _ _ _ (c .before .before .before .before .before .before .before .before .before .before .before .before .before .before .before .before .before .pre) _ _ (c .before .before .before .before .before .before .before .before .before .before .before .before .mark .ensures .0) (c .before .before .before .before .before .before .before .before .n .given .1) (c .before .before .before .before .before .before .before .before .before .before .before .before .mark .ensures .1)) _ _ (c .before .before .before .before .before .up-by .ensures ∙ ap upBy (back (c .before .before .before .before .before .before .before .before .before .before .before .before .before .before .before .before .before .args .offset) (c .before .before .before .before .before .before .before .before .before .before .before .before .before .before .before .before .before .fits .offset))) (c .before .before .before .before .down-by .ensures ∙ ap downBy (back (c .before .before .before .before .before .before .before .before .before .before .before .before .before .before .before .before .before .args .offset) (c .before .before .before .before .before .before .before .before .before .before .before .before .before .before .before .before .before .fits .offset)))) (c .before .before .shift-marked .ensures)
+returns-2 c = let b4 = c .before .before .before .before in let b8 = b4 .before .before .before .before in let b12 = b8 .before .before .before .before in let b17 = b12 .before .before .before .before .before in passed _ _ _ _ _ (shift-row _ (b17 .args .offset) _ _ _ (b17 .pre .enough) (checked-fresh _ _ _ _ (b17 .pre) _ _ (b12 .mark .ensures .0) (b8 .n .given .1) (b12 .mark .ensures .1)) _ _ (b4 .before .up-by .ensures ∙ ap upBy (back (b17 .args .offset) (b17 .fits .offset))) (b4 .down-by .ensures ∙ ap downBy (back (b17 .args .offset) (b17 .fits .offset)))) (c .before .before .shift-marked .ensures)
 
 pub shift-in-spec : {M : Type 1} → statement M
 shift-in-spec =

@@ -43,19 +43,29 @@ same-length-5 : tie.Need-same-length-5
 same-length-5 c = search needs
 
 returns : tie.Need-returns
-returns c = line-no _ _ _ _ _ _ (c .before .before .before .before .before .before .before .before .before .before .before .before .before .before .before .before .before .before .before .before .before .before .before .before .args .used) (c .before .before .before .before .before .before .before .before .before .before .before .before .before .before .before .before .before .before .before .before .before .before .before .before .args .used + 131072 - c .before .before .before .before .before .before .before .before .before .before .before .before .before .before .before .before .before .before .before .before .before .before .before .before .args .used) (c .before .before .before .before .before .before .before .before .before .before .before .before .before .before .before .before .before .before .before .before .before .before .before .before .pre) _ _ (omega arith) (c .before .before .before .before .before .before .before .before .before .before .before .before .reply .ensures) (c .before .before .before .before .before .before .before .before .before .before .before .before .reply .kept .1 .1 .1 .1 .1 .0) _ (c .enum-told .given .1)
+returns c =
+    let b12 = c .before .before .before .before .before .before .before .before .before .before .before .before in let b24 = b12 .before .before .before .before .before .before .before .before .before .before .before .before in
+    line-no _ _ _ _ _ _ (b24 .args .used) (b24 .args .used + 131072 - b24 .args .used) (b24 .pre) _ _ (omega arith) (b12 .reply .ensures) (b12 .reply .kept .1 .1 .1 .1 .1 .0) _ (c .enum-told .given .1)
 
 add-output : tie.Need-add-output
-add-output c = let n = line-few _ _ _ _ _ _ (c .before .before .before .before .before .before .before .before .before .before .before .before .before .before .before .before .before .before .before .before .before .before .before .before .before .args .used) (c .before .before .before .before .before .before .before .before .before .before .before .before .before .before .before .before .before .before .before .before .before .before .before .before .before .args .used + 131072 - c .before .before .before .before .before .before .before .before .before .before .before .before .before .before .before .before .before .before .before .before .before .before .before .before .before .args .used) (c .before .before .before .before .before .before .before .before .before .before .before .before .before .before .before .before .before .before .before .before .before .before .before .before .before .pre) _ _ (omega arith) (c .before .before .before .before .before .before .before .before .before .before .before .before .before .reply .ensures) (c .before .before .before .before .before .before .before .before .before .before .before .before .before .reply .kept .1 .1 .1 .1 .1 .0) _ (c .before .n .given .1) in let m = c .before .before .before .before .before .before .before .before .before .before .before .before .before .before .before .before .before .before .before .before .before .before .before .before .before .pre .room in search needs
+add-output c =
+    let b13 = c .before .before .before .before .before .before .before .before .before .before .before .before .before in let b25 = b13 .before .before .before .before .before .before .before .before .before .before .before .before in
+    let n = line-few _ _ _ _ _ _ (b25 .args .used) (b25 .args .used + 131072 - b25 .args .used) (b25 .pre) _ _ (omega arith) (b13 .reply .ensures) (b13 .reply .kept .1 .1 .1 .1 .1 .0) _ (c .before .n .given .1) in let m = b25 .pre .room in search needs
 
 slice-write-output : tie.Need-slice-write-output
-slice-write-output c = let n = line-few _ _ _ _ _ _ (c .before .before .before .before .before .before .before .before .before .before .before .before .before .before .before .before .before .before .before .before .before .before .before .before .before .args .used) (c .before .before .before .before .before .before .before .before .before .before .before .before .before .before .before .before .before .before .before .before .before .before .before .before .before .args .used + 131072 - c .before .before .before .before .before .before .before .before .before .before .before .before .before .before .before .before .before .before .before .before .before .before .before .before .before .args .used) (c .before .before .before .before .before .before .before .before .before .before .before .before .before .before .before .before .before .before .before .before .before .before .before .before .before .pre) _ _ (omega arith) (c .before .before .before .before .before .before .before .before .before .before .before .before .before .reply .ensures) (c .before .before .before .before .before .before .before .before .before .before .before .before .before .reply .kept .1 .1 .1 .1 .1 .0) _ (c .before .n .given .1) in let m = c .before .before .before .before .before .before .before .before .before .before .before .before .before .before .before .before .before .before .before .before .before .before .before .before .before .pre .room in omega arith
+slice-write-output c =
+    let b13 = c .before .before .before .before .before .before .before .before .before .before .before .before .before in let b25 = b13 .before .before .before .before .before .before .before .before .before .before .before .before in
+    let n = line-few _ _ _ _ _ _ (b25 .args .used) (b25 .args .used + 131072 - b25 .args .used) (b25 .pre) _ _ (omega arith) (b13 .reply .ensures) (b13 .reply .kept .1 .1 .1 .1 .1 .0) _ (c .before .n .given .1) in let m = b25 .pre .room in omega arith
 
 add-result : tie.Need-add-result
-add-result c = let n = line-few _ _ _ _ _ _ (c .before .before .before .before .before .before .before .before .before .before .before .before .before .before .before .before .before .before .before .before .before .before .before .before .before .args .used) (c .before .before .before .before .before .before .before .before .before .before .before .before .before .before .before .before .before .before .before .before .before .before .before .before .before .args .used + 131072 - c .before .before .before .before .before .before .before .before .before .before .before .before .before .before .before .before .before .before .before .before .before .before .before .before .before .args .used) (c .before .before .before .before .before .before .before .before .before .before .before .before .before .before .before .before .before .before .before .before .before .before .before .before .before .pre) _ _ (omega arith) (c .before .before .before .before .before .before .before .before .before .before .before .before .before .reply .ensures) (c .before .before .before .before .before .before .before .before .before .before .before .before .before .reply .kept .1 .1 .1 .1 .1 .0) _ (c .before .n .given .1) in let m = c .before .before .before .before .before .before .before .before .before .before .before .before .before .before .before .before .before .before .before .before .before .before .before .before .before .pre .room in search needs
+add-result c =
+    let b13 = c .before .before .before .before .before .before .before .before .before .before .before .before .before in let b25 = b13 .before .before .before .before .before .before .before .before .before .before .before .before in
+    let n = line-few _ _ _ _ _ _ (b25 .args .used) (b25 .args .used + 131072 - b25 .args .used) (b25 .pre) _ _ (omega arith) (b13 .reply .ensures) (b13 .reply .kept .1 .1 .1 .1 .1 .0) _ (c .before .n .given .1) in let m = b25 .pre .room in search needs
 
 add-result-2 : tie.Need-add-result-2
-add-result-2 c = let n = line-few _ _ _ _ _ _ (c .before .before .before .before .before .before .before .before .before .before .before .before .before .before .before .before .before .before .before .before .before .before .before .before .before .args .used) (c .before .before .before .before .before .before .before .before .before .before .before .before .before .before .before .before .before .before .before .before .before .before .before .before .before .args .used + 131072 - c .before .before .before .before .before .before .before .before .before .before .before .before .before .before .before .before .before .before .before .before .before .before .before .before .before .args .used) (c .before .before .before .before .before .before .before .before .before .before .before .before .before .before .before .before .before .before .before .before .before .before .before .before .before .pre) _ _ (omega arith) (c .before .before .before .before .before .before .before .before .before .before .before .before .before .reply .ensures) (c .before .before .before .before .before .before .before .before .before .before .before .before .before .reply .kept .1 .1 .1 .1 .1 .0) _ (c .before .n .given .1) in let m = c .before .before .before .before .before .before .before .before .before .before .before .before .before .before .before .before .before .before .before .before .before .before .before .before .before .pre .room in search needs
+add-result-2 c =
+    let b13 = c .before .before .before .before .before .before .before .before .before .before .before .before .before in let b25 = b13 .before .before .before .before .before .before .before .before .before .before .before .before in
+    let n = line-few _ _ _ _ _ _ (b25 .args .used) (b25 .args .used + 131072 - b25 .args .used) (b25 .pre) _ _ (omega arith) (b13 .reply .ensures) (b13 .reply .kept .1 .1 .1 .1 .1 .0) _ (c .before .n .given .1) in let m = b25 .pre .room in search needs
 
 same-length-6 : tie.Need-same-length-6
 same-length-6 c = search needs
@@ -73,7 +83,9 @@ same-length-10 : tie.Need-same-length-10
 same-length-10 c = search needs
 
 returns-2 : tie.Need-returns-2
-returns-2 c = line-yes _ _ _ _ _ _ (c .before .before .before .before .before .before .before .before .before .before .before .before .before .before .before .before .before .before .before .before .before .before .before .before .before .args .used) (c .before .before .before .before .before .before .before .before .before .before .before .before .before .before .before .before .before .before .before .before .before .before .before .before .before .args .used + 131072 - c .before .before .before .before .before .before .before .before .before .before .before .before .before .before .before .before .before .before .before .before .before .before .before .before .before .args .used) (c .before .before .before .before .before .before .before .before .before .before .before .before .before .before .before .before .before .before .before .before .before .before .before .before .before .pre) _ _ (omega arith) (c .before .before .before .before .before .before .before .before .before .before .before .before .before .reply .ensures) (c .before .before .before .before .before .before .before .before .before .before .before .before .before .reply .kept .1 .1 .1 .1 .1 .0) _ (c .before .n .given .1)
+returns-2 c =
+    let b13 = c .before .before .before .before .before .before .before .before .before .before .before .before .before in let b25 = b13 .before .before .before .before .before .before .before .before .before .before .before .before in
+    line-yes _ _ _ _ _ _ (b25 .args .used) (b25 .args .used + 131072 - b25 .args .used) (b25 .pre) _ _ (omega arith) (b13 .reply .ensures) (b13 .reply .kept .1 .1 .1 .1 .1 .0) _ (c .before .n .given .1)
 
 pub answer-spec : {M : Type 1} → statement M
 answer-spec =

@@ -38,7 +38,9 @@ same-length-5 : tie.Need-same-length-5
 same-length-5 c = search needs
 
 returns : tie.Need-returns
-returns c = did-answer (c .before .before .before .before .before .before .before .before .before .before .before .before .before .before .before .before .before .before .before .before .before .before .before .args .st) (c .before .before .before .before .before .before .before .before .before .before .before .before .before .before .before .before .before .before .before .before .before .before .before .args .input .now) (c .before .before .before .before .before .before .before .before .before .before .before .before .before .before .before .before .before .before .before .before .before .before .before .args .output .now) (c .before .before .before .before .before .before .before .before .before .before .before .before .before .before .before .before .before .before .before .before .before .before .before .args .n) (c .before .before .before .before .before .before .before .before .before .before .before .before .before .before .before .before .before .before .before .before .before .before .before .args .more) (c .before .before .before .before .before .before .before .before .before .before .before .before .before .before .before .before .before .before .before .before .before .before .before .args .skipping) (c .before .before .before .before .before .before .before .before .before .before .before .before .before .before .before .before .before .before .before .before .before .before .before .pre .ordered) _ _ (c .before .before .before .before .before .before .before .before .before .before .answer .ensures)
+returns c =
+    let b10 = c .before .before .before .before .before .before .before .before .before .before in let b23 = b10 .before .before .before .before .before .before .before .before .before .before .before .before .before in
+    did-answer (b23 .args .st) (b23 .args .input .now) (b23 .args .output .now) (b23 .args .n) (b23 .args .more) (b23 .args .skipping) (b23 .pre .ordered) _ _ (b10 .answer .ensures)
 
 pub answered-spec : {M : Type 1} → statement M
 answered-spec =

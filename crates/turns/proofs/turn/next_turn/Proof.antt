@@ -22,16 +22,22 @@ enum-known-next : tie.Need-enum-known-next
 enum-known-next c = search needs
 
 answered-requires : tie.Need-answered-requires
-answered-requires c κs = record { rows = c .before .before .before .before .before .before .before .before .before .before .before .before .before .before .before .before .pre .rows; inside = c .before .before .before .before .before .before .before .before .before .before .before .before .before .before .before .before .pre .inside; ordered = let l = line-inside _ _ _ _ (c .before .before .before .before .before .before .before .before .next-line .ensures) (c .before .before .before .before .before .before .next .given .1) in let p = pending-long (c .before .before .before .before .before .before .before .before .before .before .before .before .before .before .before .before .args .st) (c .before .before .before .before .before .before .before .before .before .before .before .before .before .before .before .before .args .input .now) (c .before .before .before .before .before .before .before .before .before .before .before .before .before .before .before .before .pre .inside) (c .before .before .before .before .before .before .before .before .before .before .before .before .before .before .before .before .pre .ordered) in let o = c .before .before .before .before .before .before .before .before .before .before .before .before .before .before .before .before .pre .ordered in omega arith }
+answered-requires c κs =
+    let b6 = c .before .before .before .before .before .before in let b16 = b6 .before .before .before .before .before .before .before .before .before .before in
+    record { rows = b16 .pre .rows; inside = b16 .pre .inside; ordered = let l = line-inside _ _ _ _ (b6 .before .before .next-line .ensures) (b6 .next .given .1) in let p = pending-long (b16 .args .st) (b16 .args .input .now) (b16 .pre .inside) (b16 .pre .ordered) in let o = b16 .pre .ordered in omega arith }
 
 enum-known-next-2 : tie.Need-enum-known-next-2
 enum-known-next-2 c = search needs
 
 add-dropped : tie.Need-add-dropped
-add-dropped c = let l = skipped-inside _ _ _ _ (c .before .before .before .next-line .ensures) (c .before .next2 .given .1) in let p = pending-long (c .before .before .before .before .before .before .before .before .before .before .before .args .st) (c .before .before .before .before .before .before .before .before .before .before .before .args .input .now) (c .before .before .before .before .before .before .before .before .before .before .before .pre .inside) (c .before .before .before .before .before .before .before .before .before .before .before .pre .ordered) in search needs
+add-dropped c =
+    let b3 = c .before .before .before in let b11 = b3 .before .before .before .before .before .before .before .before in
+    let l = skipped-inside _ _ _ _ (b3 .next-line .ensures) (c .before .next2 .given .1) in let p = pending-long (b11 .args .st) (b11 .args .input .now) (b11 .pre .inside) (b11 .pre .ordered) in search needs
 
 dropped-requires : tie.Need-dropped-requires
-dropped-requires c κs = let l = skipped-inside _ _ _ _ (c .before .before .before .next-line .ensures) (c .before .next2 .given .1) in let p = pending-long (c .before .before .before .before .before .before .before .before .before .before .before .args .st) (c .before .before .before .before .before .before .before .before .before .before .before .args .input .now) (c .before .before .before .before .before .before .before .before .before .before .before .pre .inside) (c .before .before .before .before .before .before .before .before .before .before .before .pre .ordered) in let o = c .before .before .before .before .before .before .before .before .before .before .before .pre .ordered in omega arith
+dropped-requires c κs =
+    let b3 = c .before .before .before in let b11 = b3 .before .before .before .before .before .before .before .before in
+    let l = skipped-inside _ _ _ _ (b3 .next-line .ensures) (c .before .next2 .given .1) in let p = pending-long (b11 .args .st) (b11 .args .input .now) (b11 .pre .inside) (b11 .pre .ordered) in let o = b11 .pre .ordered in omega arith
 
 enum-told : tie.Need-enum-told
 enum-told c = search needs
@@ -64,10 +70,14 @@ same-length-5 : tie.Need-same-length-5
 same-length-5 c = search needs
 
 returns : tie.Need-returns
-returns c = did-same _ _ _ _ _ _ (next-is (c .before .before .before .before .before .before .before .before .before .before .before .before .before .before .before .before .before .before .before .before .before .before .before .before .before .before .before .args .st) (c .before .before .before .before .before .before .before .before .before .before .before .before .before .before .before .before .before .before .before .before .before .before .before .before .before .before .before .args .input .now) _ _ (c .before .before .before .before .before .before .before .before .before .before .before .before .before .before .before .before .before .before .before .next-line .ensures) (c .before .before .before .before .before .before .before .before .before .before .before .before .before .before .before .before .before .next .given .1)) (c .before .before .before .before .before .before .before .before .before .before .answered .ensures)
+returns c =
+    let b10 = c .before .before .before .before .before .before .before .before .before .before in let b17 = b10 .before .before .before .before .before .before .before in let b27 = b17 .before .before .before .before .before .before .before .before .before .before in
+    did-same _ _ _ _ _ _ (next-is (b27 .args .st) (b27 .args .input .now) _ _ (b17 .before .before .next-line .ensures) (b17 .next .given .1)) (b10 .answered .ensures)
 
 returns-2 : tie.Need-returns-2
-returns-2 c = did-same _ _ _ _ _ _ (next-is (c .before .before .before .before .before .before .before .before .before .before .before .before .args .st) (c .before .before .before .before .before .before .before .before .before .before .before .before .args .input .now) _ _ (c .before .before .before .before .next-line .ensures) (c .before .before .next2 .given .1)) (did-pass (c .before .before .before .before .before .before .before .before .before .before .before .before .args .st) _ _ _ _ (c .dropped .ensures))
+returns-2 c =
+    let b4 = c .before .before .before .before in let b12 = b4 .before .before .before .before .before .before .before .before in
+    did-same _ _ _ _ _ _ (next-is (b12 .args .st) (b12 .args .input .now) _ _ (b4 .next-line .ensures) (c .before .before .next2 .given .1)) (did-pass (b12 .args .st) _ _ _ _ (c .dropped .ensures))
 
 same-length-6 : tie.Need-same-length-6
 same-length-6 c = search needs
@@ -85,7 +95,9 @@ same-length-10 : tie.Need-same-length-10
 same-length-10 c = search needs
 
 returns-3 : tie.Need-returns-3
-returns-3 c = did-same _ _ _ _ _ _ (all-taken (c .before .before .before .before .before .before .before .before .before .before .before .before .before .before .before .before .before .before .before .before .before .before .before .before .before .before .args .st) (c .before .before .before .before .before .before .before .before .before .before .before .before .before .before .before .before .before .before .before .before .before .before .before .before .before .before .args .input .now) (c .before .before .before .before .before .before .before .before .before .before .before .before .before .before .before .before .before .before .before .before .before .before .before .before .before .before .pre .inside) (c .before .before .before .before .before .before .before .before .before .before .before .before .before .before .before .before .before .before .before .before .before .before .before .before .before .before .pre .ordered) _ refl _ ∙ next-is (c .before .before .before .before .before .before .before .before .before .before .before .before .before .before .before .before .before .before .before .before .before .before .before .before .before .before .args .st) (c .before .before .before .before .before .before .before .before .before .before .before .before .before .before .before .before .before .before .before .before .before .before .before .before .before .before .args .input .now) _ _ (c .before .before .before .before .before .before .before .before .before .before .before .before .before .before .before .before .before .before .next-line .ensures) (c .before .before .before .before .before .before .before .before .before .before .before .before .before .before .before .before .enum-told .given .1)) (c .before .before .before .before .before .before .before .before .before .before .answered2 .ensures)
+returns-3 c =
+    let b10 = c .before .before .before .before .before .before .before .before .before .before in let b16 = b10 .before .before .before .before .before .before in let b26 = b16 .before .before .before .before .before .before .before .before .before .before in
+    did-same _ _ _ _ _ _ (all-taken (b26 .args .st) (b26 .args .input .now) (b26 .pre .inside) (b26 .pre .ordered) _ refl _ ∙ next-is (b26 .args .st) (b26 .args .input .now) _ _ (b16 .before .before .next-line .ensures) (b16 .enum-told .given .1)) (b10 .answered2 .ensures)
 
 same-length-11 : tie.Need-same-length-11
 same-length-11 c = search needs
@@ -103,7 +115,9 @@ same-length-15 : tie.Need-same-length-15
 same-length-15 c = search needs
 
 returns-4 : tie.Need-returns-4
-returns-4 c = did-same _ _ _ _ _ _ (next-is (c .before .before .before .before .before .before .before .before .before .before .before .before .before .before .before .before .before .before .before .before .before .before .before .before .before .before .args .st) (c .before .before .before .before .before .before .before .before .before .before .before .before .before .before .before .before .before .before .before .before .before .before .before .before .before .before .args .input .now) _ _ (c .before .before .before .before .before .before .before .before .before .before .before .before .before .before .before .before .before .before .next-line .ensures) (c .before .before .before .before .before .before .before .before .before .before .before .before .before .before .before .before .enum-told2 .given .1)) (c .before .before .before .before .before .before .before .before .before .before .unfinished .ensures)
+returns-4 c =
+    let b10 = c .before .before .before .before .before .before .before .before .before .before in let b16 = b10 .before .before .before .before .before .before in let b26 = b16 .before .before .before .before .before .before .before .before .before .before in
+    did-same _ _ _ _ _ _ (next-is (b26 .args .st) (b26 .args .input .now) _ _ (b16 .before .before .next-line .ensures) (b16 .enum-told2 .given .1)) (b10 .unfinished .ensures)
 
 pub next-turn-spec : {M : Type 1} → statement M
 next-turn-spec =

@@ -29,7 +29,9 @@ returns-3 : tie.Need-returns-3
 returns-3 c = took-full _ _ _ _ (sym (c .before .before .before .before .before .are-rows .ensures) ∙ not-false _ (c .before .before .before .before .if1 .left)) (sym (c .before .before .before .is-fit .ensures) ∙ not-false _ (c .before .before .if2 .left)) (c .before .if3 .taken) _ (c .wait .ensures)
 
 next-turn-requires : tie.Need-next-turn-requires
-next-turn-requires c κs = ready-by _ _ _ _ _ _ _ (sym (c .before .before .before .before .before .before .before .before .before .are-rows .ensures) ∙ not-false _ (c .before .before .before .before .before .before .before .before .if1 .left)) (sym (c .before .before .before .before .before .before .before .is-fit .ensures) ∙ not-false _ (c .before .before .before .before .before .before .if2 .left)) (c .before .before .before .before .before .if3 .left)
+next-turn-requires c κs =
+    let b5 = c .before .before .before .before .before in let b8 = b5 .before .before .before in
+    ready-by _ _ _ _ _ _ _ (sym (b8 .before .are-rows .ensures) ∙ not-false _ (b8 .if1 .left)) (sym (b5 .before .before .is-fit .ensures) ∙ not-false _ (b5 .before .if2 .left)) (b5 .if3 .left)
 
 same-length : tie.Need-same-length
 same-length c = search needs
@@ -47,7 +49,9 @@ same-length-5 : tie.Need-same-length-5
 same-length-5 c = search needs
 
 returns-4 : tie.Need-returns-4
-returns-4 c = took-piece _ _ _ _ (sym (c .before .before .before .before .before .before .before .before .before .before .before .before .before .before .before .before .before .before .before .before .are-rows .ensures) ∙ not-false _ (c .before .before .before .before .before .before .before .before .before .before .before .before .before .before .before .before .before .before .before .if1 .left)) (sym (c .before .before .before .before .before .before .before .before .before .before .before .before .before .before .before .before .before .before .is-fit .ensures) ∙ not-false _ (c .before .before .before .before .before .before .before .before .before .before .before .before .before .before .before .before .before .if2 .left)) (c .before .before .before .before .before .before .before .before .before .before .before .before .before .before .before .before .if3 .left) _ _ (c .before .before .before .before .before .before .before .before .before .before .next-turn .ensures)
+returns-4 c =
+    let b10 = c .before .before .before .before .before .before .before .before .before .before in let b16 = b10 .before .before .before .before .before .before in let b19 = b16 .before .before .before in
+    took-piece _ _ _ _ (sym (b19 .before .are-rows .ensures) ∙ not-false _ (b19 .if1 .left)) (sym (b16 .before .before .is-fit .ensures) ∙ not-false _ (b16 .before .if2 .left)) (b16 .if3 .left) _ _ (b10 .next-turn .ensures)
 
 pub take-turn-spec : {M : Type 1} → statement M
 take-turn-spec =

@@ -12,13 +12,17 @@ idle-requires : tie.Need-idle-requires
 idle-requires c κs = search needs
 
 returns : tie.Need-returns
-returns c = did-same _ _ _ _ _ _ (rest-none (c .before .before .before .before .before .before .before .before .before .args .st) (c .before .before .before .before .before .before .before .before .before .args .input .now) (c .before .before .before .before .before .before .before .before .before .pre .inside) (c .before .before .before .before .before .before .before .before .before .pre .ordered) _ refl (c .before .if1 .taken)) (did-none (c .before .before .before .before .before .before .before .before .before .args .st) _ _ (c .idle .ensures))
+returns c =
+    let b9 = c .before .before .before .before .before .before .before .before .before in
+    did-same _ _ _ _ _ _ (rest-none (b9 .args .st) (b9 .args .input .now) (b9 .pre .inside) (b9 .pre .ordered) _ refl (c .before .if1 .taken)) (did-none (b9 .args .st) _ _ (c .idle .ensures))
 
 dropped-requires : tie.Need-dropped-requires
 dropped-requires c κs = search needs
 
 returns-2 : tie.Need-returns-2
-returns-2 c = did-same _ _ _ _ _ _ (rest-skipped (c .before .before .before .before .before .before .before .before .before .before .args .st) (c .before .before .before .before .before .before .before .before .before .before .args .input .now) (c .before .before .before .before .before .before .before .before .before .before .pre .inside) (c .before .before .before .before .before .before .before .before .before .before .pre .ordered) _ refl (c .before .before .if1 .left) (c .before .if2 .taken)) (did-pass (c .before .before .before .before .before .before .before .before .before .before .args .st) _ _ _ _ (c .dropped .ensures))
+returns-2 c =
+    let b10 = c .before .before .before .before .before .before .before .before .before .before in
+    did-same _ _ _ _ _ _ (rest-skipped (b10 .args .st) (b10 .args .input .now) (b10 .pre .inside) (b10 .pre .ordered) _ refl (c .before .before .if1 .left) (c .before .if2 .taken)) (did-pass (b10 .args .st) _ _ _ _ (c .dropped .ensures))
 
 answered-requires : tie.Need-answered-requires
 answered-requires c κs = search needs
@@ -39,13 +43,17 @@ same-length-5 : tie.Need-same-length-5
 same-length-5 c = search needs
 
 returns-3 : tie.Need-returns-3
-returns-3 c = did-same _ _ _ _ _ _ (rest-last (c .before .before .before .before .before .before .before .before .before .before .before .before .before .before .before .before .before .before .before .before .before .before .before .before .before .before .args .st) (c .before .before .before .before .before .before .before .before .before .before .before .before .before .before .before .before .before .before .before .before .before .before .before .before .before .before .args .input .now) (c .before .before .before .before .before .before .before .before .before .before .before .before .before .before .before .before .before .before .before .before .before .before .before .before .before .before .pre .inside) (c .before .before .before .before .before .before .before .before .before .before .before .before .before .before .before .before .before .before .before .before .before .before .before .before .before .before .pre .ordered) _ refl (c .before .before .before .before .before .before .before .before .before .before .before .before .before .before .before .before .before .before .if1 .left) (c .before .before .before .before .before .before .before .before .before .before .before .before .before .before .before .before .before .if2 .left) (c .before .before .before .before .before .before .before .before .before .before .before .before .before .before .before .before .if3 .taken)) (c .before .before .before .before .before .before .before .before .before .before .answered .ensures)
+returns-3 c =
+    let b10 = c .before .before .before .before .before .before .before .before .before .before in let b16 = b10 .before .before .before .before .before .before in let b26 = b16 .before .before .before .before .before .before .before .before .before .before in
+    did-same _ _ _ _ _ _ (rest-last (b26 .args .st) (b26 .args .input .now) (b26 .pre .inside) (b26 .pre .ordered) _ refl (b16 .before .before .if1 .left) (b16 .before .if2 .left) (b16 .if3 .taken)) (b10 .answered .ensures)
 
 idle-requires-2 : tie.Need-idle-requires-2
 idle-requires-2 c κs = search needs
 
 returns-4 : tie.Need-returns-4
-returns-4 c = did-same _ _ _ _ _ _ (rest-unread (c .before .before .before .before .before .before .before .before .before .before .before .args .st) (c .before .before .before .before .before .before .before .before .before .before .before .args .input .now) (c .before .before .before .before .before .before .before .before .before .before .before .pre .inside) (c .before .before .before .before .before .before .before .before .before .before .before .pre .ordered) _ refl (c .before .before .before .if1 .left) (c .before .before .if2 .left) (c .before .if3 .left)) (did-none (c .before .before .before .before .before .before .before .before .before .before .before .args .st) _ _ (c .idle2 .ensures))
+returns-4 c =
+    let b3 = c .before .before .before in let b11 = b3 .before .before .before .before .before .before .before .before in
+    did-same _ _ _ _ _ _ (rest-unread (b11 .args .st) (b11 .args .input .now) (b11 .pre .inside) (b11 .pre .ordered) _ refl (b3 .if1 .left) (c .before .before .if2 .left) (c .before .if3 .left)) (did-none (b11 .args .st) _ _ (c .idle2 .ensures))
 
 pub unfinished-spec : {M : Type 1} → statement M
 unfinished-spec =
