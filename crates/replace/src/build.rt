@@ -1,5 +1,6 @@
 // The words that a plan makes of a form: counted, built, checked as a form, and answered.
 use crate::pieces::Plan;
+use crate::pieces::Rule;
 use crate::pieces::words_needed;
 use crate::pieces::write_pieces;
 use form::answer::Answer;
@@ -11,10 +12,10 @@ ghost use Prim.Native.Nat.{_+_, _≤_};
 ghost use lib.ListN.{length, drop};
 ghost use Rattle.form.specs.Answer.{told, written};
 ghost use Rattle.subst.specs.Internal.Items.{items, rewritten, store};
-ghost use Rattle.replace.specs.Internal.Pieces.{planned, sizes, Ready, emitted, replaced};
+ghost use Rattle.replace.specs.Internal.Pieces.{planned, sizes, planFor, Ready, emitted, replaced};
 
 // The words, stored at the start of the output row.
-pub fn copy(words: &[u32], out: &mut [u32])
+pub(crate) fn copy(words: &[u32], out: &mut [u32])
     requires { ⌜ length (now words) ≤ length (now out) ⌝ }
     ensures { λ _. ⌜ now (out .exit) ≡ store (now (out .entry)) 0 (now (words .entry)) ⌝ }
 {
@@ -44,7 +45,10 @@ fn emit(kind: Kind, words: &[u32], out: &mut [u32]) -> Answer
 fn replace_in(
     kind: Kind,
     head: &[u32],
-    plan: Plan,
+    rule: Rule,
+    words: &[u32],
+    starts: &[usize],
+    ends: &[usize],
     list: &[u32],
     list_marks: &[u32],
     row: &[u32],
@@ -54,14 +58,26 @@ fn replace_in(
     work: &mut [u32],
     out: &mut [u32],
 ) -> Answer
-    requires { ⌜ Ready plan (now list) (now «list_marks») ⌝ }
-    requires { ⌜ n ≡ length (now head) + sizes plan (items (drop from (now row)) (drop from (now marks))) ⌝ }
+    requires { ⌜ Ready (planFor rule (now words) (now starts) (now ends)) (now list) (now «list_marks») ⌝ }
+    requires { ⌜ n ≡ length (now head) + sizes (planFor rule (now words) (now starts) (now ends)) (items (drop from (now row)) (drop from (now marks))) ⌝ }
     requires { ⌜ n ≤ length (now work) ⌝ }
-    ensures { λ r. ⌜ r ≡ told (replaced kind (now (head .entry)) plan (now (list .entry)) (now («list_marks» .entry)) (drop from (now (row .entry))) (drop from (now (marks .entry))) (length (now (out .entry)))) ⌝ }
-    ensures { λ _. ⌜ now (out .exit) ≡ written (replaced kind (now (head .entry)) plan (now (list .entry)) (now («list_marks» .entry)) (drop from (now (row .entry))) (drop from (now (marks .entry))) (length (now (out .entry)))) (now (out .entry)) ⌝ }
+    ensures { λ r. ⌜ r ≡ told (replaced kind (now (head .entry)) (planFor rule (now (words .entry)) (now (starts .entry)) (now (ends .entry))) (now (list .entry)) (now («list_marks» .entry)) (drop from (now (row .entry))) (drop from (now (marks .entry))) (length (now (out .entry)))) ⌝ }
+    ensures { λ _. ⌜ now (out .exit) ≡ written (replaced kind (now (head .entry)) (planFor rule (now (words .entry)) (now (starts .entry)) (now (ends .entry))) (now (list .entry)) (now («list_marks» .entry)) (drop from (now (row .entry))) (drop from (now (marks .entry))) (length (now (out .entry)))) (now (out .entry)) ⌝ }
 {
     copy(head, work);
-    write_pieces(plan, list, list_marks, row, marks, from, work, head.len());
+    write_pieces(
+        rule,
+        words,
+        starts,
+        ends,
+        list,
+        list_marks,
+        row,
+        marks,
+        from,
+        work,
+        head.len(),
+    );
     emit(kind, &work[..n], out)
 }
 
@@ -81,7 +97,17 @@ pub(crate) fn replace(
     ensures { λ r. ⌜ r ≡ told (replaced kind (now (head .entry)) plan (now (list .entry)) (now («list_marks» .entry)) (drop from (now (row .entry))) (drop from (now (marks .entry))) (length (now (out .entry)))) ⌝ }
     ensures { λ _. ⌜ now (out .exit) ≡ written (replaced kind (now (head .entry)) plan (now (list .entry)) (now («list_marks» .entry)) (drop from (now (row .entry))) (drop from (now (marks .entry))) (length (now (out .entry)))) (now (out .entry)) ⌝ }
 {
-    let body = words_needed(plan, row, marks, from);
+    let table = plan.table;
+    let rule = Rule {
+        n: table.n,
+        fills: plan.fills,
+        gone: plan.gone,
+        down: plan.down,
+    };
+    let words = table.words;
+    let starts = table.starts;
+    let ends = table.ends;
+    let body = words_needed(rule, &words, &starts, &ends, row, marks, from);
     if Limit::WORDS < body {
         return Answer::No(7);
     }
@@ -94,7 +120,10 @@ pub(crate) fn replace(
         return replace_in(
             kind,
             head,
-            plan,
+            rule,
+            &words,
+            &starts,
+            &ends,
             list,
             list_marks,
             row,
@@ -110,7 +139,10 @@ pub(crate) fn replace(
         return replace_in(
             kind,
             head,
-            plan,
+            rule,
+            &words,
+            &starts,
+            &ends,
             list,
             list_marks,
             row,
@@ -125,7 +157,10 @@ pub(crate) fn replace(
     replace_in(
         kind,
         head,
-        plan,
+        rule,
+        &words,
+        &starts,
+        &ends,
         list,
         list_marks,
         row,

@@ -59,7 +59,7 @@ fn index_of(names: &[u32], m: u32) -> usize
     i
 }
 
-pub fn one_if(w: u32) -> u32
+pub(crate) fn one_if(w: u32) -> u32
     ensures { λ r. ⌜ r ≡ filledWords (w ∷ []) ⌝ }
 {
     if w == 0 {
@@ -150,20 +150,18 @@ fn piece_size(piece: Piece, it: Item) -> usize
 }
 
 // How many words stand for the items from `from` on; 8,193 for any number above 8,192.
-pub(crate) fn words_needed(plan: Plan, row: &[u32], marks: &[u32], from: usize) -> usize
-    requires { ⌜ Tabled plan ⌝ }
-    ensures { λ r. ⌜ r ≡ capped (sizes plan (items (drop from (now (row .entry))) (drop from (now (marks .entry))))) ⌝ }
+pub(crate) fn words_needed(
+    rule: Rule,
+    words: &[u32],
+    starts: &[usize],
+    ends: &[usize],
+    row: &[u32],
+    marks: &[u32],
+    from: usize,
+) -> usize
+    requires { ⌜ Tabled (planFor rule (now words) (now starts) (now ends)) ⌝ }
+    ensures { λ r. ⌜ r ≡ capped (sizes (planFor rule (now (words .entry)) (now (starts .entry)) (now (ends .entry))) (items (drop from (now (row .entry))) (drop from (now (marks .entry))))) ⌝ }
 {
-    let table = plan.table;
-    let rule = Rule {
-        n: table.n,
-        fills: plan.fills,
-        gone: plan.gone,
-        down: plan.down,
-    };
-    let words = table.words;
-    let starts = table.starts;
-    let ends = table.ends;
     let mut n = 0;
     let mut i = from;
     while i < row.len() {
@@ -176,7 +174,7 @@ pub(crate) fn words_needed(plan: Plan, row: &[u32], marks: &[u32], from: usize) 
             i += 1;
             continue;
         };
-        let size = piece_size(piece_of(rule, &words, &starts, &ends, it), it);
+        let size = piece_size(piece_of(rule, words, starts, ends, it), it);
         if 8192 - n < size {
             return 8193;
         }
@@ -221,7 +219,10 @@ fn write_piece(list: &[u32], list_marks: &[u32], piece: Piece, it: Item, out: &m
 
 // What stands for the items from `from` on, stored at `at`.
 pub(crate) fn write_pieces(
-    plan: Plan,
+    rule: Rule,
+    words: &[u32],
+    starts: &[usize],
+    ends: &[usize],
     list: &[u32],
     list_marks: &[u32],
     row: &[u32],
@@ -230,20 +231,10 @@ pub(crate) fn write_pieces(
     out: &mut [u32],
     at: usize,
 )
-    requires { ⌜ Ready plan (now list) (now «list_marks») ⌝ }
-    requires { ⌜ at + sizes plan (items (drop from (now row)) (drop from (now marks))) ≤ length (now out) ⌝ }
-    ensures { λ _. ⌜ now (out .exit) ≡ store (now (out .entry)) at (rewritten (planned plan (now (list .entry)) (now («list_marks» .entry))) (items (drop from (now (row .entry))) (drop from (now (marks .entry))))) ⌝ }
+    requires { ⌜ Ready (planFor rule (now words) (now starts) (now ends)) (now list) (now «list_marks») ⌝ }
+    requires { ⌜ at + sizes (planFor rule (now words) (now starts) (now ends)) (items (drop from (now row)) (drop from (now marks))) ≤ length (now out) ⌝ }
+    ensures { λ _. ⌜ now (out .exit) ≡ store (now (out .entry)) at (rewritten (planned (planFor rule (now (words .entry)) (now (starts .entry)) (now (ends .entry))) (now (list .entry)) (now («list_marks» .entry))) (items (drop from (now (row .entry))) (drop from (now (marks .entry))))) ⌝ }
 {
-    let table = plan.table;
-    let rule = Rule {
-        n: table.n,
-        fills: plan.fills,
-        gone: plan.gone,
-        down: plan.down,
-    };
-    let words = table.words;
-    let starts = table.starts;
-    let ends = table.ends;
     let mut i = from;
     let mut p = at;
     while i < row.len() {
@@ -254,7 +245,7 @@ pub(crate) fn write_pieces(
             i += 1;
             continue;
         };
-        let piece = piece_of(rule, &words, &starts, &ends, it);
+        let piece = piece_of(rule, words, starts, ends, it);
         write_piece(list, list_marks, piece, it, out, p);
         p += piece_size(piece, it);
         i += 2;

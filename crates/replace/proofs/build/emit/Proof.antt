@@ -4,7 +4,6 @@ use native.Mathlib.Omega.{arith}
 use borrow.Author.Needs.{needs}
 use Rattle.subst.proofs.CheckedLaws.{refused}
 use Rattle.replace.proofs.BuildLaws.{emit-no, emit-room, emit-done}
-use borrow.Author.Needs.{needs}
 use Rattle.replace.proofs.build.emit.Statement.{statement}
 use Rattle.replace.proofs.build.emit.Tie as tie
 use Rattle.replace.proofs.build.emit.Reads as reads

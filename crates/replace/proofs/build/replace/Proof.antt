@@ -1,7 +1,6 @@
 -- `replace::build::replace` meets its contract. Assumes nothing.
-use mathlib.Core.Path.{_≡_, refl, sym, ap, _∙_}
+use mathlib.Core.Path.{refl, ap}
 use native.Mathlib.Omega.{arith}
-use borrow.Author.Needs.{needs}
 use Prim.Native.Nat.{ℕ, _+_}
 use lib.ListN.{length}
 use Rattle.subst.proofs.CheckedLaws.{refused}
@@ -15,14 +14,23 @@ use Rattle.replace.proofs.build.replace.Lts as lts
 use Rattle.replace.proofs.build.replace_in.Reads as replace-in-reads
 use Rattle.replace.proofs.pieces.words_needed.Reads as words-needed-reads
 
+slice-aggregate-words-needed : tie.Need-slice-aggregate-words-needed
+slice-aggregate-words-needed c = search needs
+
+slice-aggregate-words-needed-2 : tie.Need-slice-aggregate-words-needed-2
+slice-aggregate-words-needed-2 c = search needs
+
+slice-aggregate-words-needed-3 : tie.Need-slice-aggregate-words-needed-3
+slice-aggregate-words-needed-3 c = search needs
+
 words-needed-requires : tie.Need-words-needed-requires
-words-needed-requires c κs = search needs
+words-needed-requires c κs = c .before .before .before .before .before .before .before .before .before .before .before .before .before .pre .tabled
 
 returns : tie.Need-returns
-returns c = refused _ _ _ _ (replaced-long _ _ _ _ _ _ _ (c .before .before .before .before .before .before .before .before .pre .in-row) _ (let h = capped-high _ _ (c .before .words-needed .ensures) (c .if1 .taken) in omega arith)) refl
+returns c = refused _ _ _ _ (replaced-long _ _ _ _ _ _ _ (c .before .before .before .before .before .before .before .before .before .before .before .before .before .before .before .pre .in-row) _ (let h = capped-high _ _ (c .before .words-needed .ensures) (c .if1 .taken) in omega arith)) refl
 
 returns-2 : tie.Need-returns-2
-returns-2 c = refused _ _ _ _ (replaced-long _ _ _ _ _ _ _ (c .before .before .before .before .before .before .before .before .before .pre .in-row) _ (let h = capped-low _ _ (c .before .before .words-needed .ensures) (c .before .if1 .left) in omega arith)) refl
+returns-2 c = refused _ _ _ _ (replaced-long _ _ _ _ _ _ _ (c .before .before .before .before .before .before .before .before .before .before .before .before .before .before .before .before .pre .in-row) _ (let h = capped-low _ _ (c .before .before .words-needed .ensures) (c .before .if1 .left) in omega arith)) refl
 
 add-n : tie.Need-add-n
 add-n c = search needs
@@ -30,8 +38,17 @@ add-n c = search needs
 slice-aggregate-replace-in : tie.Need-slice-aggregate-replace-in
 slice-aggregate-replace-in c = search needs
 
+slice-aggregate-replace-in-2 : tie.Need-slice-aggregate-replace-in-2
+slice-aggregate-replace-in-2 c = search needs
+
+slice-aggregate-replace-in-3 : tie.Need-slice-aggregate-replace-in-3
+slice-aggregate-replace-in-3 c = search needs
+
+slice-aggregate-replace-in-4 : tie.Need-slice-aggregate-replace-in-4
+slice-aggregate-replace-in-4 c = search needs
+
 replace-in-requires : tie.Need-replace-in-requires
-replace-in-requires c κs = (c .before .before .before .before .before .before .before .before .before .before .before .before .pre, (ap (λ (z : ℕ). length (c .before .before .before .before .before .before .before .before .before .before .before .before .args .head .now) + z) (capped-low _ _ (c .before .before .before .before .before .words-needed .ensures) (c .before .before .before .before .if1 .left)), omega arith))
+replace-in-requires c κs = (c .before .before .before .before .before .before .before .before .before .before .before .before .before .before .before .before .before .before .before .before .before .before .pre, (ap (λ (z : ℕ). length (c .before .before .before .before .before .before .before .before .before .before .before .before .before .before .before .before .before .before .before .before .before .before .args .head .now) + z) (capped-low _ _ (c .before .before .before .before .before .before .before .before .words-needed .ensures) (c .before .before .before .before .before .before .before .if1 .left)), omega arith))
 
 same-length : tie.Need-same-length
 same-length c = search needs
@@ -39,11 +56,20 @@ same-length c = search needs
 returns-3 : tie.Need-returns-3
 returns-3 c = search needs
 
-slice-aggregate-replace-in-2 : tie.Need-slice-aggregate-replace-in-2
-slice-aggregate-replace-in-2 c = search needs
+slice-aggregate-replace-in-5 : tie.Need-slice-aggregate-replace-in-5
+slice-aggregate-replace-in-5 c = search needs
+
+slice-aggregate-replace-in-6 : tie.Need-slice-aggregate-replace-in-6
+slice-aggregate-replace-in-6 c = search needs
+
+slice-aggregate-replace-in-7 : tie.Need-slice-aggregate-replace-in-7
+slice-aggregate-replace-in-7 c = search needs
+
+slice-aggregate-replace-in-8 : tie.Need-slice-aggregate-replace-in-8
+slice-aggregate-replace-in-8 c = search needs
 
 replace-in-requires-2 : tie.Need-replace-in-requires-2
-replace-in-requires-2 c κs = (c .before .before .before .before .before .before .before .before .before .before .before .before .before .pre, (ap (λ (z : ℕ). length (c .before .before .before .before .before .before .before .before .before .before .before .before .before .args .head .now) + z) (capped-low _ _ (c .before .before .before .before .before .before .words-needed .ensures) (c .before .before .before .before .before .if1 .left)), omega arith))
+replace-in-requires-2 c κs = (c .before .before .before .before .before .before .before .before .before .before .before .before .before .before .before .before .before .before .before .before .before .before .before .pre, (ap (λ (z : ℕ). length (c .before .before .before .before .before .before .before .before .before .before .before .before .before .before .before .before .before .before .before .before .before .before .before .args .head .now) + z) (capped-low _ _ (c .before .before .before .before .before .before .before .before .before .words-needed .ensures) (c .before .before .before .before .before .before .before .before .if1 .left)), omega arith))
 
 same-length-2 : tie.Need-same-length-2
 same-length-2 c = search needs
@@ -51,11 +77,20 @@ same-length-2 c = search needs
 returns-4 : tie.Need-returns-4
 returns-4 c = search needs
 
-slice-aggregate-replace-in-3 : tie.Need-slice-aggregate-replace-in-3
-slice-aggregate-replace-in-3 c = search needs
+slice-aggregate-replace-in-9 : tie.Need-slice-aggregate-replace-in-9
+slice-aggregate-replace-in-9 c = search needs
+
+slice-aggregate-replace-in-10 : tie.Need-slice-aggregate-replace-in-10
+slice-aggregate-replace-in-10 c = search needs
+
+slice-aggregate-replace-in-11 : tie.Need-slice-aggregate-replace-in-11
+slice-aggregate-replace-in-11 c = search needs
+
+slice-aggregate-replace-in-12 : tie.Need-slice-aggregate-replace-in-12
+slice-aggregate-replace-in-12 c = search needs
 
 replace-in-requires-3 : tie.Need-replace-in-requires-3
-replace-in-requires-3 c κs = (c .before .before .before .before .before .before .before .before .before .before .before .before .before .pre, (ap (λ (z : ℕ). length (c .before .before .before .before .before .before .before .before .before .before .before .before .before .args .head .now) + z) (capped-low _ _ (c .before .before .before .before .before .before .words-needed .ensures) (c .before .before .before .before .before .if1 .left)), omega arith))
+replace-in-requires-3 c κs = (c .before .before .before .before .before .before .before .before .before .before .before .before .before .before .before .before .before .before .before .before .before .before .before .pre, (ap (λ (z : ℕ). length (c .before .before .before .before .before .before .before .before .before .before .before .before .before .before .before .before .before .before .before .before .before .before .before .args .head .now) + z) (capped-low _ _ (c .before .before .before .before .before .before .before .before .before .words-needed .ensures) (c .before .before .before .before .before .before .before .before .if1 .left)), omega arith))
 
 same-length-3 : tie.Need-same-length-3
 same-length-3 c = search needs
@@ -67,19 +102,31 @@ pub replace-spec : {M : Type 1} → statement M
 replace-spec =
     tie.close
     (tie.spec
+    slice-aggregate-words-needed
+    slice-aggregate-words-needed-2
+    slice-aggregate-words-needed-3
     words-needed-requires
     returns
     returns-2
     add-n
     slice-aggregate-replace-in
+    slice-aggregate-replace-in-2
+    slice-aggregate-replace-in-3
+    slice-aggregate-replace-in-4
     replace-in-requires
     same-length
     returns-3
-    slice-aggregate-replace-in-2
+    slice-aggregate-replace-in-5
+    slice-aggregate-replace-in-6
+    slice-aggregate-replace-in-7
+    slice-aggregate-replace-in-8
     replace-in-requires-2
     same-length-2
     returns-4
-    slice-aggregate-replace-in-3
+    slice-aggregate-replace-in-9
+    slice-aggregate-replace-in-10
+    slice-aggregate-replace-in-11
+    slice-aggregate-replace-in-12
     replace-in-requires-3
     same-length-3
     returns-5)

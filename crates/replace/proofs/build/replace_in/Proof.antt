@@ -1,7 +1,5 @@
 -- `replace::build::replace_in` meets its contract. Assumes nothing.
-use mathlib.Core.Path.{_≡_, refl, sym, ap, _∙_}
-use native.Mathlib.Omega.{arith}
-use borrow.Author.Needs.{needs}
+use mathlib.Core.Path.{sym}
 use lib.Seq.{length-take-le}
 use Rattle.subst.proofs.CheckedLaws.{passed}
 use Rattle.replace.proofs.BuildLaws.{built-fits, built-row}
@@ -24,7 +22,7 @@ slice-reshare-prefix-emit : tie.Need-slice-reshare-prefix-emit
 slice-reshare-prefix-emit c = search needs
 
 slice-aggregate-emit : tie.Need-slice-aggregate-emit
-slice-aggregate-emit c = sym (length-take-le _ _ (built-fits (c .before .before .before .write-pieces .kept .1 .1 .1 .1 .1 .1 .0) (c .before .before .before .before .before .before .before .copy .kept .1 .0) (c .before .before .before .before .before .before .before .before .before .before .before .before .before .before .before .before .pre .1 .1)))
+slice-aggregate-emit c = sym (length-take-le _ _ (built-fits (c .before .before .before .write-pieces .kept .1 .1 .1 .1 .1 .1 .1 .1 .1 .0) (c .before .before .before .before .before .before .before .copy .kept .1 .0) (c .before .before .before .before .before .before .before .before .before .before .before .before .before .before .before .before .before .before .before .pre .1 .1)))
 
 emit-requires : tie.Need-emit-requires
 emit-requires c κs = search needs
@@ -36,7 +34,7 @@ same-length-2 : tie.Need-same-length-2
 same-length-2 c = search needs
 
 returns : tie.Need-returns
-returns c = passed _ _ _ _ _ (built-row _ _ _ _ _ _ _ (c .before .before .before .before .before .before .before .before .before .before .before .before .before .before .before .before .before .before .before .before .pre .0 .in-row) _ _ _ _ _ (c .before .before .before .before .before .before .before .before .before .before .before .copy .ensures) (c .before .before .before .before .before .before .before .write-pieces .ensures) (c .before .before .before .before .before .before .before .before .before .before .before .before .before .before .before .before .before .before .before .before .pre .1 .0) (c .before .before .before .before .before .before .before .before .before .before .before .before .before .before .before .before .before .before .before .before .pre .1 .1)) (c .before .before .emit .ensures)
+returns c = passed _ _ _ _ _ (built-row _ _ _ _ _ _ _ (c .before .before .before .before .before .before .before .before .before .before .before .before .before .before .before .before .before .before .before .before .before .before .before .pre .0 .in-row) _ _ _ _ _ (c .before .before .before .before .before .before .before .before .before .before .before .copy .ensures) (c .before .before .before .before .before .before .before .write-pieces .ensures) (c .before .before .before .before .before .before .before .before .before .before .before .before .before .before .before .before .before .before .before .before .before .before .before .pre .1 .0) (c .before .before .before .before .before .before .before .before .before .before .before .before .before .before .before .before .before .before .before .before .before .before .before .pre .1 .1)) (c .before .before .emit .ensures)
 
 pub replace-in-spec : {M : Type 1} → statement M
 replace-in-spec =

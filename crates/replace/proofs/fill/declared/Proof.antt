@@ -4,7 +4,6 @@ use native.Mathlib.Omega.{arith}
 use borrow.Author.Needs.{needs}
 use borrow.Author.Tests.{lt-ltb, le-ltb, eq-eqb, ne-eqb}
 use Rattle.replace.specs.Internal.Pieces.{declaredIn}
-use borrow.Author.Needs.{needs}
 use Rattle.replace.proofs.fill.declared.Statement.{statement}
 use Rattle.replace.proofs.fill.declared.Tie as tie
 use Rattle.replace.proofs.fill.declared.Reads as reads

@@ -8,7 +8,6 @@ use Rattle.subst.proofs.CheckedLaws.{passed}
 use Rattle.replace.specs.Internal.Pieces.{Ready, fillPlan}
 use Rattle.replace.proofs.BuildLaws.{rest-part}
 use Rattle.replace.proofs.FillLaws.{same-filled}
-use borrow.Author.Needs.{needs}
 use Rattle.replace.proofs.fill.fill_marked.Statement.{statement}
 use Rattle.replace.proofs.fill.fill_marked.Tie as tie
 use Rattle.replace.proofs.fill.fill_marked.Reads as reads

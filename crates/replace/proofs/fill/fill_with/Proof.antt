@@ -8,7 +8,6 @@ use lib.Seq.{length-take-le}
 use Rattle.subst.proofs.CheckedLaws.{passed}
 use Rattle.replace.proofs.BuildLaws.{built-fits}
 use Rattle.replace.proofs.FillLaws.{ready-gone, filled-same}
-use borrow.Author.Needs.{needs}
 use Rattle.replace.proofs.fill.fill_with.Statement.{statement}
 use Rattle.replace.proofs.fill.fill_with.Tie as tie
 use Rattle.replace.proofs.fill.fill_with.Reads as reads

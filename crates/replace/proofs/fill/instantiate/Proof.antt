@@ -9,7 +9,6 @@ use Rattle.form.specs.declared.answer.Kind.the-variants.{Predicate}
 use Rattle.form.proofs.TableLaws.{listing-no}
 use Rattle.subst.proofs.CheckedLaws.{refused, passed, is-missing, checked}
 use Rattle.replace.proofs.FillLaws.{fill-small, fill-long, fill-missing, fill-list-long, fill-no-list, fill-other, fill-count, the-quant, the-count, the-length, placing, places-ready, fill-row}
-use borrow.Author.Needs.{needs}
 use Rattle.replace.proofs.fill.instantiate.Statement.{statement}
 use Rattle.replace.proofs.fill.instantiate.Tie as tie
 use Rattle.replace.proofs.fill.instantiate.Reads as reads

@@ -4,7 +4,6 @@ use native.Mathlib.Omega.{arith}
 use borrow.Author.Needs.{needs}
 use Rattle.subst.specs.Internal.Items.{store}
 use Rattle.replace.proofs.NameLaws.{kept-yes, kept-no}
-use borrow.Author.Needs.{needs}
 use Rattle.replace.proofs.fill.put_kept.Statement.{statement}
 use Rattle.replace.proofs.fill.put_kept.Tie as tie
 use Rattle.replace.proofs.fill.put_kept.Reads as reads

@@ -5,7 +5,6 @@ use borrow.Author.Needs.{needs}
 use lib.ListN.{length, getD, drop, length-set}
 use Rattle.replace.specs.Internal.Pieces.{keptWords}
 use Rattle.replace.proofs.NameLaws.{head-none, head-some, kept-short}
-use borrow.Author.Needs.{needs}
 use Rattle.replace.proofs.fill.write_head.Statement.{statement}
 use Rattle.replace.proofs.fill.write_head.Tie as tie
 use Rattle.replace.proofs.fill.write_head.Reads as reads

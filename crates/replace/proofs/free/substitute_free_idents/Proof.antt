@@ -9,7 +9,6 @@ use Rattle.form.specs.declared.answer.Kind.the-variants.{Either}
 use Rattle.form.proofs.TableLaws.{listing-no}
 use Rattle.subst.proofs.CheckedLaws.{refused, passed, is-missing, checked}
 use Rattle.replace.proofs.FreeLaws.{free-small, free-long, free-missing, free-list-long, free-no-list, free-bad, pairing, pairs-ready, free-row}
-use borrow.Author.Needs.{needs}
 use Rattle.replace.proofs.free.substitute_free_idents.Statement.{statement}
 use Rattle.replace.proofs.free.substitute_free_idents.Tie as tie
 use Rattle.replace.proofs.free.substitute_free_idents.Reads as reads

@@ -7,7 +7,6 @@ use lib.ListN.{length, take, drop}
 use Rattle.subst.proofs.CheckedLaws.{passed}
 use Rattle.replace.specs.Internal.Pieces.{Ready, freePlan}
 use Rattle.replace.proofs.BuildLaws.{rest-part, same-replaced}
-use borrow.Author.Needs.{needs}
 use Rattle.replace.proofs.free.substitute_marked.Statement.{statement}
 use Rattle.replace.proofs.free.substitute_marked.Tie as tie
 use Rattle.replace.proofs.free.substitute_marked.Reads as reads

@@ -3,7 +3,6 @@ use mathlib.Core.Path.{_≡_, refl, sym, ap, _∙_}
 use native.Mathlib.Omega.{arith}
 use borrow.Author.Needs.{needs}
 use Rattle.replace.proofs.MarkLaws.{entries-front}
-use borrow.Author.Needs.{needs}
 use Rattle.replace.proofs.marks.mark_entries.Statement.{statement}
 use Rattle.replace.proofs.marks.mark_entries.Tie as tie
 use Rattle.replace.proofs.marks.mark_entries.Reads as reads

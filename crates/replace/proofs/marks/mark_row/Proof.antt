@@ -3,7 +3,6 @@ use mathlib.Core.Path.{_≡_, refl, sym, ap, _∙_}
 use native.Mathlib.Omega.{arith}
 use borrow.Author.Needs.{needs}
 use Rattle.replace.proofs.MarkLaws.{marked-front}
-use borrow.Author.Needs.{needs}
 use Rattle.replace.proofs.marks.mark_row.Statement.{statement}
 use Rattle.replace.proofs.marks.mark_row.Tie as tie
 use Rattle.replace.proofs.marks.mark_row.Reads as reads

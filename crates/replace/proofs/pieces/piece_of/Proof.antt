@@ -4,7 +4,6 @@ use borrow.Author.Needs.{needs}
 use borrow.Author.Tests.{eq-eqb, ne-eqb}
 use Rattle.replace.specs.Internal.Pieces.{pieceOf}
 use Rattle.replace.proofs.PieceLaws.{pick-yes, pick-no}
-use borrow.Author.Needs.{needs}
 use Rattle.replace.proofs.pieces.piece_of.Statement.{statement}
 use Rattle.replace.proofs.pieces.piece_of.Tie as tie
 use Rattle.replace.proofs.pieces.piece_of.Reads as reads

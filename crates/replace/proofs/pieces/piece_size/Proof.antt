@@ -3,7 +3,6 @@ use mathlib.Core.Path.{_≡_, refl, sym, ap, _∙_}
 use native.Mathlib.Omega.{arith}
 use borrow.Author.Needs.{needs}
 use Rattle.replace.specs.Internal.Pieces.{pieceSize}
-use borrow.Author.Needs.{needs}
 use Rattle.replace.proofs.pieces.piece_size.Statement.{statement}
 use Rattle.replace.proofs.pieces.piece_size.Tie as tie
 use Rattle.replace.proofs.pieces.piece_size.Reads as reads

@@ -18,10 +18,10 @@ use Rattle.replace.proofs.pieces.piece_size.Reads as piece-size-reads
 use Rattle.subst.proofs.items.item_at.Reads as item-at-reads
 
 abbrev Inv-loop : tie.InvT-loop
-Inv-loop row marks from rule words starts ends n₀ i₀ n i = (capped (sizes (planFor rule words starts ends) (items (drop «from» row) (drop «from» marks))) ≡ capped (n + sizes (planFor rule words starts ends) (items (drop i row) (drop i marks)))) × (n ≤ 8192)
+Inv-loop rule words starts ends row marks from n₀ i₀ n i = (capped (sizes (planFor rule words starts ends) (items (drop «from» row) (drop «from» marks))) ≡ capped (n + sizes (planFor rule words starts ends) (items (drop i row) (drop i marks)))) × (n ≤ 8192)
 
 abbrev μ-loop : tie.MeasureT-loop
-μ-loop row marks from rule words starts ends n₀ i₀ n i = length row - i
+μ-loop rule words starts ends row marks from n₀ i₀ n i = length row - i
 
 loop-holds : tie.Need-loop-holds Inv-loop μ-loop
 loop-holds c = (rw zero-add, omega arith)
@@ -36,31 +36,22 @@ enum-told : tie.Need-enum-told Inv-loop μ-loop
 enum-told c = search needs
 
 returns : tie.Need-returns Inv-loop μ-loop
-returns c = sym (c .before .before .before .before .before .loop .inv .0 ∙ needed-over (c .before .before .before .before .before .before .before .before .before .before .before .before .args .plan) _ (plain-same (c .before .enum-told .given .1) (c .before .before .before .before .before .before .before .before .before .before .before .before .args .plan)) (plain-size (c .before .enum-told .given .1)) (c .before .before .before .before .before .before .before .before .before .before .before .before .args .row .now) (c .before .before .before .before .before .before .before .before .before .before .before .before .args .marks .now) _ (c .before .before .before .before .loop-test .taken) (c .before .before .before .item-at .ensures) _ (c .before .before .before .before .before .loop .inv .1) (omega arith))
+returns c = sym (c .before .before .before .before .before .loop .inv .0 ∙ needed-over (planFor (c .before .before .before .before .before .before .before .before .before .before .before .args .rule) (c .before .before .before .before .before .before .before .before .before .before .before .args .words .now) (c .before .before .before .before .before .before .before .before .before .before .before .args .starts .now) (c .before .before .before .before .before .before .before .before .before .before .before .args .ends .now)) _ (plain-same (c .before .enum-told .given .1) (planFor (c .before .before .before .before .before .before .before .before .before .before .before .args .rule) (c .before .before .before .before .before .before .before .before .before .before .before .args .words .now) (c .before .before .before .before .before .before .before .before .before .before .before .args .starts .now) (c .before .before .before .before .before .before .before .before .before .before .before .args .ends .now))) (plain-size (c .before .enum-told .given .1)) (c .before .before .before .before .before .before .before .before .before .before .before .args .row .now) (c .before .before .before .before .before .before .before .before .before .before .before .args .marks .now) _ (c .before .before .before .before .loop-test .taken) (c .before .before .before .item-at .ensures) _ (c .before .before .before .before .before .loop .inv .1) (omega arith))
 
 add-n : tie.Need-add-n Inv-loop μ-loop
 add-n c = omega arith
 
 add-i : tie.Need-add-i Inv-loop μ-loop
-add-i c = let s = size-in _ (c .before .before .before .before .before .before .before .before .before .before .before .before .args .marks .now) _ (c .before .before .before .before .loop-test .taken) (c .before .before .before .item-at .ensures) in let e = plain-step (c .before .enum-told .given .1) in omega arith
+add-i c = let s = size-in _ (c .before .before .before .before .before .before .before .before .before .before .before .args .marks .now) _ (c .before .before .before .before .loop-test .taken) (c .before .before .before .item-at .ensures) in let e = plain-step (c .before .enum-told .given .1) in omega arith
 
 loop-less : tie.Need-loop-less Inv-loop μ-loop
-loop-less c = let s = size-in _ (c .before .before .before .before .before .before .before .before .before .before .before .before .args .marks .now) _ (c .before .before .before .before .loop-test .taken) (c .before .before .before .item-at .ensures) in let e = plain-step (c .before .enum-told .given .1) in omega arith
+loop-less c = let s = size-in _ (c .before .before .before .before .before .before .before .before .before .before .before .args .marks .now) _ (c .before .before .before .before .loop-test .taken) (c .before .before .before .item-at .ensures) in let e = plain-step (c .before .enum-told .given .1) in omega arith
 
 loop-again : tie.Need-loop-again Inv-loop μ-loop
-loop-again c = (c .before .before .before .before .before .loop .inv .0 ∙ (needed-next (c .before .before .before .before .before .before .before .before .before .before .before .before .args .plan) _ (plain-same (c .before .enum-told .given .1) (c .before .before .before .before .before .before .before .before .before .before .before .before .args .plan)) (plain-size (c .before .enum-told .given .1)) (c .before .before .before .before .before .before .before .before .before .before .before .before .args .row .now) (c .before .before .before .before .before .before .before .before .before .before .before .before .args .marks .now) _ (c .before .before .before .before .loop-test .taken) (c .before .before .before .item-at .ensures) _ ∙ rw (plain-step (c .before .enum-told .given .1))), omega arith)
-
-slice-aggregate-piece-of : tie.Need-slice-aggregate-piece-of Inv-loop μ-loop
-slice-aggregate-piece-of c = search needs
-
-slice-aggregate-piece-of-2 : tie.Need-slice-aggregate-piece-of-2 Inv-loop μ-loop
-slice-aggregate-piece-of-2 c = search needs
-
-slice-aggregate-piece-of-3 : tie.Need-slice-aggregate-piece-of-3 Inv-loop μ-loop
-slice-aggregate-piece-of-3 c = search needs
+loop-again c = (c .before .before .before .before .before .loop .inv .0 ∙ (needed-next (planFor (c .before .before .before .before .before .before .before .before .before .before .before .args .rule) (c .before .before .before .before .before .before .before .before .before .before .before .args .words .now) (c .before .before .before .before .before .before .before .before .before .before .before .args .starts .now) (c .before .before .before .before .before .before .before .before .before .before .before .args .ends .now)) _ (plain-same (c .before .enum-told .given .1) (planFor (c .before .before .before .before .before .before .before .before .before .before .before .args .rule) (c .before .before .before .before .before .before .before .before .before .before .before .args .words .now) (c .before .before .before .before .before .before .before .before .before .before .before .args .starts .now) (c .before .before .before .before .before .before .before .before .before .before .before .args .ends .now))) (plain-size (c .before .enum-told .given .1)) (c .before .before .before .before .before .before .before .before .before .before .before .args .row .now) (c .before .before .before .before .before .before .before .before .before .before .before .args .marks .now) _ (c .before .before .before .before .loop-test .taken) (c .before .before .before .item-at .ensures) _ ∙ rw (plain-step (c .before .enum-told .given .1))), omega arith)
 
 piece-of-requires : tie.Need-piece-of-requires Inv-loop μ-loop
-piece-of-requires c κs = c .before .before .before .before .before .before .before .before .before .before .before .before .before .before .before .pre
+piece-of-requires c κs = c .before .before .before .before .before .before .before .before .before .before .before .pre
 
 piece-size-requires : tie.Need-piece-size-requires Inv-loop μ-loop
 piece-size-requires c κs = search needs
@@ -69,22 +60,22 @@ sub-if2 : tie.Need-sub-if2 Inv-loop μ-loop
 sub-if2 c = omega arith
 
 returns-2 : tie.Need-returns-2 Inv-loop μ-loop
-returns-2 c = sym (c .before .before .before .before .before .before .before .before .before .before .before .loop .inv .0 ∙ needed-over (c .before .before .before .before .before .before .before .before .before .before .before .before .before .before .before .before .before .before .args .plan) _ (c .before .before .piece-of .ensures) (c .before .piece-size .ensures) (c .before .before .before .before .before .before .before .before .before .before .before .before .before .before .before .before .before .before .args .row .now) (c .before .before .before .before .before .before .before .before .before .before .before .before .before .before .before .before .before .before .args .marks .now) _ (c .before .before .before .before .before .before .before .before .before .before .loop-test .taken) (sym (c .before .before .before .before .before .before .before .it .given .1) ∙ c .before .before .before .before .before .before .before .before .before .item-at .ensures) _ (c .before .before .before .before .before .before .before .before .before .before .before .loop .inv .1) (c .if2 .taken))
+returns-2 c = sym (c .before .before .before .before .before .before .before .before .loop .inv .0 ∙ needed-over (planFor (c .before .before .before .before .before .before .before .before .before .before .before .before .before .before .args .rule) (c .before .before .before .before .before .before .before .before .before .before .before .before .before .before .args .words .now) (c .before .before .before .before .before .before .before .before .before .before .before .before .before .before .args .starts .now) (c .before .before .before .before .before .before .before .before .before .before .before .before .before .before .args .ends .now)) _ (c .before .before .piece-of .ensures) (c .before .piece-size .ensures) (c .before .before .before .before .before .before .before .before .before .before .before .before .before .before .args .row .now) (c .before .before .before .before .before .before .before .before .before .before .before .before .before .before .args .marks .now) _ (c .before .before .before .before .before .before .before .loop-test .taken) (sym (c .before .before .before .before .it .given .1) ∙ c .before .before .before .before .before .before .item-at .ensures) _ (c .before .before .before .before .before .before .before .before .loop .inv .1) (c .if2 .taken))
 
 add-n-2 : tie.Need-add-n-2 Inv-loop μ-loop
 add-n-2 c = omega arith
 
 add-i-2 : tie.Need-add-i-2 Inv-loop μ-loop
-add-i-2 c = let s = size-in _ (c .before .before .before .before .before .before .before .before .before .before .before .before .before .before .before .before .before .before .args .marks .now) _ (c .before .before .before .before .before .before .before .before .before .before .loop-test .taken) (c .before .before .before .before .before .before .before .before .before .item-at .ensures) in let e = ident-step (c .before .before .before .before .before .before .before .it .given .1) in omega arith
+add-i-2 c = let s = size-in _ (c .before .before .before .before .before .before .before .before .before .before .before .before .before .before .args .marks .now) _ (c .before .before .before .before .before .before .before .loop-test .taken) (c .before .before .before .before .before .before .item-at .ensures) in let e = ident-step (c .before .before .before .before .it .given .1) in omega arith
 
 loop-less-2 : tie.Need-loop-less-2 Inv-loop μ-loop
-loop-less-2 c = let s = size-in _ (c .before .before .before .before .before .before .before .before .before .before .before .before .before .before .before .before .before .before .args .marks .now) _ (c .before .before .before .before .before .before .before .before .before .before .loop-test .taken) (c .before .before .before .before .before .before .before .before .before .item-at .ensures) in let e = ident-step (c .before .before .before .before .before .before .before .it .given .1) in omega arith
+loop-less-2 c = let s = size-in _ (c .before .before .before .before .before .before .before .before .before .before .before .before .before .before .args .marks .now) _ (c .before .before .before .before .before .before .before .loop-test .taken) (c .before .before .before .before .before .before .item-at .ensures) in let e = ident-step (c .before .before .before .before .it .given .1) in omega arith
 
 loop-again-2 : tie.Need-loop-again-2 Inv-loop μ-loop
-loop-again-2 c = (c .before .before .before .before .before .before .before .before .before .before .before .loop .inv .0 ∙ (needed-next (c .before .before .before .before .before .before .before .before .before .before .before .before .before .before .before .before .before .before .args .plan) _ (c .before .before .piece-of .ensures) (c .before .piece-size .ensures) (c .before .before .before .before .before .before .before .before .before .before .before .before .before .before .before .before .before .before .args .row .now) (c .before .before .before .before .before .before .before .before .before .before .before .before .before .before .before .before .before .before .args .marks .now) _ (c .before .before .before .before .before .before .before .before .before .before .loop-test .taken) (sym (c .before .before .before .before .before .before .before .it .given .1) ∙ c .before .before .before .before .before .before .before .before .before .item-at .ensures) _ ∙ rw ident-size), omega arith)
+loop-again-2 c = (c .before .before .before .before .before .before .before .before .loop .inv .0 ∙ (needed-next (planFor (c .before .before .before .before .before .before .before .before .before .before .before .before .before .before .args .rule) (c .before .before .before .before .before .before .before .before .before .before .before .before .before .before .args .words .now) (c .before .before .before .before .before .before .before .before .before .before .before .before .before .before .args .starts .now) (c .before .before .before .before .before .before .before .before .before .before .before .before .before .before .args .ends .now)) _ (c .before .before .piece-of .ensures) (c .before .piece-size .ensures) (c .before .before .before .before .before .before .before .before .before .before .before .before .before .before .args .row .now) (c .before .before .before .before .before .before .before .before .before .before .before .before .before .before .args .marks .now) _ (c .before .before .before .before .before .before .before .loop-test .taken) (sym (c .before .before .before .before .it .given .1) ∙ c .before .before .before .before .before .before .item-at .ensures) _ ∙ rw ident-size), omega arith)
 
 returns-3 : tie.Need-returns-3 Inv-loop μ-loop
-returns-3 c = sym (c .before .loop .inv .0 ∙ needed-end _ (c .before .before .before .before .before .before .before .before .args .row .now) (c .before .before .before .before .before .before .before .before .args .marks .now) _ _ (c .loop-test .left) (c .before .loop .inv .1))
+returns-3 c = sym (c .before .loop .inv .0 ∙ needed-end _ (c .before .before .before .before .before .before .before .args .row .now) (c .before .before .before .before .before .before .before .args .marks .now) _ _ (c .loop-test .left) (c .before .loop .inv .1))
 
 pub words-needed-spec : {M : Type 1} → statement M
 words-needed-spec =
@@ -101,9 +92,6 @@ words-needed-spec =
     add-i
     loop-less
     loop-again
-    slice-aggregate-piece-of
-    slice-aggregate-piece-of-2
-    slice-aggregate-piece-of-3
     piece-of-requires
     piece-size-requires
     sub-if2

@@ -6,7 +6,6 @@ use lib.ListN.{length, length-set}
 use Rattle.subst.specs.Internal.Items.{store}
 use Rattle.replace.specs.Internal.Pieces.{part, pieceWords}
 use Rattle.replace.proofs.PieceLaws.{same-size, index-size, part-size, part-fits, part-length}
-use borrow.Author.Needs.{needs}
 use Rattle.replace.proofs.pieces.write_piece.Statement.{statement}
 use Rattle.replace.proofs.pieces.write_piece.Tie as tie
 use Rattle.replace.proofs.pieces.write_piece.Reads as reads

@@ -3,7 +3,6 @@ use mathlib.Core.Path.{_≡_, refl, sym, ap, _∙_}
 use borrow.Author.Needs.{needs}
 use Rattle.subst.proofs.CheckedLaws.{refused}
 use Rattle.replace.proofs.PruneLaws.{prune-long}
-use borrow.Author.Needs.{needs}
 use Rattle.replace.proofs.prune.remove_unused_decls.Statement.{statement}
 use Rattle.replace.proofs.prune.remove_unused_decls.Tie as tie
 use Rattle.replace.proofs.prune.remove_unused_decls.Reads as reads
