@@ -1,7 +1,7 @@
 -- The whole row: one form of the kind asked for, or a refusal. Assumes nothing.
 use mathlib.Core.Path.{_≡_, refl, ap, sym, _∙_}
-use mathlib.Core.Bool.{Bool, true, false, _&&_}
-use mathlib.Core.List.{List, [], _∷_, _++_}
+use mathlib.Core.Bool.{Bool, true, false}
+use mathlib.Core.List.{List, [], _∷_}
 use Prim.Native.Nat.{ℕ, zero, suc, _≤_, _<_}
 use native.Mathlib.Omega.{arith}
 use borrow.Author.Tests.{le-leb, lt-leb}
@@ -9,9 +9,9 @@ use lib.Dec.{leb}
 use lib.ListN.{length, getD, length-append}
 use Rattle.tree.specs.Form.{Form, pick, encode}
 use Rattle.tree.specs.Tag.{Sort, expr, pred, own, ownOf, shapeOf}
-use Rattle.form.specs.Decode.{read, Got, got, no-form, branch, decode, Whole, one, not-one, whole, rowForm, Found, found, missing, asSort, either, formOf}
+use Rattle.form.specs.Decode.{read, got, no-form, decode, Whole, one, not-one, whole, rowForm, Found, found, missing, asSort, either, formOf}
 use Rattle.form.specs.Answer.{Outcome, answer, refusal, told, ofFound, checkOutcome}
-use Rattle.form.specs.Internal.Reads.{mark, Told, Marked, known, asExpr}
+use Rattle.form.specs.Internal.Reads.{Told, Marked, known, asExpr}
 use Rattle.form.specs.declared.answer.Kind.{Kind}
 use Rattle.form.specs.declared.answer.Kind.the-variants.{Expression, Predicate, Either}
 use Rattle.form.specs.declared.answer.Answer.the-variants.{Done, No}
@@ -84,9 +84,6 @@ form-of Predicate row b e = rw e
 form-of Either row b e = sort-of row b (sym e)
 
 module _ (kind : Kind) (row a b : List ℕ) where
-  abbrev Checked : Outcome → Found → Type 0
-  Checked o f = (told o ≡ told (checkOutcome kind row)) × Marked f a b
-
   pub row-long : 8192 < length row → (No 1 ≡ told (checkOutcome kind row)) × Marked (formOf kind row) a b
   unfolding checkOutcome Marked formOf rowForm
   row-long h = rw (lt-leb (length row) 8192 h) (refl, long-marked kind)

@@ -1,12 +1,12 @@
 -- A row is read back as the form that it was written from, and what is read was written so. Assumes nothing.
-use mathlib.Core.Path.{_≡_, refl, ap, sym, _∙_}
+use mathlib.Core.Path.{_≡_, refl, ap}
 use mathlib.Core.Bool.{Bool, true, false}
 use mathlib.Core.List.{List, [], _∷_, _++_, append-assoc, append-nil}
 use Prim.Native.Nat.{ℕ, zero, suc, _+_}
 use native.Mathlib.Omega.{arith}
 use lib.ListN.{length, drop, length-append}
 use lib.Seq.{drop-drop, drop-append-seam}
-use Rattle.tree.specs.Form.{Leaf, free, bound, Form, leaf, node, Forms, none, more, pick, between, encode, encodeAll}
+use Rattle.tree.specs.Form.{free, bound, Form, leaf, node, Forms, none, more, pick, between, encode, encodeAll}
 use Rattle.tree.specs.Tag.{Sort, expr, pred, Own, ask, kids, wrong, own, ownOf, shapeOf, exprTags, predTags, sorts, word}
 use Rattle.form.specs.Decode.{Head, head, bad, addWord, addName, only, names, read, Got, got, no-form, Gots, gots, no-forms, first, leafAt, isLeaf, make, addForm, close, chain, decodeAll, branch, decode}
 
@@ -215,11 +215,6 @@ pub decode-at : (d : ℕ) (s : Sort) (ws : List ℕ) (at : ℕ) (f : Form) (r : 
 decode-at d s ws at f r e =
     let (w, k) = decode-sound d s (drop at ws) f r e in
     rw (← drop-drop (length (encode f)) at ws, w, drop-append-seam)
-
-pub decodeAll-at : (d : ℕ) (ss : List Sort) (ws : List ℕ) (at : ℕ) (fs : Forms) (r : List ℕ) → decodeAll (λ s w. decode d s w) ss (drop at ws) ≡ gots fs r → r ≡ drop (at + length (encodeAll fs)) ws
-decodeAll-at d ss ws at fs r e =
-    let (w, k) = all-sound d ss (drop at ws) fs r e in
-    rw (← drop-drop (length (encodeAll fs)) at ws, w, drop-append-seam)
 
 -- own words in a row from a position on: where the children begin
 pub read-at : (k : Own) (ws : List ℕ) (at : ℕ) (o ds : List ℕ) (p e : ℕ) (r : List ℕ) → read k (drop at ws) ≡ head o ds p e r → r ≡ drop (at + (length o + length ds)) ws

@@ -8,7 +8,7 @@ use native.Mathlib.Omega.{arith}
 use borrow.Author.Tests.{le-leb, lt-leb, leb-true}
 use lib.Dec.{leb}
 use lib.ListN.{length, getD, drop, set, replicate, length-append, length-drop}
-use Rattle.tree.specs.Form.{Leaf, Form, leaf, node, Forms, none, more, pick, encode, encodeAll}
+use Rattle.tree.specs.Form.{Leaf, Form, leaf, node, Forms, none, pick, encode, encodeAll}
 use Rattle.tree.specs.Tag.{Sort, expr, own, ownOf, shapeOf, exprTags, sorts}
 use Rattle.form.specs.Decode.{Head, head, bad, read, Got, got, no-form, Gots, gots, no-forms, first, leafAt, isLeaf, make, addForm, close, chain, decodeAll, branch, decode}
 use Rattle.form.specs.Internal.Reads.{headAt, mark, markAll, markTag, startsLeaf, Told, ToldAll, decodeIn}
@@ -31,6 +31,31 @@ other-tag zero h = absurd (omega arith)
 other-tag (suc zero) h = absurd (omega arith)
 other-tag (suc (suc zero)) h = absurd (omega arith)
 other-tag (suc (suc (suc t))) h = refl
+
+-- what is read at a position: nothing past the end, else the node that begins there
+pub no-word : (d : ℕ) (s : Sort) → decode d s [] ≡ no-form
+unfolding decode
+no-word zero s = refl
+no-word (suc d) s = refl
+
+pub node-here : (d : ℕ) (s : Sort) (row : List ℕ) (at : ℕ) → at < length row
+    → decode (suc d) s (drop at row) ≡ branch (λ s l. decode d s l) (getD row at 0) (read (own s (getD row at 0)) (drop (at + 1) row))
+unfolding decode
+node-here d s row at h = rw (here row at h) refl
+
+-- nothing is read of several forms where nothing is read of the first of them
+no-add : (f : Form) (g : Gots) → addForm f g ≡ no-forms → g ≡ no-forms
+no-add f (gots fs x) e = absurd (clash cc)
+no-add f no-forms e = refl
+
+no-chain : (z : Got) (k k′ : List ℕ → Gots) → ((x : List ℕ) → k x ≡ no-forms → k′ x ≡ no-forms) → chain z k ≡ no-forms → chain z k′ ≡ no-forms
+no-chain (got f x) k k′ h e = rw (h x (no-add f (k x) e))
+no-chain no-form k k′ h e = refl
+
+pub no-both : (d : ℕ) (ss ss′ : List Sort) (l : List ℕ) → decodeAll (λ s l. decode d s l) ss l ≡ no-forms → decodeAll (λ s l. decode d s l) (ss ++ ss′) l ≡ no-forms
+unfolding decodeAll
+no-both d [] ss′ l e = absurd (clash cc)
+no-both d (s ∷ ss) ss′ l e = no-chain (decode d s l) (λ x. decodeAll (λ s l. decode d s l) ss x) (λ x. decodeAll (λ s l. decode d s l) (ss ++ ss′) x) (λ x k. no-both d ss ss′ x k) e
 
 -- an answer taken apart
 pub told-end : (p u : ℕ) (g : Got) (a b : List ℕ) (r : Step) (q : ℕ) → Told p u g a b r → r ≡ End q → (f : Form) × (x : List ℕ) × (g ≡ got f x) × (q ≡ p + length (encode f)) × (b ≡ mark f p u a)
@@ -130,21 +155,8 @@ module _ (d : ℕ) (row : List ℕ) (u : ℕ) where
   both-go [] ss′ p q a a′ b r r′ t e h = let (x, y) = none-told p q (drop p row) a a′ r t e in both-none ss′ p q a a′ b r′ x y h
   both-go (s ∷ ss) ss′ p q a a′ b r r′ t e h = both-step ss ss′ s p q a a′ b r r′ (decode d s (drop p row)) refl (λ p′ a₀ t′. both-go ss ss′ p′ q a₀ a′ b r r′ t′ e h) t e
 
-  no-add : (f : Form) (g : Gots) → addForm f g ≡ no-forms → g ≡ no-forms
-  no-add f (gots fs x) e = absurd (clash cc)
-  no-add f no-forms e = refl
-
-  no-chain : (z : Got) (k k′ : List ℕ → Gots) → ((x : List ℕ) → k x ≡ no-forms → k′ x ≡ no-forms) → chain z k ≡ no-forms → chain z k′ ≡ no-forms
-  no-chain (got f x) k k′ h e = rw (h x (no-add f (k x) e))
-  no-chain no-form k k′ h e = refl
-
-  no-both : (ss ss′ : List Sort) (l : List ℕ) → decodeAll (λ s l. decode d s l) ss l ≡ no-forms → decodeAll (λ s l. decode d s l) (ss ++ ss′) l ≡ no-forms
-  unfolding decodeAll
-  no-both [] ss′ l e = absurd (clash cc)
-  no-both (s ∷ ss) ss′ l e = no-chain (decode d s l) (λ x. decodeAll (λ s l. decode d s l) ss x) (λ x. decodeAll (λ s l. decode d s l) (ss ++ ss′) x) (λ x k. no-both ss ss′ x k) e
-
   pub both-stop : (ss ss′ : List Sort) (p : ℕ) (a a′ b : List ℕ) (r : Step) → All ss p a a′ r → r ≡ Bad → All (ss ++ ss′) p a b Bad
-  both-stop ss ss′ p a a′ b r t e = bad-toldAll p u _ a b (no-both ss ss′ (drop p row) (toldAll-bad p u (decodeAll (λ s l. decode d s l) ss (drop p row)) a a′ r t e))
+  both-stop ss ss′ p a a′ b r t e = bad-toldAll p u _ a b (no-both d ss ss′ (drop p row) (toldAll-bad p u (decodeAll (λ s l. decode d s l) ss (drop p row)) a a′ r t e))
 
 -- a form, from its own words and its children
 made-mark : (t : ℕ) (o ds : List ℕ) (ks : Forms) (at u p : ℕ) (m m₂ : List ℕ) (b : Bool) (x : Leaf) → p ≡ at + 1 + (length o + length ds) → (b ≡ true → ks ≡ none)
@@ -161,13 +173,8 @@ module _ (s : Sort) (row : List ℕ) (at u : ℕ) where
   unfolding decode
   too-deep d a b e = bad-told at u _ a b (rw e refl)
 
-  no-word : (d : ℕ) → decode d s [] ≡ no-form
-  unfolding decode
-  no-word zero = refl
-  no-word (suc d) = refl
-
   pub past-end : (d : ℕ) (a b : List ℕ) → length row ≤ at → Told at u (decode d s (drop at row)) a b Bad
-  past-end d a b h = bad-told at u _ a b (rw (gone row at h) (no-word d))
+  past-end d a b h = bad-told at u _ a b (rw (gone row at h) (no-word d s))
 
   module _ (d : ℕ) (t : ℕ) where
     close-told : (o ds : List ℕ) (x y p : ℕ) (m m₁ m₂ : List ℕ) (r : Step) (g : Gots) → decodeAll (λ s l. decode d s l) (sorts x y) (drop p row) ≡ g
@@ -200,19 +207,15 @@ module _ (s : Sort) (row : List ℕ) (at u : ℕ) where
     branch-bad (head o ds x y l) m m₂ e = absurd (clash cc)
     branch-bad bad m m₂ e = bad-told at u no-form m m₂ refl
 
-  node-here : (d : ℕ) → at < length row → decode (suc d) s (drop at row) ≡ branch (λ s l. decode d s l) (getD row at 0) (read (own s (getD row at 0)) (drop (at + 1) row))
-  unfolding decode
-  node-here d h = rw (here row at h) refl
-
   module _ {h : code.Head} (low : at < length row) (hd : h ≡ headAt (at + 1) (read (own s (getD row at 0)) (drop (at + 1) row))) where
     pub no-own : (d : ℕ) (a b : List ℕ) → (d ≡ 0 → ⊥) → h ≡ None → Told at u (decode d s (drop at row)) a b Bad
     no-own zero a b ne e = absurd (ne refl)
-    no-own (suc d) a b ne e = rw (node-here d low) (branch-bad d (getD row at 0) _ a b (sym hd ∙ e))
+    no-own (suc d) a b ne e = rw (node-here d s row at low) (branch-bad d (getD row at 0) _ a b (sym hd ∙ e))
 
     pub a-form : (d p x y w : ℕ) (m m₁ m₂ : List ℕ) (r : Step) → (d ≡ 0 → ⊥) → h ≡ Kids p x y w → m₁ ≡ markTag (getD row at 0) at u m
         → ToldAll p (u + w) (decodeAll (λ s l. decode (d - 1) s l) (sorts x y) (drop p row)) m₁ m₂ r → Told at u (decode d s (drop at row)) m m₂ r
     a-form zero p x y w m m₁ m₂ r ne e k t = absurd (ne refl)
-    a-form (suc d) p x y w m m₁ m₂ r ne e k t = rw (node-here d low) (branch-told d (getD row at 0) _ x y w p m m₁ m₂ r refl (sym hd ∙ e) k (rw sub-one at t))
+    a-form (suc d) p x y w m m₁ m₂ r ne e k t = rw (node-here d s row at low) (branch-told d (getD row at 0) _ x y w p m m₁ m₂ r refl (sym hd ∙ e) k (rw sub-one at t))
 
     pub kids-after : (p x y w : ℕ) → h ≡ Kids p x y w → at < p
     kids-after p x y w e = go (read (own s (getD row at 0)) (drop (at + 1) row)) (sym hd ∙ e)

@@ -1,17 +1,16 @@
 -- A row is at most one form, and it is the row of that form. Assumes nothing.
-use mathlib.Core.Path.{_≡_, refl, sym, _∙_}
+use mathlib.Core.Path.{_≡_, refl, _∙_}
 use mathlib.Core.Bool.{Bool, true, false}
-use mathlib.Core.List.{List, [], _∷_, _++_, append-nil}
+use mathlib.Core.List.{List, [], _∷_, append-nil}
 use Prim.Native.Nat.{ℕ, _≤_}
 use borrow.Author.Tests.{le-leb, leb-true}
 use lib.Dec.{leb}
 use lib.ListN.{length}
 use Rattle.tree.specs.Form.{Form, pick, encode}
-use Rattle.tree.specs.Tag.{Sort, expr, pred, shapeOf}
-use Rattle.form.specs.Decode.{Got, got, no-form, decode, Whole, one, not-one, whole, rowForm, Found, found, missing, asSort, either, formOf}
+use Rattle.tree.specs.Tag.{Sort, expr, pred}
+use Rattle.form.specs.Decode.{Got, got, no-form, decode, Whole, one, not-one, whole, rowForm, found, asSort, either, formOf}
 use Rattle.form.specs.declared.answer.Kind.{Kind}
 use Rattle.form.specs.declared.answer.Kind.the-variants.{Expression, Predicate, Either}
-use Rattle.tree.specs.declared.tag.Shape.the-variants.{Unknown}
 use Rattle.form.proofs.DecodeLaws.{clash, Ok, decode-encode, decode-sound}
 use Rattle.form.proofs.CheckLaws.{unknown-no, no-whole}
 use Rattle.tree.proofs.Ranges.{one-table}

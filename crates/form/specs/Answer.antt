@@ -1,6 +1,6 @@
 -- What a call answers: number, length and output row, in document 01's order of refusals; and the answers of the checks.
 use mathlib.Core.Bool.{Bool, true, false, _&&_}
-use mathlib.Core.List.{List, [], _∷_, _++_, map}
+use mathlib.Core.List.{List, [], _++_, map}
 use mathlib.Core.Option.{Option, none as absent, some}
 use Prim.Native.Nat.{ℕ}
 use lib.Dec.{leb, eqb}

@@ -1,11 +1,11 @@
 -- The rows that are lists: names; name and expression in turn; for each declaration 0 (kept), or 1 and an expression.
-use mathlib.Core.Bool.{Bool, true, false, not, _&&_}
+use mathlib.Core.Bool.{Bool, true, not, _&&_}
 use mathlib.Core.List.{List, [], _∷_, _++_}
 use mathlib.Core.Option.{Option, none as absent, some}
 use Prim.Native.Nat.{ℕ, zero, suc}
-use lib.Dec.{leb, eqb}
+use lib.Dec.{leb}
 use lib.ListN.{length}
-use Rattle.tree.specs.Form.{Form, pick, member, encode}
+use Rattle.tree.specs.Form.{Form, member, encode}
 use Rattle.tree.specs.Tag.{expr}
 use Rattle.form.specs.Decode.{Got, got, no-form, decode}
 use Rattle.form.specs.declared.lists.ListKind.{ListKind}

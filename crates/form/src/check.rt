@@ -8,7 +8,6 @@ use crate::reader::mark_pred;
 use tree::tag::Shape;
 use tree::tag::expr_shape;
 ghost use mathlib.Core.Path.{_≡_};
-ghost use lib.ListN.{length};
 ghost use Rattle.tree.specs.Form.{pick};
 ghost use Rattle.tree.specs.Tag.{expr, pred};
 ghost use Rattle.form.specs.Decode.{decode, formOf};

@@ -40,6 +40,16 @@ pub record Child (row : List ℕ) (at : ℕ) (f : Form) (pos : ℕ) (out : List 
 pub child-of : {row : List ℕ} {at : ℕ} {f : Form} {pos : ℕ} {out : List ℕ} {z : Scan} {r : Scanned} {out′ : List ℕ} → Became row at f pos out z r out′ → Child row at f pos out z r out′
 child-of {z = scanned x g} b = record { took = x; left = g; is = refl; became = b }
 
+-- what is left of a child that is not gone has a word, and ends in the row
+pub child-room : {row : List ℕ} {at : ℕ} {f : Form} {z : Scan} {out out′ : List ℕ} {r : Scanned} (pos : ℕ) → pos + 1 ≤ length out → Became row at f (pos + 1) out z r out′ → r .gone ≡ false
+    → (pos + 2 ≤ r .end) × (r .end ≤ length out′)
+unfolding Left
+child-room {z = scanned x absent} pos low b q = let z = b .left .1 in absurd (clash cc)
+child-room {z = scanned x (some g)} {out} {out′} {r} pos low b q =
+    let j = wrote-end (pos + 1) (r .end) out (encode g) out′ (b .left .2) in
+    let w = some-words g in
+    (omega arith, wrote-in (pos + 1) (r .end) out (encode g) out′ low (b .left .2))
+
 module _ (row : List ℕ) (at n pos : ℕ) (b : Bool) (f g : Form) (is : f ≡ notOf g) (words : length (encode f) ≡ suc (length (encode g))) (out out₁ : List ℕ) (low : pos + 1 ≤ length out) (s : Scanned) where
   module _ (x : Taken) where
     gone-left : (h : Option Form) → scan n (not b) g ≡ scanned x h → s .gone ≡ true → Became row (at + 1) g (pos + 1) out (scanned x h) s out₁
@@ -70,14 +80,6 @@ module _ (row : List ℕ) (at n pos : ℕ) (b : Bool) (f g : Form) (is : f ≡ n
         let k = negate-words m in
         record { next = omega arith; left = (c .left .0, refl, v, neat-negate m); short = omega arith }
 
-    end-in : (h : Option Form) → s .gone ≡ false → Became row (at + 1) g (pos + 1) out (scanned x h) s out₁ → (pos + 2 ≤ s .end) × (s .end ≤ length out₁)
-    unfolding Left
-    end-in absent q c = let z = c .left .1 in absurd (clash cc)
-    end-in (some h) q c =
-        let j = wrote-end (pos + 1) (s .end) out (encode h) out₁ (c .left .2) in
-        let w = some-words h in
-        (omega arith, wrote-in (pos + 1) (s .end) out (encode h) out₁ low (c .left .2))
-
   module _ (c : Became row (at + 1) g (pos + 1) out (scan n (not b) g) s out₁) where
     -- the child is gone, and the not with it
     pub not-gone : s .gone ≡ true → Became row at f pos out (scan n b f) (record { next = s .next; found = s .found; gone = true; end = pos }) out₁
@@ -91,6 +93,3 @@ module _ (row : List ℕ) (at n pos : ℕ) (b : Bool) (f g : Form) (is : f ≡ n
     not-became q e out₂ t =
         let y = child-of c in
         rw (ap (scan n b) is ∙ scan-not n b g (y .took) (y .left) (y .is)) (not-left (y .took) (y .left) (y .is) q (y .became) e out₂ t)
-
-    pub not-room : s .gone ≡ false → (pos + 2 ≤ s .end) × (s .end ≤ length out₁)
-    not-room q = let y = child-of c in end-in (y .took) (y .left) q (y .became)

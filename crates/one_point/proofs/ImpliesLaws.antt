@@ -14,11 +14,10 @@ use Rattle.one_point.specs.Scan.{scanned, negate, implies, scan}
 use Rattle.one_point.specs.Internal.Writes.{Wrote, leftWords, Neat, neat-other}
 use Rattle.one_point.specs.Internal.Scans.{Left, Became, nextScan}
 use Rattle.one_point.specs.declared.scan.Scanned.{Scanned}
-use Rattle.one_point.proofs.PartsLaws.{some-words}
 use Rattle.one_point.proofs.WriteLaws.{wrote-end, wrote-on, wrote-word}
-use Rattle.one_point.proofs.EqualityLaws.{wrote-in, kept, wrote-self, based}
+use Rattle.one_point.proofs.EqualityLaws.{kept, wrote-self, based}
 use Rattle.one_point.proofs.RebuildLaws.{impliesOf, scan-left, scan-both}
-use Rattle.one_point.proofs.BecameLaws.{neat-negate, negate-words, child-of}
+use Rattle.one_point.proofs.BecameLaws.{neat-negate, negate-words, child-of, child-room}
 
 pub scan-implies : (n : ℕ) (l r : Form) (x y : Taken) (g h : Option Form) → scan n true l ≡ scanned x g → nextScan x (scan n false r) r ≡ scanned y h → scan n false (impliesOf l r) ≡ scanned y (implies g h)
 unfolding nextScan
@@ -57,14 +56,6 @@ module _ (row : List ℕ) (at pos : ℕ) (f l r : Form) (words : length (encode 
         record { next = omega arith; left = (b .left .0, b .left .1, based pos (t .end) out out₁ (leftWords h) out₂ k (b .left .2), b .left .3); short = omega arith }
 
     module _ (q : s .gone ≡ false) where
-      left-in : (g : Option Form) → Became row (at + 1) l (pos + 1) (set out pos 251) (scanned x g) s out₁ → (pos + 2 ≤ s .end) × (s .end ≤ length out₁)
-      unfolding Left
-      left-in absent a = let z = a .left .1 in absurd (clash cc)
-      left-in (some g) a =
-          let j = wrote-end (pos + 1) (s .end) (set out pos 251) (encode g) out₁ (a .left .2) in
-          let w = some-words g in
-          (omega arith, wrote-in (pos + 1) (s .end) (set out pos 251) (encode g) out₁ low-set (a .left .2))
-
       both : (g h : Option Form) → t .gone ≡ false → Became row (at + 1) l (pos + 1) (set out pos 251) (scanned x g) s out₁
           → Became row (at + 1 + length (encode l)) r (s .end) out₁ (scanned y h) t out₂ → Now y (implies g h) t out₂
       unfolding Left encode
@@ -88,7 +79,7 @@ module _ (row : List ℕ) (at pos : ℕ) (f l r : Form) (words : length (encode 
       left-only (some g) absent p a b e out₃ fin =
           let c = b .next in
           let d = a .short in
-          let (i, j) = left-in (some g) a in
+          let (i, j) = child-room pos low-set a q in
           let w = a .left .2 in
           let k₁ = kept (s .end) (t .end) out₁ [] out₂ j (b .left .2) in
           let v : Wrote (pos + 1) (set out pos 251) (encode g) (s .end) out₂ = same-words (pos + 1) (s .end) (set out pos 251) (encode g) out₁ out₂ w (k₁ (s .end) (omega arith)) in
@@ -101,9 +92,6 @@ module _ (row : List ℕ) (at pos : ℕ) (f l r : Form) (words : length (encode 
 
 module _ (row : List ℕ) (at n pos : ℕ) (f l r : Form) (is : f ≡ impliesOf l r) (words : length (encode f) ≡ suc (length (encode l) + length (encode r))) (out out₁ out₂ : List ℕ) (low : pos + 1 ≤ length out) (s t : Scanned)
     (a : Became row (at + 1) l (pos + 1) (set out pos 251) (scan n true l) s out₁) where
-  pub left-room : s .gone ≡ false → (pos + 2 ≤ s .end) × (s .end ≤ length out₁)
-  left-room q = let c = child-of a in left-in row at pos f l r words out out₁ out₂ low s t (c .took) (c .took) q (c .left) (c .became)
-
   module _ (start : ℕ) (b : (x : Taken) (g : Option Form) → scan n true l ≡ scanned x g → Became row (at + 1 + length (encode l)) r start out₁ (nextScan x (scan n false r) r) t out₂) where
     pub right-alone : s .gone ≡ true → start ≡ pos → Became row at f pos out (scan n false f) t out₂
     right-alone q h =

@@ -1,7 +1,7 @@
 -- The words that a plan makes, checked and answered. Assumes nothing.
-use mathlib.Core.Path.{_≡_, refl, ap, sym, _∙_}
+use mathlib.Core.Path.{_≡_, refl, sym, _∙_}
 use mathlib.Core.Bool.{Bool, true, false}
-use mathlib.Core.List.{List, [], _∷_, _++_}
+use mathlib.Core.List.{List, _++_}
 use Prim.Native.Nat.{ℕ, _+_, _-_, _≤_, _<_}
 use native.Mathlib.Nat.{zero-add, le-refl}
 use native.Mathlib.Omega.{arith}
@@ -12,7 +12,7 @@ use lib.Seq.{take-at, take-all}
 use Rattle.tree.specs.Form.{Form, encode, pick}
 use Rattle.tree.specs.Tag.{Sort, expr, pred}
 use Rattle.form.specs.Decode.{Whole, one, not-one, rowForm, Found, found, missing, asSort, formOf}
-use Rattle.form.specs.Answer.{Outcome, answer, refusal, told, written, isOne, finish, checkOutcome}
+use Rattle.form.specs.Answer.{answer, refusal, told, written, isOne, finish, checkOutcome}
 use Rattle.form.specs.declared.answer.Kind.{Kind}
 use Rattle.form.specs.declared.answer.Kind.the-variants.{Expression, Predicate}
 use Rattle.form.specs.declared.answer.Answer.{Answer}
@@ -21,9 +21,9 @@ use Rattle.form.proofs.DecodeLaws.{clash}
 use Rattle.subst.specs.Internal.Items.{items, rewritten, store}
 use Rattle.subst.proofs.CheckedLaws.{found-row}
 use Rattle.subst.proofs.ItemLaws.{stored, store-append}
-use Rattle.replace.specs.Internal.Pieces.{planned, sizes, capped, InRow, isFound, emitted, replaced}
+use Rattle.replace.specs.Internal.Pieces.{planned, sizes, InRow, isFound, emitted, replaced}
 use Rattle.replace.specs.declared.pieces.Plan.{Plan}
-use Rattle.replace.proofs.PieceLaws.{planned-length, capped-high, capped-low}
+use Rattle.replace.proofs.PieceLaws.{planned-length}
 
 module _ (kind : Kind) (ws : List ℕ) where
   told-no : (o : Found) → formOf kind ws ≡ o → o ≡ missing → (j : ℕ) → told (checkOutcome kind ws) ≡ Done j → ⊥

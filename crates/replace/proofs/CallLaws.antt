@@ -1,13 +1,12 @@
 -- Calls that take a form, a list and a work row: their refusals in order, whatever is done with the form and the entries. Assumes nothing.
-use mathlib.Core.Path.{_≡_, refl, sym, ap, _∙_}
+use mathlib.Core.Path.{_≡_, sym, ap, _∙_}
 use mathlib.Core.List.{List}
 use mathlib.Core.Option.{none as absent, some}
 use Prim.Native.Nat.{ℕ, _≤_, _<_}
-use native.Mathlib.Nat.{le-refl}
 use borrow.Author.Tests.{le-leb, lt-leb}
 use lib.ListN.{length, take}
 use lib.Seq.{take-take}
-use Rattle.tree.specs.Form.{Form, encode}
+use Rattle.tree.specs.Form.{Form}
 use Rattle.tree.specs.Tag.{Sort}
 use Rattle.form.specs.Decode.{missing, formOf}
 use Rattle.form.specs.Lists.{Entry, listOf}

@@ -1,6 +1,6 @@
 -- The entries of a list in its row: where the table says that each expression stands, its items stand with their marks. Assumes nothing.
 use mathlib.Core.Path.{_≡_, refl, ap, sym, _∙_}
-use mathlib.Core.Bool.{Bool, true, false}
+use mathlib.Core.Bool.{true}
 use mathlib.Core.List.{List, [], _∷_, _++_, append-assoc, append-nil, map}
 use mathlib.Core.Option.{some}
 use Prim.Native.Nat.{ℕ, zero, suc, _+_, _-_, _≤_, _<_}
@@ -11,21 +11,19 @@ use borrow.Author.Tests.{lt-leb}
 use lib.ListN.{length, getD, take, drop, set, replicate, length-append, length-set, take-append-drop}
 use lib.Seq.{take-at, drop-at, take-suc-set, getD-take}
 use Rattle.tree.specs.Form.{Form, encode}
-use Rattle.tree.specs.Tag.{expr}
 use Rattle.form.specs.Lists.{Place, kept, filled, Entry, entry, placeOf, placeWords, entryWords, encodeList, wordOf, listOf}
 use Rattle.form.specs.Internal.Reads.{markEntries, emptyTable, addRow, tabled}
 use Rattle.form.specs.declared.lists.ListKind.{ListKind}
 use Rattle.form.specs.declared.lists.ListKind.the-variants.{Pairs, Places}
 use Rattle.form.specs.declared.lists.Table.{Table}
-use Rattle.form.proofs.DecodeLaws.{Ok}
 use Rattle.form.proofs.ListLaws.{Good, GoodAll, list-sound}
-use Rattle.form.proofs.TableLaws.{row-more, tabled-n, listed-n}
+use Rattle.form.proofs.TableLaws.{row-more, listed-n}
 use Rattle.subst.specs.Walk.{each}
 use Rattle.subst.specs.Internal.Items.{items}
 use Rattle.subst.proofs.LimitLaws.{small, ok-small}
 use Rattle.subst.proofs.RowLaws.{itemsOf, marksOf, items-encode, marks-length}
 use Rattle.replace.specs.Internal.Pieces.{part}
-use Rattle.replace.proofs.MarkLaws.{marksPlace, marksList, place-length, list-length, only-entries}
+use Rattle.replace.proofs.MarkLaws.{marksPlace, marksList, place-length, only-entries}
 
 -- a column of the table, entry by entry
 abbrev pub column : (ℕ → Entry → ℕ) → ℕ → List Entry → List ℕ

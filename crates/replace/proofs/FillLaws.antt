@@ -1,7 +1,7 @@
 -- Fill on rows is fill on trees. Assumes nothing.
 use mathlib.Core.Path.{_≡_, refl, ap, sym, _∙_}
-use mathlib.Core.Bool.{Bool, true, false}
-use mathlib.Core.List.{List, [], _∷_, _++_, map}
+use mathlib.Core.Bool.{true}
+use mathlib.Core.List.{List, [], _∷_, map}
 use mathlib.Core.Option.{none as absent, some}
 use Prim.Native.Nat.{ℕ, zero, suc, _+_, _-_, _≤_, _<_}
 use native.Mathlib.Omega.{arith}
@@ -21,14 +21,12 @@ use Rattle.form.specs.declared.lists.Listed.{Listed}
 use Rattle.form.proofs.DecodeLaws.{clash, Ok}
 use Rattle.form.proofs.ListLaws.{GoodAll, list-sound}
 use Rattle.form.proofs.TableLaws.{listed-words, listed-n, listing-yes}
-use Rattle.subst.specs.Internal.Items.{items}
 use Rattle.subst.proofs.CheckedLaws.{Checked}
 use Rattle.replace.specs.Fill.{quantified, other, ofQuantified, fill, fillOutcome}
 use Rattle.replace.specs.Internal.Pieces.{filledWords, InRow, Ready, replaced, fillPlan, declaredIn, keptWords, headWords, filledRow}
-use Rattle.replace.specs.declared.pieces.Plan.{Plan}
 use Rattle.replace.proofs.EntryLaws.{PlaceAt, listed-places, listed-in-row}
 use Rattle.replace.proofs.BuildLaws.{emit-form}
-use Rattle.replace.proofs.CallLaws.{call, call-small, call-long, call-missing, call-list-long, call-no-list, call-read, front-same}
+use Rattle.replace.proofs.CallLaws.{call-small, call-long, call-missing, call-list-long, call-no-list, call-read, front-same}
 use Rattle.replace.proofs.FillTree.{wordFor, fill-tree}
 use Rattle.replace.proofs.NameLaws.{kept-names, encode-quantify}
 use Rattle.replace.proofs.QuantLaws.{Quant, is-quant, not-quant, quant-count, quant-tag, quant-names, quant-long, quant-items}

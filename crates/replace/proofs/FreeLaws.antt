@@ -1,28 +1,25 @@
 -- Free substitution on rows is free substitution on trees. Assumes nothing.
 use mathlib.Core.Path.{_≡_, refl, ap, sym, _∙_}
 use mathlib.Core.Bool.{Bool, true, false}
-use mathlib.Core.List.{List, [], _∷_, _++_, append-nil, map}
+use mathlib.Core.List.{List, [], _∷_, map}
 use mathlib.Core.Option.{none as absent, some}
-use Prim.Native.Nat.{ℕ, zero, suc, _+_, _-_, _≤_, _<_}
+use Prim.Native.Nat.{ℕ, suc, _+_, _-_, _≤_, _<_}
 use native.Mathlib.Nat.{le-refl}
 use native.Mathlib.Omega.{arith}
-use borrow.Author.Tests.{le-leb, lt-leb, leb-true, leb-false}
+use borrow.Author.Tests.{leb-true, leb-false}
 use lib.Dec.{leb, eqb}
 use lib.ListN.{length, getD, take, drop, replicate, length-map, length-drop, List·getD-eq-default}
-use lib.Seq.{take-take, take-at}
 use Rattle.tree.specs.Form.{Leaf, free, bound, Form, leaf, pick, encode}
 use Rattle.tree.specs.Tag.{Sort, expr, pred}
-use Rattle.form.specs.Decode.{Whole, one, not-one, Found, found, missing, asSort, rowForm, formOf}
-use Rattle.form.specs.Lists.{Place, kept, filled, Entry, entry, wordOf, placeOf, encodeList, listOf, distinct, goodNames}
+use Rattle.form.specs.Decode.{Whole, one, not-one, found, missing, asSort, rowForm, formOf}
+use Rattle.form.specs.Lists.{Place, kept, filled, Entry, entry, wordOf, placeOf, listOf, distinct, goodNames}
 use Rattle.form.specs.Answer.{Outcome, refusal, needs, finish}
 use Rattle.form.specs.Internal.Reads.{asExpr, markEntries, emptyTable, tabled, Listing, goodTable}
-use Rattle.form.specs.declared.answer.Kind.{Kind}
-use Rattle.form.specs.declared.answer.Kind.the-variants.{Expression, Predicate, Either}
+use Rattle.form.specs.declared.answer.Kind.the-variants.{Either}
 use Rattle.form.specs.declared.lists.ListKind.the-variants.{Pairs}
 use Rattle.form.specs.declared.lists.Table.{Table}
 use Rattle.form.specs.declared.lists.Listed.{Listed}
 use Rattle.form.proofs.DecodeLaws.{clash, Ok}
-use Rattle.form.proofs.ListLaws.{list-sound}
 use Rattle.form.proofs.TableLaws.{listed-words, listed-n, good-listed, listing-yes}
 use Rattle.form.proofs.CheckLaws.{sortFor, form-of}
 use Rattle.subst.specs.Walk.{Binding, inside, outside, binding, Outer, named, dangling, walkIndex, walkLeaf, walk, up, put, each}
@@ -34,9 +31,8 @@ use Rattle.subst.proofs.ShiftLaws.{moved}
 use Rattle.subst.proofs.RowLaws.{identOf, itemsOf, marked-items, walk-items}
 use Rattle.subst.proofs.CheckedLaws.{Checked}
 use Rattle.replace.specs.Free.{orName, seek, freeFor, substitute, freeOutcome}
-use Rattle.replace.specs.Internal.Pieces.{part, pieceWords, spot, freePiece, pieceOf, planned, InRow, Ready, replaced, kindFor, freePlan}
-use Rattle.replace.specs.declared.pieces.Piece.the-variants.{Same, Index, Part}
-use Rattle.replace.specs.declared.pieces.Plan.{Plan}
+use Rattle.replace.specs.Internal.Pieces.{pieceWords, spot, freePiece, pieceOf, planned, InRow, Ready, replaced, kindFor, freePlan}
+use Rattle.replace.specs.declared.pieces.Piece.the-variants.{Same, Part}
 use Rattle.replace.proofs.EntryLaws.{PlaceAt, listed-places, listed-in-row}
 use Rattle.replace.proofs.MarkLaws.{items-take}
 use Rattle.replace.proofs.ActionLaws.{tight-depth, moved-words, moved-lift}

@@ -3,12 +3,10 @@ use mathlib.Core.Path.{_≡_, refl, ap, sym, _∙_}
 use mathlib.Core.List.{List, [], _∷_, _++_, append-assoc, append-nil}
 use mathlib.Core.Option.{Option, none as absent, some}
 use Prim.Native.Nat.{ℕ, zero, suc, _+_, _-_, _≤_, _<_}
-use native.Mathlib.Nat.{add-zero}
 use native.Mathlib.Omega.{arith}
-use lib.ListN.{length, getD, take, drop, set, replicate, length-append, length-replicate, length-take, length-drop, take-append-drop}
-use lib.Seq.{take-at, drop-at, take-append-le, length-take-le, drop-drop, take-all}
+use lib.ListN.{length, getD, take, drop, set, replicate, length-append, length-replicate, length-drop, take-append-drop}
+use lib.Seq.{take-at, drop-at, take-append-le, length-take-le, take-all}
 use Rattle.tree.specs.Form.{Form, encode}
-use Rattle.tree.specs.Tag.{Sort}
 use Rattle.form.specs.Decode.{Found, found, missing, formOf}
 use Rattle.form.specs.Lists.{Place, kept, filled, Entry, entry, placeWords, entryWords, encodeList, listOf}
 use Rattle.form.specs.Internal.Reads.{mark, Marked, markPlace, markEntry, markEntries, ListingFrom, Listing}
@@ -20,7 +18,7 @@ use Rattle.form.proofs.ListLaws.{list-sound}
 use Rattle.subst.specs.Internal.Items.{items, store}
 use Rattle.subst.specs.declared.items.Item.the-variants.{Plain, Ident}
 use Rattle.subst.proofs.CheckedLaws.{found-row}
-use Rattle.subst.proofs.ItemLaws.{stored, store-append, store-front}
+use Rattle.subst.proofs.ItemLaws.{stored, store-front}
 use Rattle.subst.proofs.RowLaws.{zeros, marksOf, zeros-append, zeros-length, marks-length, mark-zeros}
 
 pub zeros-are : (l : List ℕ) → replicate (length l) 0 ≡ zeros l
@@ -117,11 +115,6 @@ module _ (l l′ : List ℕ) (at n : ℕ) (fits : at + n ≤ length l) (e : l′
       let h : length (take at l) ≡ at = length-take-le at l (omega arith) in
       let s = store-front (take at l) (drop at l) (replicate n 0) at h (rw (length-replicate, length-drop) (omega arith)) in
       e ∙ (rw (take-append-drop, length-replicate) at s)
-
-  cleared-length : length l′ ≡ length l
-  cleared-length =
-      let h : length (take at l) ≡ at = length-take-le at l (omega arith) in
-      rw (cleared, length-append, length-append, length-replicate, length-drop, length-drop, h) (omega arith)
 
   pub cleared-part : take (length l′ - at) (drop at l′) ≡ replicate n 0 ++ drop n (drop at l)
   cleared-part =

@@ -1,11 +1,11 @@
 -- The head of a quantifier with the names that are kept. Assumes nothing.
-use mathlib.Core.Path.{_≡_, refl, ap, sym, _∙_}
+use mathlib.Core.Path.{_≡_, refl, ap, _∙_}
 use mathlib.Core.List.{List, [], _∷_, _++_, append-nil, map}
 use Prim.Native.Nat.{ℕ, zero, suc, _+_, _-_, _≤_, _<_}
 use native.Mathlib.Omega.{arith}
 use lib.ListN.{length, getD, take, drop, set, length-append, length-drop}
 use lib.Seq.{take-at, getD-drop}
-use Rattle.tree.specs.Form.{Form, node, none, more, encode}
+use Rattle.tree.specs.Form.{Form, encode}
 use Rattle.form.specs.Lists.{Place, kept, filled}
 use Rattle.form.proofs.HeadLaws.{here, gone}
 use Rattle.subst.specs.Internal.Items.{store}

@@ -1,15 +1,13 @@
 -- Well-formed trees: at a greater depth, after a walk that puts small numbers, and with some names of a quantifier left out. Assumes nothing.
-use mathlib.Core.Path.{_≡_, refl, ap, sym, _∙_}
-use mathlib.Core.Bool.{Bool, true, false, _&&_, _||_}
+use mathlib.Core.Path.{_≡_, refl}
+use mathlib.Core.Bool.{Bool, true, false, _&&_}
 use mathlib.Core.List.{List, [], _∷_, _++_}
 use Prim.Native.Nat.{ℕ, zero, suc, _+_, _≤_}
 use native.Mathlib.Omega.{arith}
-use borrow.Author.Tests.{le-leb}
-use lib.Dec.{leb, eqb}
 use lib.ListN.{length}
-use Rattle.tree.specs.Form.{Leaf, free, bound, Form, leaf, node, Forms, none, more, between}
-use Rattle.tree.specs.Tag.{Sort, expr, pred, own, sorts}
-use Rattle.form.specs.Decode.{Head, head, bad, addName, only, names, read, isLeaf}
+use Rattle.tree.specs.Form.{Leaf, free, bound, Form, leaf, Forms, between}
+use Rattle.tree.specs.Tag.{Sort, expr}
+use Rattle.form.specs.Decode.{Head, head, bad, addName, only, names}
 use Rattle.form.proofs.DecodeLaws.{clash, Ok, ok-free, ok-bound, ok-node, OkAll, ok-none, ok-more}
 use Rattle.subst.specs.Walk.{Binding, inside, outside, binding, Outer, named, dangling, walkIndex, walk, walkAll, collectIndex, collect, each, eachAll}
 use Rattle.subst.proofs.WalkLaws.{and-left, and-right}

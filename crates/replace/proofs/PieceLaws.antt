@@ -1,22 +1,22 @@
 -- The loops over a plan's pieces: searches in the table, lengths, and the words stored one piece after another. Assumes nothing.
 use mathlib.Core.Path.{_≡_, refl, ap, sym, _∙_}
 use mathlib.Core.Bool.{Bool, true, false}
-use mathlib.Core.List.{List, [], _∷_, _++_}
+use mathlib.Core.List.{List, [], _∷_}
 use Prim.Native.Nat.{ℕ, zero, suc, _+_, _-_, _≤_, _<_}
 use native.Mathlib.Nat.{add-zero}
 use native.Mathlib.Omega.{arith}
-use borrow.Author.Tests.{le-leb, lt-leb, leb-true, leb-false, lt-ltb, le-ltb, ltb-false, eq-eqb, ne-eqb}
+use borrow.Author.Tests.{le-leb, lt-leb, leb-true, leb-false, eq-eqb, ne-eqb}
 use lib.Dec.{leb, ltb, eqb}
 use lib.ListN.{length, getD, take, drop, length-append, length-drop}
 use lib.Seq.{length-take-le}
 use Rattle.tree.specs.Form.{pick}
 use Rattle.form.proofs.HeadLaws.{here, gone}
-use Rattle.subst.specs.Internal.Items.{itemAt, items, sizeOf, wordsOf, rewritten, store, moveItem, movedWords}
+use Rattle.subst.specs.Internal.Items.{itemAt, items, sizeOf, wordsOf, rewritten, store, movedWords}
 use Rattle.subst.specs.declared.items.Item.{Item}
 use Rattle.subst.specs.declared.items.Item.the-variants.{Plain, Ident}
 use Rattle.subst.proofs.ItemLaws.{next, store-append, rewritten-length, size-pos}
 use Rattle.subst.proofs.ShiftLaws.{keeps}
-use Rattle.replace.specs.Internal.Pieces.{part, pieceWords, pieceSize, spot, filledWords, freePiece, placePiece, fillPiece, pieceOf, planned, sizes, capped, Tabled, InRow, Ready, Fits}
+use Rattle.replace.specs.Internal.Pieces.{part, pieceWords, pieceSize, spot, filledWords, freePiece, placePiece, fillPiece, pieceOf, planned, sizes, capped, Tabled, InRow, Fits}
 use Rattle.replace.specs.declared.pieces.Piece.{Piece}
 use Rattle.replace.specs.declared.pieces.Piece.the-variants.{Same, Index, Part}
 use Rattle.replace.specs.declared.pieces.Plan.{Plan}

@@ -8,14 +8,14 @@ use borrow.Author.Tests.{eq-eqb, le-leb, leb-true}
 use lib.Dec.{eqb, leb}
 use lib.ListN.{length, length-append, length-reverse}
 use Rattle.tree.specs.Form.{Leaf, free, bound, Form, leaf, node, Forms, none, more, pick, between, encode}
-use Rattle.tree.specs.Tag.{Sort, pred}
+use Rattle.tree.specs.Tag.{pred}
 use Rattle.form.specs.Decode.{Head, head, bad, addWord, only, names, read, Whole, one, not-one, rowForm, asSort, formOf}
 use Rattle.form.specs.Lists.{Place, kept, filled}
 use Rattle.form.specs.Answer.{Outcome, answer, refusal, ofFound, needs, isOne, finish}
 use Rattle.form.specs.declared.answer.Kind.the-variants.{Predicate}
 use Rattle.form.proofs.DecodeLaws.{clash, Ok, ok-node, ok-none, ok-more}
 use Rattle.form.proofs.RowLaws.{row-exact, row-encode}
-use Rattle.subst.specs.Walk.{Outer, named, dangling, walk, up, put, subst, each}
+use Rattle.subst.specs.Walk.{Outer, named, dangling, walk, put, subst, each}
 use Rattle.subst.proofs.WalkLaws.{and-left, and-right, always, each-agree, each-always, each-same, each-all, walk-agree}
 use Rattle.subst.proofs.LimitLaws.{small, ok-small, fineLeaf, walk-length}
 use Rattle.replace.specs.Fill.{keptCount, keptNames, fillIndex, fillFor, fill, quantify, ofQuantified, quantified}

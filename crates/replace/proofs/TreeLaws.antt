@@ -3,18 +3,18 @@
 use mathlib.Core.Path.{_≡_, refl, ap, sym, _∙_}
 use mathlib.Core.Bool.{Bool, true, false}
 use mathlib.Core.List.{List, [], _∷_, _++_, append-assoc, map, map-append, reverse}
-use Prim.Native.Nat.{ℕ, zero, suc, _+_, _≤_, _<_}
+use Prim.Native.Nat.{ℕ, _+_}
 use native.Mathlib.Omega.{arith}
 use borrow.Author.Tests.{eqb-true}
 use lib.Dec.{eqb}
 use lib.ListN.{length, length-map, length-reverse}
-use Rattle.tree.specs.Form.{Leaf, free, bound, Form, leaf, pick}
+use Rattle.tree.specs.Form.{free, bound, Form, leaf, pick}
 use Rattle.form.specs.Lists.{Place, kept, filled, Entry, entry}
 use Rattle.subst.specs.Walk.{Outer, named, dangling, walk, up, lift, put, subst}
 use Rattle.subst.specs.Bind.{bindName, bindFor, bind}
 use Rattle.subst.proofs.WalkLaws.{binding-add, shift-shift, lift-up, subst-lift, fuse-level, self, undo, always, each-always}
 use Rattle.replace.specs.Free.{orName, seek, freeFor, substitute}
-use Rattle.replace.specs.Fill.{keptCount, keptNames, fillIndex, fillFor, fill}
+use Rattle.replace.specs.Fill.{keptCount, keptNames, fillFor, fill}
 use Rattle.replace.proofs.FillTree.{fill-past, fill-here}
 
 -- the entries lifted

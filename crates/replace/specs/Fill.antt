@@ -1,10 +1,10 @@
 -- Fill: some declarations of a quantified predicate are replaced by expressions; the others are kept and renumbered from the inside.
-use mathlib.Core.Bool.{Bool, true, false, _||_}
+use mathlib.Core.Bool.{_||_}
 use mathlib.Core.List.{List, [], _∷_, reverse, map}
 use Prim.Native.Nat.{ℕ, zero, suc, _+_}
 use lib.Dec.{eqb}
 use lib.ListN.{length}
-use Rattle.tree.specs.Form.{Leaf, free, bound, Form, leaf, node, Forms, none, more, pick}
+use Rattle.tree.specs.Form.{free, bound, Form, leaf, node, none, more, pick}
 use Rattle.tree.specs.Tag.{pred}
 use Rattle.form.specs.Lists.{Place, kept, filled, placeOf}
 use Rattle.form.specs.Answer.{Outcome, refusal, withWork, withForm, withList, needs, finish}

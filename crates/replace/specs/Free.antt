@@ -2,7 +2,7 @@
 use mathlib.Core.List.{List, [], _∷_, map}
 use Prim.Native.Nat.{ℕ}
 use lib.Dec.{eqb}
-use Rattle.tree.specs.Form.{Leaf, free, bound, Form, leaf, pick}
+use Rattle.tree.specs.Form.{free, bound, Form, leaf, pick}
 use Rattle.form.specs.Lists.{Place, kept, filled, Entry, entry, wordOf, goodNames}
 use Rattle.form.specs.Answer.{Outcome, withWork, withForm, withList, needs, finish}
 use Rattle.form.specs.declared.answer.Kind.the-variants.{Either}

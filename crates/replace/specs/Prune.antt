@@ -4,7 +4,7 @@ use mathlib.Core.List.{List, [], _∷_}
 use Prim.Native.Nat.{ℕ}
 use lib.Dec.{eqb}
 use lib.ListN.{length}
-use Rattle.tree.specs.Form.{Leaf, free, Form, leaf, pick}
+use Rattle.tree.specs.Form.{free, Form, leaf, pick}
 use Rattle.tree.specs.Tag.{pred}
 use Rattle.form.specs.Lists.{Place, kept, filled}
 use Rattle.form.specs.Answer.{Outcome, withForm, needs, finish}

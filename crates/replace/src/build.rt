@@ -7,12 +7,11 @@ use form::answer::Answer;
 use form::answer::Kind;
 use form::answer::Limit;
 ghost use mathlib.Core.Path.{_≡_};
-ghost use mathlib.Core.List.{_++_};
 ghost use Prim.Native.Nat.{_+_, _≤_};
 ghost use lib.ListN.{length, drop};
 ghost use Rattle.form.specs.Answer.{told, written};
-ghost use Rattle.subst.specs.Internal.Items.{items, rewritten, store};
-ghost use Rattle.replace.specs.Internal.Pieces.{planned, sizes, planFor, Ready, emitted, replaced};
+ghost use Rattle.subst.specs.Internal.Items.{items, store};
+ghost use Rattle.replace.specs.Internal.Pieces.{sizes, planFor, Ready, emitted, replaced};
 
 // The words, stored at the start of the output row.
 pub(crate) fn copy(words: &[u32], out: &mut [u32])

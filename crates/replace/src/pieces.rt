@@ -10,7 +10,7 @@ ghost use mathlib.Core.List.{[], _∷_};
 ghost use Prim.Native.Nat.{_+_, _-_, _≤_};
 ghost use lib.ListN.{length, drop};
 ghost use Rattle.subst.specs.Internal.Items.{items, rewritten, movedWords, store};
-ghost use Rattle.replace.specs.Internal.Pieces.{part, pieceWords, pieceSize, spot, filledWords, freePiece, fillPiece, pieceOf, planned, sizes, capped, planFor, Tabled, Ready, Fits};
+ghost use Rattle.replace.specs.Internal.Pieces.{pieceWords, pieceSize, spot, filledWords, freePiece, fillPiece, pieceOf, planned, sizes, capped, planFor, Tabled, Ready, Fits};
 
 // The item itself; an index; or the list row's words from a start to an end, their dangling indices moved up and down.
 pub enum Piece {

@@ -27,6 +27,7 @@ use Rattle.replace.specs.Free.{substitute, freeOutcome}
 use Rattle.replace.specs.Fill.{Quantified, quantifier, other, quantified, keptCount, fill, ofQuantified, fillOutcome}
 use Rattle.replace.specs.Prune.{usedPlaces, prune, pruneOutcome}
 use Rattle.one_point.specs.Point.{ofResult, onePoint, pointOutcome}
+use Rattle.one_point.specs.Member.{membership, memberOutcome}
 use Rattle.sogbayile.specs.Code.{codeOf}
 use Rattle.sogbayile.proofs.CodeLaws.{finish-short}
 
@@ -100,13 +101,17 @@ pub prune-short : (row : List ℕ) (room : ℕ) → Short (pruneOutcome row room
 unfolding pruneOutcome
 prune-short row room = form-short Predicate row _ (λ s f. quantified-short _ 3 (quantified f) (λ t ns b. tested 9 (not (eqb (keptCount (usedPlaces ns b)) (length ns))) _ (finished pred room (prune t ns b))))
 
+result-short : (room : ℕ) (o : Option Form) → Short (ofResult room o)
+result-short room (some g) = finished pred room g
+result-short room absent = refused 9
+
 pub point-short : (row : List ℕ) (work room : ℕ) → Short (pointOutcome row work room)
 unfolding pointOutcome
-point-short row work room = tested 15 (leb 16384 work) _ (form-short Predicate row _ (λ s f. by (onePoint f)))
-  where
-    by : (o : Option Form) → Short (ofResult room o)
-    by (some g) = finished pred room g
-    by absent = refused 9
+point-short row work room = tested 15 (leb 16384 work) _ (form-short Predicate row _ (λ s f. result-short room (onePoint f)))
+
+pub member-short : (row : List ℕ) (work room : ℕ) → Short (memberOutcome row work room)
+unfolding memberOutcome
+member-short row work room = tested 15 (leb 16384 work) _ (form-short Predicate row _ (λ s f. result-short room (membership f)))
 
 -- the dangling set: an index of it stands in the row
 insert-length : (i : ℕ) (js : List ℕ) → length (insert i js) ≤ 1 + length js

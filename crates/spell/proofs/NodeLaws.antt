@@ -14,7 +14,8 @@ use Rattle.form.specs.Internal.Reads.{headAt}
 use Rattle.form.specs.declared.head.Head as code
 use Rattle.form.specs.declared.head.Head.the-variants.{Kids, None}
 use Rattle.form.proofs.DecodeLaws.{clash, read-exact, read-at, all-sound, made}
-use Rattle.form.proofs.HeadLaws.{gone, here}
+use Rattle.form.proofs.HeadLaws.{gone}
+use Rattle.form.proofs.ReaderLaws.{no-word, node-here}
 use Rattle.spell.specs.Spell.{decimal, spaced, bracket, spellLeaf, spell, spellAll}
 use Rattle.spell.specs.Put.{put}
 use Rattle.spell.specs.Internal.Writes.{Wrote, Printed, PrintedAll}
@@ -65,13 +66,8 @@ module _ (s : Sort) (row : List ℕ) (at : ℕ) where
   unfolding decode
   too-deep d o a b e = bad-printed at o _ a b (rw e refl)
 
-  no-word : (d : ℕ) → decode d s [] ≡ no-form
-  unfolding decode
-  no-word zero = refl
-  no-word (suc d) = refl
-
   pub past-end : (d o : ℕ) (a b : List ℕ) → length row ≤ at → Printed at o (decode d s (drop at row)) a b Bad
-  past-end d o a b h = bad-printed at o _ a b (rw (gone row at h) (no-word d))
+  past-end d o a b h = bad-printed at o _ a b (rw (gone row at h) (no-word d s))
 
   module _ (d t : ℕ) where
     close-printed : (o ds : List ℕ) (x y p i j k u q : ℕ) (m m₁ m₂ m₃ : List ℕ) (r : Ends) (g : Gots) → decodeAll (λ s l. decode d s l) (sorts x y) (drop p row) ≡ g
@@ -124,10 +120,6 @@ module _ (s : Sort) (row : List ℕ) (at : ℕ) where
     branch-bad (head o ds x y l) u m b e = absurd (clash cc)
     branch-bad bad u m b e = bad-printed at u no-form m b refl
 
-  node-here : (d : ℕ) → at < length row → decode (suc d) s (drop at row) ≡ branch (λ s l. decode d s l) (getD row at 0) (read (own s (getD row at 0)) (drop (at + 1) row))
-  unfolding decode
-  node-here d h = rw (here row at h) refl
-
   within : (k : ℕ) (z : Head) (p x y w : ℕ) → at < length row → read (own s k) (drop (at + 1) row) ≡ z → headAt (at + 1) z ≡ Kids p x y w → (at < p) × (p ≤ length row)
   unfolding headAt
   within k (head o ds x′ y′ l) p x y w low q e =
@@ -142,12 +134,12 @@ module _ (s : Sort) (row : List ℕ) (at : ℕ) where
   module _ {h : code.Head} (low : at < length row) (hd : h ≡ headAt (at + 1) (read (own s (getD row at 0)) (drop (at + 1) row))) where
     pub no-own : (d o : ℕ) (a b : List ℕ) → (d ≡ 0 → ⊥) → h ≡ None → Printed at o (decode d s (drop at row)) a b Bad
     no-own zero o a b ne e = absurd (ne refl)
-    no-own (suc d) o a b ne e = rw (node-here d low) (branch-bad d (getD row at 0) _ o a b (sym hd ∙ e))
+    no-own (suc d) o a b ne e = rw (node-here d s row at low) (branch-bad d (getD row at 0) _ o a b (sym hd ∙ e))
 
     pub kids-stop : (d p x y w i u : ℕ) (m m₁ m₂ b : List ℕ) (r : Ends) → (d ≡ 0 → ⊥) → h ≡ Kids p x y w
         → PrintedAll p i (decodeAll (λ s l. decode (d - 1) s l) (sorts x y) (drop p row)) m₁ m₂ r → r ≡ Bad → Printed at u (decode d s (drop at row)) m b Bad
     kids-stop zero p x y w i u m m₁ m₂ b r ne e t c = absurd (ne refl)
-    kids-stop (suc d) p x y w i u m m₁ m₂ b r ne e t c = rw (node-here d low) (branch-stop d (getD row at 0) _ x y w p i u m m₁ m₂ b r refl (sym hd ∙ e) (rw sub-one at t) c)
+    kids-stop (suc d) p x y w i u m m₁ m₂ b r ne e t c = rw (node-here d s row at low) (branch-stop d (getD row at 0) _ x y w p i u m m₁ m₂ b r refl (sym hd ∙ e) (rw sub-one at t) c)
 
     pub a-form : (d p x y w i j k u q : ℕ) (m m₁ m₂ m₃ : List ℕ) (r : Ends) → (d ≡ 0 → ⊥) → h ≡ Kids p x y w
         → Wrote u (opening (getD row at 0) (take (p - (at + 1)) (drop (at + 1) row))) m m₁ i
@@ -155,7 +147,7 @@ module _ (s : Sort) (row : List ℕ) (at : ℕ) where
         → Printed at u (decode d s (drop at row)) m m₃ (End q k)
     a-form zero p x y w i j k u q m m₁ m₂ m₃ r ne e v t c f = absurd (ne refl)
     a-form (suc d) p x y w i j k u q m m₁ m₂ m₃ r ne e v t c f =
-        rw (node-here d low) (branch-printed d (getD row at 0) _ x y w p i j k u q m m₁ m₂ m₃ r refl (sym hd ∙ e) v (rw sub-one at t) c f)
+        rw (node-here d s row at low) (branch-printed d (getD row at 0) _ x y w p i j k u q m m₁ m₂ m₃ r refl (sym hd ∙ e) v (rw sub-one at t) c f)
 
     pub kids-within : (p x y w : ℕ) → h ≡ Kids p x y w → (at < p) × (p ≤ length row)
     kids-within p x y w e = within (getD row at 0) _ p x y w low refl (sym hd ∙ e)

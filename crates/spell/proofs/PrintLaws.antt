@@ -9,6 +9,7 @@ use Rattle.tree.specs.Form.{Leaf, free, bound, Form, leaf, node, Forms, none, m
 use Rattle.tree.specs.Tag.{Sort}
 use Rattle.form.specs.Decode.{Got, got, no-form, Gots, gots, no-forms, addForm, chain, decodeAll, decode}
 use Rattle.form.proofs.DecodeLaws.{clash, decode-sound, all-sound, decode-at}
+use Rattle.form.proofs.ReaderLaws.{no-both}
 use Rattle.spell.specs.Spell.{decimal, spaced, bracket, spellLeaf, spell, spellAll}
 use Rattle.spell.specs.Put.{put}
 use Rattle.spell.specs.Internal.Writes.{Wrote, Printed, PrintedAll}
@@ -179,18 +180,5 @@ module _ (d : ℕ) (row : List ℕ) where
   both-go (s ∷ ss) ss′ p q o j a a′ b r r′ t e h =
       both-step ss ss′ s p q o j a a′ b r r′ (decode d s (drop p row)) refl (λ p′ o′ a₀ t′. both-go ss ss′ p′ q o′ j a₀ a′ b r r′ t′ e h) t e
 
-  no-add : (f : Form) (g : Gots) → addForm f g ≡ no-forms → g ≡ no-forms
-  no-add f (gots fs x) e = absurd (clash cc)
-  no-add f no-forms e = refl
-
-  no-chain : (z : Got) (k k′ : List ℕ → Gots) → ((x : List ℕ) → k x ≡ no-forms → k′ x ≡ no-forms) → chain z k ≡ no-forms → chain z k′ ≡ no-forms
-  no-chain (got f x) k k′ h e = rw (h x (no-add f (k x) e))
-  no-chain no-form k k′ h e = refl
-
-  no-both : (ss ss′ : List Sort) (l : List ℕ) → decodeAll (λ s l. decode d s l) ss l ≡ no-forms → decodeAll (λ s l. decode d s l) (ss ++ ss′) l ≡ no-forms
-  unfolding decodeAll
-  no-both [] ss′ l e = absurd (clash cc)
-  no-both (s ∷ ss) ss′ l e = no-chain (decode d s l) (λ x. decodeAll (λ s l. decode d s l) ss x) (λ x. decodeAll (λ s l. decode d s l) (ss ++ ss′) x) (λ x k. no-both ss ss′ x k) e
-
   pub both-stop : (ss ss′ : List Sort) (p o : ℕ) (a a′ b : List ℕ) (r : Ends) → All ss p o a a′ r → r ≡ Bad → All (ss ++ ss′) p o a b Bad
-  both-stop ss ss′ p o a a′ b r t e = bad-printedAll p o _ a b (no-both ss ss′ (drop p row) (all-bad p o (decodeAll (λ s l. decode d s l) ss (drop p row)) a a′ r t e))
+  both-stop ss ss′ p o a a′ b r t e = bad-printedAll p o _ a b (no-both d ss ss′ (drop p row) (all-bad p o (decodeAll (λ s l. decode d s l) ss (drop p row)) a a′ r t e))

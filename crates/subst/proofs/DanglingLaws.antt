@@ -1,24 +1,22 @@
 -- The flags that the loops set, read in order, are the dangling set of the tree. Assumes nothing.
 use mathlib.Core.Path.{_≡_, refl, ap, sym, _∙_}
 use mathlib.Core.Bool.{Bool, true, false, _&&_}
-use mathlib.Core.List.{List, [], _∷_, _++_, append-assoc, append-nil}
+use mathlib.Core.List.{List, [], _∷_, _++_, append-nil}
 use Prim.Native.Nat.{ℕ, zero, suc, _+_, _-_, _≤_, _<_}
 use native.Mathlib.Nat.{add-zero, zero-add}
 use native.Mathlib.Numerals.{add-one}
 use native.Mathlib.Omega.{arith}
-use borrow.Author.Tests.{eq-eqb, ne-eqb, le-leb, lt-leb, lt-ltb, le-ltb, ltb-true, ltb-false}
+use borrow.Author.Tests.{eq-eqb, ne-eqb, le-leb, lt-leb, lt-ltb, le-ltb, ltb-true}
 use lib.Dec.{leb, ltb, eqb}
 use lib.Seq.{set-out}
 use lib.ListN.{length, getD, drop, set, replicate, length-append, length-set}
-use Rattle.tree.specs.Form.{Leaf, free, bound, Form, leaf, node, Forms, none, more, pick, encode}
+use Rattle.tree.specs.Form.{Leaf, free, bound, Form, leaf, node, Forms, none, more, pick}
 use Rattle.form.specs.Decode.{missing, formOf}
-use Rattle.form.specs.Answer.{Outcome, answer, refusal, told, written}
-use Rattle.form.specs.Internal.Reads.{mark}
+use Rattle.form.specs.Answer.{refusal, told, written}
 use Rattle.form.specs.declared.answer.Kind.the-variants.{Either}
-use Rattle.form.specs.declared.answer.Answer.the-variants.{Done, No}
-use Rattle.form.proofs.DecodeLaws.{clash}
-use Rattle.form.proofs.HeadLaws.{here, gone, between-in}
-use Rattle.subst.specs.Walk.{Binding, inside, outside, binding, Outer, named, dangling, collectIndex, collectLeaf, collect, collectAll, each}
+use Rattle.form.specs.declared.answer.Answer.the-variants.{Done}
+use Rattle.form.proofs.HeadLaws.{here, gone}
+use Rattle.subst.specs.Walk.{Binding, inside, outside, binding, Outer, named, dangling, collectIndex, collectLeaf, collect, collectAll}
 use Rattle.subst.specs.Dangling.{indexOf, insert, insertAll, danglingSet, danglingOutcome}
 use Rattle.subst.specs.Internal.Items.{items, sizeOf, itemAt, rewritten, allItems, itemIn, store}
 use Rattle.subst.specs.Internal.Flags.{indexWords, flagAll, flagWords, selected, Flagging, setWords}
@@ -132,11 +130,6 @@ flags-are row marks flags flags′ p e =
     ∙ ap (λ z. insertAll z (rewritten indexWords (items row marks))) (ap (selected 0) (p .clear) ∙ clear-flags 0 (length flags))
 
 -- the loops
-pub flags-length : (is fl : List ℕ) → length (flagAll fl is) ≡ length fl
-unfolding flagAll
-flags-length [] fl = refl
-flags-length (i ∷ is) fl = flags-length is (set fl i 1) ∙ simp length-set
-
 flags-append : (a b fl : List ℕ) → flagAll fl (a ++ b) ≡ flagAll (flagAll fl a) b
 unfolding flagAll
 flags-append [] b fl = refl

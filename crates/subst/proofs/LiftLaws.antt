@@ -1,25 +1,23 @@
 -- Lift on the row and its marks is lift on the tree; which part is answered. Assumes nothing.
 use mathlib.Core.Path.{_≡_, refl, ap, sym, _∙_}
-use mathlib.Core.Bool.{Bool, true, false, _&&_, _||_}
-use mathlib.Core.List.{List, [], _∷_, _++_}
-use Prim.Native.Nat.{ℕ, zero, suc, _+_, _≤_, _<_}
+use mathlib.Core.Bool.{Bool, true, false}
+use mathlib.Core.List.{List, _++_}
+use Prim.Native.Nat.{ℕ, _+_, _≤_, _<_}
 use native.Mathlib.Omega.{arith}
 use borrow.Author.Tests.{eq-eqb, ne-eqb, le-leb, lt-leb, le-ltb}
-use lib.Dec.{leb, ltb, eqb}
-use lib.ListN.{length, take, drop, replicate, length-append}
+use lib.ListN.{length, drop, replicate, length-append}
 use lib.Seq.{take-append-seam}
-use Rattle.tree.specs.Form.{Leaf, free, bound, Form, pick, encode}
-use Rattle.tree.specs.Tag.{Sort}
+use Rattle.tree.specs.Form.{Form, encode}
 use Rattle.form.specs.Decode.{missing, formOf}
-use Rattle.form.specs.Answer.{Outcome, answer, refusal, told, written, finish}
+use Rattle.form.specs.Answer.{Outcome, answer, refusal, told, written}
 use Rattle.form.specs.Internal.Reads.{mark}
 use Rattle.form.specs.declared.answer.Kind.the-variants.{Either}
 use Rattle.form.specs.declared.answer.Answer.{Answer}
 use Rattle.form.specs.declared.answer.Answer.the-variants.{Done, No}
 use Rattle.form.proofs.DecodeLaws.{clash}
-use Rattle.subst.specs.Walk.{Outer, named, dangling, lift, each}
+use Rattle.subst.specs.Walk.{Outer, named, dangling}
 use Rattle.subst.specs.Dangling.{isNamed, closed}
-use Rattle.subst.specs.Lift.{Part, base, copy, empty, ofCopy, liftFound, liftPart, partWords, partAt, workAfter}
+use Rattle.subst.specs.Lift.{Part, base, copy, empty, ofCopy, liftPart, partWords, partAt, workAfter}
 use Rattle.subst.specs.Internal.Items.{items, allItems, itemIn, shiftWords}
 use Rattle.subst.specs.Internal.Lifting.{madeOf, chosen, chosenAt}
 use Rattle.subst.specs.declared.lift.Made.{Made}

@@ -2,7 +2,7 @@
 use mathlib.Core.Path.{_≡_, refl, ap, sym}
 use mathlib.Core.Bool.{Bool, true, false, _&&_}
 use mathlib.Core.List.{List, [], _∷_}
-use Prim.Native.Nat.{ℕ, zero, suc, _+_, _-_, _≤_, _<_}
+use Prim.Native.Nat.{ℕ, suc, _+_, _-_, _≤_, _<_}
 use native.Mathlib.Omega.{arith}
 use borrow.Author.Tests.{ne-eqb, le-leb, leb-true, ltb-true, lt-ltb, le-ltb}
 use lib.Dec.{leb, ltb}
@@ -22,7 +22,7 @@ use Rattle.subst.specs.Internal.Items.{sizeOf, wordsOf, upBy, downBy, it
 use Rattle.subst.specs.declared.items.Item.{Item}
 use Rattle.subst.specs.declared.items.Item.the-variants.{Plain, Ident}
 use Rattle.subst.proofs.WalkLaws.{binding-inside, binding-back, each-agree, each-all, walk-agree}
-use Rattle.subst.proofs.LimitLaws.{small, ok-small, fineLeaf, fine, walk-length, inside-limits}
+use Rattle.subst.proofs.LimitLaws.{small, ok-small, fine, walk-length, inside-limits}
 use Rattle.subst.proofs.CheckedLaws.{Checked, too-long, no-form-there}
 use Rattle.subst.proofs.RowLaws.{identOf, marked-items, walk-items, each-items}
 

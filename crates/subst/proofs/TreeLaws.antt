@@ -1,24 +1,24 @@
 -- First laws of the rewritings, on trees: the walk that changes nothing; shifts of what has nothing dangling; shifts of one sign add up.
 -- Assumes nothing.
 use mathlib.Core.Path.{_≡_, refl, ap, sym, _∙_}
-use mathlib.Core.Bool.{Bool, true, false, _&&_}
+use mathlib.Core.Bool.{Bool, true, false}
 use mathlib.Core.List.{List}
-use Prim.Native.Nat.{ℕ, zero, suc, _+_, _-_, _≤_}
+use Prim.Native.Nat.{ℕ, suc, _+_, _-_, _≤_}
 use native.Mathlib.Omega.{arith}
 use borrow.Author.Tests.{le-leb, leb-true, leb-false}
 use lib.Dec.{leb}
 use lib.IntN.{ℤ, pos, negsuc}
 use lib.ListN.{length}
-use Rattle.tree.specs.Form.{Leaf, free, bound, Form, leaf, node, Forms, none, more, pick, encode}
+use Rattle.tree.specs.Form.{free, bound, Form, leaf, node, Forms, none, more, pick}
 use Rattle.tree.specs.Tag.{Sort}
 use Rattle.form.specs.Decode.{found, formOf}
 use Rattle.form.specs.Answer.{answer, finish}
 use Rattle.form.specs.declared.answer.Kind.the-variants.{Either}
 use Rattle.form.proofs.DecodeLaws.{clash}
 use Rattle.form.proofs.RowLaws.{row-encode}
-use Rattle.subst.specs.Walk.{Binding, inside, outside, binding, Outer, named, dangling, walkIndex, walkLeaf, walk, walkAll, up, lift, put, collectIndex, collectLeaf, collect, each, eachAll}
+use Rattle.subst.specs.Walk.{Binding, inside, outside, binding, Outer, named, dangling, walkIndex, walk, walkAll, up, lift, put, collectIndex, collect, each, eachAll}
 use Rattle.subst.specs.Dangling.{isNamed, closed}
-use Rattle.subst.specs.Shift.{reaches, fall, lower, Shifted, shifted, captured, shift, ofShifted, shiftOutcome}
+use Rattle.subst.specs.Shift.{reaches, fall, lower, shifted, captured, shift, shiftOutcome}
 use Rattle.subst.proofs.WalkLaws.{binding-add, binding-back, fuse-level, shift-shift, self, each-agree, each-all, walk-agree}
 use Rattle.subst.proofs.CheckedLaws.{found-row}
 

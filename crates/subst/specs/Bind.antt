@@ -3,7 +3,7 @@ use mathlib.Core.List.{List, [], _∷_}
 use Prim.Native.Nat.{ℕ, _+_}
 use lib.Dec.{eqb}
 use lib.ListN.{length}
-use Rattle.tree.specs.Form.{Leaf, free, bound, Form, leaf, pick}
+use Rattle.tree.specs.Form.{free, bound, Form, leaf, pick}
 use Rattle.form.specs.Lists.{goodNames}
 use Rattle.form.specs.Answer.{Outcome, within, withForm, needs, finish}
 use Rattle.form.specs.declared.answer.Kind.the-variants.{Either}

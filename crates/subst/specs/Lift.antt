@@ -1,10 +1,10 @@
 -- Lift: a part of the base row or of the work row.
-use mathlib.Core.Bool.{Bool, true, false, _||_}
+use mathlib.Core.Bool.{_||_}
 use mathlib.Core.List.{List, [], _++_}
 use Prim.Native.Nat.{ℕ}
 use lib.Dec.{leb, eqb}
 use lib.ListN.{length, drop}
-use Rattle.tree.specs.Form.{Form, pick}
+use Rattle.tree.specs.Form.{pick}
 use Rattle.form.specs.Decode.{Found, found, missing, formOf}
 use Rattle.form.specs.Answer.{Outcome, answer, refusal, finish}
 use Rattle.form.specs.declared.answer.Kind.the-variants.{Either}

@@ -4,7 +4,7 @@ use mathlib.Core.List.{List}
 use Prim.Native.Nat.{ℕ, suc, _-_}
 use lib.Dec.{leb}
 use lib.IntN.{ℤ, pos, negsuc}
-use Rattle.tree.specs.Form.{Leaf, free, bound, Form, leaf, pick}
+use Rattle.tree.specs.Form.{free, bound, Form, leaf, pick}
 use Rattle.tree.specs.Tag.{Sort}
 use Rattle.form.specs.Answer.{Outcome, refusal, withForm, finish}
 use Rattle.form.specs.declared.answer.Kind.the-variants.{Either}

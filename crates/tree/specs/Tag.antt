@@ -1,5 +1,4 @@
 -- The tags of expressions and of predicates, and what follows each in a row: document 01's list.
-use mathlib.Core.Bool.{Bool, true, false}
 use mathlib.Core.List.{List, [], _∷_, _++_}
 use Prim.Native.Nat.{ℕ}
 use lib.Dec.{leb}

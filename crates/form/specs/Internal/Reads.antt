@@ -2,12 +2,12 @@
 -- more than the number of declarations that are open there.
 use mathlib.Core.Path.{_≡_}
 use mathlib.Core.List.{List, [], _∷_}
-use Prim.Native.Nat.{ℕ, zero, suc, _+_}
+use Prim.Native.Nat.{ℕ, suc, _+_}
 use mathlib.Core.Bool.{Bool, true, false, _&&_}
 use mathlib.Core.Option.{Option, none as absent, some}
 use lib.Dec.{leb}
 use lib.ListN.{length, set, take, replicate}
-use Rattle.tree.specs.Form.{Leaf, Form, leaf, node, Forms, none, more, pick, between, member, encode, encodeAll}
+use Rattle.tree.specs.Form.{Form, leaf, node, Forms, none, more, pick, between, member, encode, encodeAll}
 use Rattle.form.specs.Decode.{Head, head, bad, Got, got, no-form, Gots, gots, no-forms, isLeaf, decode, Found, found, missing}
 use Rattle.tree.specs.Tag.{Sort, expr, shapeOf}
 use Rattle.form.specs.Lists.{Place, kept, filled, Entry, entry, wordOf, entryWords, distinct}

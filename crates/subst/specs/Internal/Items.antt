@@ -1,13 +1,13 @@
 -- A row and its marks, item by item: what the loops do. Nothing here is needed to read a public contract.
 use mathlib.Core.Path.{_≡_}
-use mathlib.Core.Bool.{Bool, true, false, _&&_}
+use mathlib.Core.Bool.{Bool, true, _&&_}
 use mathlib.Core.List.{List, [], _∷_, _++_}
 use Prim.Native.Nat.{ℕ, zero, suc, _+_, _-_, _≤_, min}
 use lib.Dec.{leb, ltb, eqb}
 use lib.IntN.{ℤ, pos, negsuc}
 use lib.ListN.{length, drop, set, replicate}
 use Rattle.tree.specs.Form.{pick}
-use Rattle.form.specs.Answer.{Outcome, answer, refusal, needs}
+use Rattle.form.specs.Answer.{Outcome, answer, needs}
 use Rattle.subst.specs.declared.items.Item.{Item}
 use Rattle.subst.specs.declared.items.Item.the-variants.{Plain, Ident}
 

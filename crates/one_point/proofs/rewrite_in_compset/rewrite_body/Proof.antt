@@ -94,8 +94,10 @@ same-length-5 c = search needs
 
 returns-2 : tie.Need-returns-2
 returns-2 c =
-    let b2 = c .before .before in let b11 = b2 .before .before .before .before .before .before .before .before .before in let b18 = b11 .before .before .before .before .before .before .before in let b26 = b18 .before .before .before .before .before .before .before .before in
-    (λ y. rw ((row-fills y (b26 .pre .0 .short) _ _ (b26 .pre .1) (b26 .args .row-marks .now) (b26 .pre .0 .long) _ (b26 .pre .2) _ (b18 .pred-at .kept .1 .0) (told-marks (b26 .args .set .n) (unshifted (b26 .args .set .n) (y .guard) (y .value) (y .element)) _ _ _ _ _ (unshifted-read y (b26 .pre .0 .short) _ _ (b26 .pre .1)) (told-plain _ _ _ _ _ _ _ _ (omega arith) (omega arith) (b18 .pred-at .ensures))) (b11 .write-body .result .table) _ _ _ (b11 .write-body .ensures y)) .same) at (b2 .fill-body .ensures .0 ((row-fills y (b26 .pre .0 .short) _ _ (b26 .pre .1) (b26 .args .row-marks .now) (b26 .pre .0 .long) _ (b26 .pre .2) _ (b18 .pred-at .kept .1 .0) (told-marks (b26 .args .set .n) (unshifted (b26 .args .set .n) (y .guard) (y .value) (y .element)) _ _ _ _ _ (unshifted-read y (b26 .pre .0 .short) _ _ (b26 .pre .1)) (told-plain _ _ _ _ _ _ _ _ (omega arith) (omega arith) (b18 .pred-at .ensures))) (b11 .write-body .result .table) _ _ _ (b11 .write-body .ensures y)) .filling)), λ y. rw ((row-fills y (b26 .pre .0 .short) _ _ (b26 .pre .1) (b26 .args .row-marks .now) (b26 .pre .0 .long) _ (b26 .pre .2) _ (b18 .pred-at .kept .1 .0) (told-marks (b26 .args .set .n) (unshifted (b26 .args .set .n) (y .guard) (y .value) (y .element)) _ _ _ _ _ (unshifted-read y (b26 .pre .0 .short) _ _ (b26 .pre .1)) (told-plain _ _ _ _ _ _ _ _ (omega arith) (omega arith) (b18 .pred-at .ensures))) (b11 .write-body .result .table) _ _ _ (b11 .write-body .ensures y)) .same) at (b2 .fill-body .ensures .1 ((row-fills y (b26 .pre .0 .short) _ _ (b26 .pre .1) (b26 .args .row-marks .now) (b26 .pre .0 .long) _ (b26 .pre .2) _ (b18 .pred-at .kept .1 .0) (told-marks (b26 .args .set .n) (unshifted (b26 .args .set .n) (y .guard) (y .value) (y .element)) _ _ _ _ _ (unshifted-read y (b26 .pre .0 .short) _ _ (b26 .pre .1)) (told-plain _ _ _ _ _ _ _ _ (omega arith) (omega arith) (b18 .pred-at .ensures))) (b11 .write-body .result .table) _ _ _ (b11 .write-body .ensures y)) .filling)))
+    let b2 = c .before .before in let b11 = b2 .before .before .before .before .before .before .before .before .before in let b18 = b11 .before .before .before .before .before .before .before in let b26 = b18 .before .before .before .before .before .before .before .before in (
+      λ y. let w = row-fills y (b26 .pre .0 .short) _ _ (b26 .pre .1) (b26 .args .row-marks .now) (b26 .pre .0 .long) _ (b26 .pre .2) _ (b18 .pred-at .kept .1 .0) (told-marks (b26 .args .set .n) (unshifted (b26 .args .set .n) (y .guard) (y .value) (y .element)) _ _ _ _ _ (unshifted-read y (b26 .pre .0 .short) _ _ (b26 .pre .1)) (told-plain _ _ _ _ _ _ _ _ (omega arith) (omega arith) (b18 .pred-at .ensures))) (b11 .write-body .result .table) _ _ _ (b11 .write-body .ensures y) in rw (w .same) at (b2 .fill-body .ensures .0 (w .filling)),
+      λ y. let w = row-fills y (b26 .pre .0 .short) _ _ (b26 .pre .1) (b26 .args .row-marks .now) (b26 .pre .0 .long) _ (b26 .pre .2) _ (b18 .pred-at .kept .1 .0) (told-marks (b26 .args .set .n) (unshifted (b26 .args .set .n) (y .guard) (y .value) (y .element)) _ _ _ _ _ (unshifted-read y (b26 .pre .0 .short) _ _ (b26 .pre .1)) (told-plain _ _ _ _ _ _ _ _ (omega arith) (omega arith) (b18 .pred-at .ensures))) (b11 .write-body .result .table) _ _ _ (b11 .write-body .ensures y) in rw (w .same) at (b2 .fill-body .ensures .1 (w .filling)),
+    )
 
 pub rewrite-body-spec : {M : Type 1} → statement M
 rewrite-body-spec =

@@ -14,8 +14,8 @@ use Rattle.one_point.specs.declared.sides.Replacement.the-variants.{Not}
 use Rattle.one_point.proofs.PartsLaws.{some-words}
 use Rattle.one_point.proofs.ScanLaws.{fits}
 use Rattle.one_point.proofs.RebuildLaws.{not-at, implies-at}
-use Rattle.one_point.proofs.BecameLaws.{not-gone, not-became, not-room}
-use Rattle.one_point.proofs.ImpliesLaws.{left-room, right-alone, both-left, left-alone}
+use Rattle.one_point.proofs.BecameLaws.{child-room, not-gone, not-became}
+use Rattle.one_point.proofs.ImpliesLaws.{right-alone, both-left, left-alone}
 use Rattle.one_point.proofs.ChildrenLaws.{kid-of, kids-none, kids-copied}
 use Rattle.one_point.proofs.JunctionLaws.{child-passed, child-taken, child-next, child-ends, search-over, one-at-most}
 use Rattle.one_point.proofs.NodeLaws.{junction-at, junction-done, kids-end, next-copied, next-scanned, role-and, role-or, other-at, no-entry, no-entry-below, kids-anew, kids-room, start-low, start-pos, start-end, right-told}
@@ -158,7 +158,7 @@ scan-implies-returns : (t : ℕ) → scan-implies-lts.Need-returns (scan-implies
 scan-implies-returns t c = let b3 = c .before .before .before in let b8 = b3 .before .before .before .before .before in let b12 = b8 .before .before .before .before in let r = b12 .pre .1 .0 in let i = fits (b12 .args .row .now) (b12 .args .depth) (b12 .args .at) (r .form) (r .is) in let s = some-words (r .form) in let m = r .room in let g = r .deep in let x = implies-at (b12 .args .row .now) (b12 .args .at) (b12 .args .depth) (r .form) (r .is) (b12 .pre .1 .2) in let l = x .words in let e = x .deep in let low : b12 .args .pos + 1 ≤ length (b12 .args .out .now) = omega arith in λ f e. let y = implies-at (b12 .args .row .now) (b12 .args .at) (b12 .args .depth) f e (b12 .pre .1 .2) in right-alone (b12 .args .row .now) (b12 .args .at) (b12 .args .n) (b12 .args .pos) f (y .left) (y .right) (y .is) (y .words) (b12 .args .out .now) _ _ low _ _ (b8 .scan-pred .ensures (y .left) (y .left-stands)) _ (right-told (b12 .args .row .now) (b12 .args .at) _ (b12 .args .n) _ 0 _ (y .left) (y .right) _ _ _ _ _ (b8 .scan-pred .ensures (y .left) (y .left-stands)) (b3 .scan-next .ensures) (y .right-stands)) (c .if1 .taken) (start-pos _ _ _ _ (b3 .before .before .start-of .ensures) (c .if1 .taken))
 
 scan-implies-finish-not-requires : (t : ℕ) → scan-implies-lts.Need-finish-not-requires (scan-implies-calls t) (scan-implies-at t) scan-implies.Post
-scan-implies-finish-not-requires t c κs = let b5 = c .before .before .before .before .before in let b10 = b5 .before .before .before .before .before in let b14 = b10 .before .before .before .before in let r = b14 .pre .1 .0 in let i = fits (b14 .args .row .now) (b14 .args .depth) (b14 .args .at) (r .form) (r .is) in let s = some-words (r .form) in let m = r .room in let g = r .deep in let x = implies-at (b14 .args .row .now) (b14 .args .at) (b14 .args .depth) (r .form) (r .is) (b14 .pre .1 .2) in let l = x .words in let e = x .deep in let low : b14 .args .pos + 1 ≤ length (b14 .args .out .now) = omega arith in let h = left-room (b14 .args .row .now) (b14 .args .at) (b14 .args .n) (b14 .args .pos) (r .form) (x .left) (x .right) (x .is) (x .words) (b14 .args .out .now) _ (b14 .args .out .now) low _ (b5 .scan-next .result) (b10 .scan-pred .ensures (x .left) (x .left-stands)) (c .before .before .if1 .left) in let k = b5 .scan-next .kept .1 .1 .1 .1 .1 .0 in omega arith
+scan-implies-finish-not-requires t c κs = let b5 = c .before .before .before .before .before in let b10 = b5 .before .before .before .before .before in let b14 = b10 .before .before .before .before in let r = b14 .pre .1 .0 in let i = fits (b14 .args .row .now) (b14 .args .depth) (b14 .args .at) (r .form) (r .is) in let s = some-words (r .form) in let m = r .room in let g = r .deep in let x = implies-at (b14 .args .row .now) (b14 .args .at) (b14 .args .depth) (r .form) (r .is) (b14 .pre .1 .2) in let l = x .words in let e = x .deep in let low : b14 .args .pos + 1 ≤ length (b14 .args .out .now) = omega arith in let h = child-room (b14 .args .pos) (rw (length-set (b14 .args .out .now) (b14 .args .pos) 251) low) (b10 .scan-pred .ensures (x .left) (x .left-stands)) (c .before .before .if1 .left) in let k = b5 .scan-next .kept .1 .1 .1 .1 .1 .0 in omega arith
 
 scan-implies-same-length-2 : (t : ℕ) → scan-implies-lts.Need-same-length-2 (scan-implies-calls t) (scan-implies-at t) scan-implies.Post
 scan-implies-same-length-2 t c = let b8 = c .before .before .before .before .before .before .before .before in let b13 = b8 .before .before .before .before .before in c .before .before .finish-not .kept .0 ∙ b8 .scan-next .kept .1 .1 .1 .1 .1 .0 ∙ (simp length-set at (b13 .scan-pred .kept .1 .1 .1 .1 .1 .0))
@@ -260,7 +260,7 @@ scan-not-returns : (t : ℕ) → scan-not-lts.Need-returns (scan-not-calls t) (s
 scan-not-returns t c = let b3 = c .before .before .before in let b7 = b3 .before .before .before .before in let r = b7 .pre .1 .0 in let i = fits (b7 .args .row .now) (b7 .args .depth) (b7 .args .at) (r .form) (r .is) in let s = some-words (r .form) in let m = r .room in let g = r .deep in let x = not-at (b7 .args .row .now) (b7 .args .at) (b7 .args .depth) (r .form) (r .is) (b7 .pre .1 .2) in let l = x .words in let e = x .deep in let low : b7 .args .pos + 1 ≤ length (b7 .args .out .now) = omega arith in λ f e. let y = not-at (b7 .args .row .now) (b7 .args .at) (b7 .args .depth) f e (b7 .pre .1 .2) in not-gone (b7 .args .row .now) (b7 .args .at) (b7 .args .n) (b7 .args .pos) (b7 .args .positive) f (y .child) (y .is) (y .words) (b7 .args .out .now) _ low _ (b3 .scan-pred .ensures (y .child) (y .stands)) (c .if1 .taken)
 
 scan-not-finish-not-requires : (t : ℕ) → scan-not-lts.Need-finish-not-requires (scan-not-calls t) (scan-not-at t) scan-not.Post
-scan-not-finish-not-requires t c κs = let b4 = c .before .before .before .before in let b8 = b4 .before .before .before .before in let r = b8 .pre .1 .0 in let i = fits (b8 .args .row .now) (b8 .args .depth) (b8 .args .at) (r .form) (r .is) in let s = some-words (r .form) in let m = r .room in let g = r .deep in let x = not-at (b8 .args .row .now) (b8 .args .at) (b8 .args .depth) (r .form) (r .is) (b8 .pre .1 .2) in let l = x .words in let e = x .deep in let low : b8 .args .pos + 1 ≤ length (b8 .args .out .now) = omega arith in not-room (b8 .args .row .now) (b8 .args .at) (b8 .args .n) (b8 .args .pos) (b8 .args .positive) (r .form) (x .child) (x .is) (x .words) (b8 .args .out .now) _ low _ (b4 .scan-pred .ensures (x .child) (x .stands)) (c .before .if1 .left)
+scan-not-finish-not-requires t c κs = let b4 = c .before .before .before .before in let b8 = b4 .before .before .before .before in let r = b8 .pre .1 .0 in let i = fits (b8 .args .row .now) (b8 .args .depth) (b8 .args .at) (r .form) (r .is) in let s = some-words (r .form) in let m = r .room in let g = r .deep in let x = not-at (b8 .args .row .now) (b8 .args .at) (b8 .args .depth) (r .form) (r .is) (b8 .pre .1 .2) in let l = x .words in let e = x .deep in let low : b8 .args .pos + 1 ≤ length (b8 .args .out .now) = omega arith in child-room (b8 .args .pos) low (b4 .scan-pred .ensures (x .child) (x .stands)) (c .before .if1 .left)
 
 scan-not-same-length-2 : (t : ℕ) → scan-not-lts.Need-same-length-2 (scan-not-calls t) (scan-not-at t) scan-not.Post
 scan-not-same-length-2 t c = c .before .before .finish-not .kept .0 ∙ c .before .before .before .before .before .before .before .scan-pred .kept .1 .1 .1 .1 .1 .0

@@ -1,8 +1,7 @@
 -- `replace::fill::write_head` meets its contract. Assumes nothing.
-use mathlib.Core.Path.{_≡_, refl, sym, ap, _∙_}
 use native.Mathlib.Omega.{arith}
 use borrow.Author.Needs.{needs}
-use lib.ListN.{length, getD, drop, length-set}
+use lib.ListN.{getD, drop, length-set}
 use Rattle.replace.specs.Internal.Pieces.{keptWords}
 use Rattle.replace.proofs.NameLaws.{head-none, head-some, kept-short}
 use Rattle.replace.proofs.fill.write_head.Statement.{statement}

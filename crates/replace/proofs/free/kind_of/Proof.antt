@@ -1,5 +1,4 @@
 -- `replace::free::kind_of` meets its contract. Assumes nothing.
-use mathlib.Core.Path.{_≡_, refl, sym, ap, _∙_}
 use borrow.Author.Needs.{needs}
 use Rattle.replace.proofs.free.kind_of.Statement.{statement}
 use Rattle.replace.proofs.free.kind_of.Tie as tie

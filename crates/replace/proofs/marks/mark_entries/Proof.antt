@@ -1,6 +1,4 @@
 -- `replace::marks::mark_entries` meets its contract. Assumes nothing.
-use mathlib.Core.Path.{_≡_, refl, sym, ap, _∙_}
-use native.Mathlib.Omega.{arith}
 use borrow.Author.Needs.{needs}
 use Rattle.replace.proofs.MarkLaws.{entries-front}
 use Rattle.replace.proofs.marks.mark_entries.Statement.{statement}

@@ -1,5 +1,5 @@
 -- `replace::pieces::one_if` meets its contract. Assumes nothing.
-use mathlib.Core.Path.{_≡_, refl, sym, ap, _∙_}
+use mathlib.Core.Path.{sym}
 use Rattle.replace.proofs.PieceLaws.{filled-zero, filled-one}
 use Rattle.replace.proofs.pieces.one_if.Statement.{statement}
 use Rattle.replace.proofs.pieces.one_if.Tie as tie

@@ -1,5 +1,4 @@
 -- `replace::pieces::piece_size` meets its contract. Assumes nothing.
-use mathlib.Core.Path.{_≡_, refl, sym, ap, _∙_}
 use native.Mathlib.Omega.{arith}
 use borrow.Author.Needs.{needs}
 use Rattle.replace.specs.Internal.Pieces.{pieceSize}

@@ -1,5 +1,5 @@
 -- `replace::prune::remove_unused_decls` meets its contract. Assumes nothing.
-use mathlib.Core.Path.{_≡_, refl, sym, ap, _∙_}
+use mathlib.Core.Path.{refl}
 use borrow.Author.Needs.{needs}
 use Rattle.subst.proofs.CheckedLaws.{refused}
 use Rattle.replace.proofs.PruneLaws.{prune-long}

@@ -1,6 +1,5 @@
 -- `subst::bind::bind_in` meets its contract. Assumes nothing.
 use mathlib.Core.Path.{refl, sym, _∙_}
-use native.Mathlib.Omega.{arith}
 use Rattle.subst.proofs.ItemLaws.{not-yes, not-no}
 use Rattle.subst.proofs.CheckedLaws.{refused, passed, is-missing, checked-fresh}
 use Rattle.subst.proofs.BindLaws.{good-few, bind-missing, bind-long, bind-names, bind-row}

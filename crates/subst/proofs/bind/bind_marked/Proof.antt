@@ -1,6 +1,5 @@
 -- `subst::bind::bind_marked` meets its contract. Assumes nothing.
 use mathlib.Core.Path.{refl}
-use native.Mathlib.Omega.{arith}
 use Rattle.subst.specs.Internal.Binding.{bindWords}
 use Rattle.subst.proofs.ItemLaws.{not-yes, not-no}
 use Rattle.subst.proofs.CheckedLaws.{refused}

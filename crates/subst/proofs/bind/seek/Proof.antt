@@ -1,9 +1,8 @@
 -- `subst::bind::seek` meets its contract. Assumes nothing.
-use mathlib.Core.Path.{_≡_, refl, sym, ap, _∙_}
+use mathlib.Core.Path.{_≡_, refl, sym, _∙_}
 use native.Mathlib.Omega.{arith}
-use Prim.Native.Nat.{_-_, _≤_}
+use Prim.Native.Nat.{_-_}
 use lib.ListN.{length, drop}
-use borrow.Author.Needs.{needs}
 use Rattle.subst.specs.Internal.Binding.{seekName}
 use Rattle.subst.proofs.BindLaws.{seek-here, seek-on, seek-end}
 use Rattle.subst.proofs.bind.seek.Statement.{statement}

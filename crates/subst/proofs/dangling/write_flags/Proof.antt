@@ -1,9 +1,8 @@
 -- `subst::dangling::write_flags` meets its contract. Assumes nothing.
-use mathlib.Core.Path.{_≡_, refl, sym, ap, _∙_}
+use mathlib.Core.Path.{_≡_, refl, sym, _∙_}
 use native.Mathlib.Omega.{arith}
-use Prim.Native.Nat.{_+_, _-_, _≤_}
+use Prim.Native.Nat.{_-_, _≤_}
 use lib.ListN.{length, drop}
-use borrow.Author.Needs.{needs}
 use lib.ListN.{getD}
 use Rattle.subst.specs.Internal.Flags.{selected}
 use Rattle.subst.specs.Internal.Items.{store}

@@ -1,5 +1,5 @@
 -- `subst::shift::shift_in` meets its contract. Assumes nothing.
-use mathlib.Core.Path.{refl, sym, ap, _∙_}
+use mathlib.Core.Path.{refl, ap, _∙_}
 use Rattle.subst.specs.Internal.Items.{upBy, downBy}
 use Rattle.subst.proofs.SignedLaws.{back}
 use Rattle.subst.proofs.CheckedLaws.{refused, passed, is-missing, checked-fresh}

@@ -1,8 +1,7 @@
 -- `tree::tag::expr_shape` meets its contract. Each return is on an interval of tags that no range of the table cuts. Assumes nothing.
 use native.Mathlib.Omega.{arith}
 use Rattle.tree.specs.Tag.{exprTags}
-use Rattle.tree.proofs.Ranges.{expr-on, split}
-use mathlib.Core.Logic.{⊎-elim}
+use Rattle.tree.proofs.Ranges.{expr-on}
 use Rattle.tree.proofs.tag.expr_shape.Statement.{statement}
 use Rattle.tree.proofs.tag.expr_shape.Tie as tie
 use Rattle.tree.proofs.tag.expr_shape.Reads as reads
