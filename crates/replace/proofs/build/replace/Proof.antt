@@ -48,7 +48,7 @@ slice-aggregate-replace-in-4 : tie.Need-slice-aggregate-replace-in-4
 slice-aggregate-replace-in-4 c = search needs
 
 replace-in-requires : tie.Need-replace-in-requires
-replace-in-requires c κs = (c .before .before .before .before .before .before .before .before .before .before .before .before .before .before .before .before .before .before .before .before .before .before .pre, (ap (λ (z : ℕ). length (c .before .before .before .before .before .before .before .before .before .before .before .before .before .before .before .before .before .before .before .before .before .before .args .head .now) + z) (capped-low _ _ (c .before .before .before .before .before .before .before .before .words-needed .ensures) (c .before .before .before .before .before .before .before .if1 .left)), omega arith))
+replace-in-requires c κs = let b7 = c .before .before .before .before .before .before .before in let b22 = b7 .before .before .before .before .before .before .before .before .before .before .before .before .before .before .before in (b22 .pre, (ap (λ (z : ℕ). length (b22 .args .head .now) + z) (capped-low _ _ (b7 .before .words-needed .ensures) (b7 .if1 .left)), omega arith))
 
 same-length : tie.Need-same-length
 same-length c = search needs
@@ -69,7 +69,7 @@ slice-aggregate-replace-in-8 : tie.Need-slice-aggregate-replace-in-8
 slice-aggregate-replace-in-8 c = search needs
 
 replace-in-requires-2 : tie.Need-replace-in-requires-2
-replace-in-requires-2 c κs = (c .before .before .before .before .before .before .before .before .before .before .before .before .before .before .before .before .before .before .before .before .before .before .before .pre, (ap (λ (z : ℕ). length (c .before .before .before .before .before .before .before .before .before .before .before .before .before .before .before .before .before .before .before .before .before .before .before .args .head .now) + z) (capped-low _ _ (c .before .before .before .before .before .before .before .before .before .words-needed .ensures) (c .before .before .before .before .before .before .before .before .if1 .left)), omega arith))
+replace-in-requires-2 c κs = let b8 = c .before .before .before .before .before .before .before .before in let b23 = b8 .before .before .before .before .before .before .before .before .before .before .before .before .before .before .before in (b23 .pre, (ap (λ (z : ℕ). length (b23 .args .head .now) + z) (capped-low _ _ (b8 .before .words-needed .ensures) (b8 .if1 .left)), omega arith))
 
 same-length-2 : tie.Need-same-length-2
 same-length-2 c = search needs
@@ -90,7 +90,7 @@ slice-aggregate-replace-in-12 : tie.Need-slice-aggregate-replace-in-12
 slice-aggregate-replace-in-12 c = search needs
 
 replace-in-requires-3 : tie.Need-replace-in-requires-3
-replace-in-requires-3 c κs = (c .before .before .before .before .before .before .before .before .before .before .before .before .before .before .before .before .before .before .before .before .before .before .before .pre, (ap (λ (z : ℕ). length (c .before .before .before .before .before .before .before .before .before .before .before .before .before .before .before .before .before .before .before .before .before .before .before .args .head .now) + z) (capped-low _ _ (c .before .before .before .before .before .before .before .before .before .words-needed .ensures) (c .before .before .before .before .before .before .before .before .if1 .left)), omega arith))
+replace-in-requires-3 c κs = let b8 = c .before .before .before .before .before .before .before .before in let b23 = b8 .before .before .before .before .before .before .before .before .before .before .before .before .before .before .before in (b23 .pre, (ap (λ (z : ℕ). length (b23 .args .head .now) + z) (capped-low _ _ (b8 .before .words-needed .ensures) (b8 .if1 .left)), omega arith))
 
 same-length-3 : tie.Need-same-length-3
 same-length-3 c = search needs

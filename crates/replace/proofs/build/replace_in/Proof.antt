@@ -34,7 +34,7 @@ same-length-2 : tie.Need-same-length-2
 same-length-2 c = search needs
 
 returns : tie.Need-returns
-returns c = passed _ _ _ _ _ (built-row _ _ _ _ _ _ _ (c .before .before .before .before .before .before .before .before .before .before .before .before .before .before .before .before .before .before .before .before .before .before .before .pre .0 .in-row) _ _ _ _ _ (c .before .before .before .before .before .before .before .before .before .before .before .copy .ensures) (c .before .before .before .before .before .before .before .write-pieces .ensures) (c .before .before .before .before .before .before .before .before .before .before .before .before .before .before .before .before .before .before .before .before .before .before .before .pre .1 .0) (c .before .before .before .before .before .before .before .before .before .before .before .before .before .before .before .before .before .before .before .before .before .before .before .pre .1 .1)) (c .before .before .emit .ensures)
+returns c = let b7 = c .before .before .before .before .before .before .before in let b11 = b7 .before .before .before .before in let b23 = b11 .before .before .before .before .before .before .before .before .before .before .before .before in passed _ _ _ _ _ (built-row _ _ _ _ _ _ _ (b23 .pre .0 .in-row) _ _ _ _ _ (b11 .copy .ensures) (b7 .write-pieces .ensures) (b23 .pre .1 .0) (b23 .pre .1 .1)) (c .before .before .emit .ensures)
 
 pub replace-in-spec : {M : Type 1} → statement M
 replace-in-spec =

@@ -22,7 +22,7 @@ part-fill-with-end : tie.Need-part-fill-with-end
 part-fill-with-end c = search needs
 
 fill-with-requires : tie.Need-fill-with-requires
-fill-with-requires c κs = (let h : Ready (fillPlan (c .before .before .before .before .before .before .args .table)) (c .before .before .before .before .before .before .args .list .now) (take (length (c .before .before .before .before .before .before .args .work .now) - 8192) (drop 8192 (c .before .before .before .before .before .before .args .work .now))) = rw (rest-part (c .before .before .before .before .before .before .args .work .now) 8192) (c .before .before .before .before .before .before .pre .1 .0) in h, c .before .before .before .before .before .before .pre .1 .1)
+fill-with-requires c κs = let b6 = c .before .before .before .before .before .before in (let h : Ready (fillPlan (b6 .args .table)) (b6 .args .list .now) (take (length (b6 .args .work .now) - 8192) (drop 8192 (b6 .args .work .now))) = rw (rest-part (b6 .args .work .now) 8192) (b6 .pre .1 .0) in h, b6 .pre .1 .1)
 
 same-length : tie.Need-same-length
 same-length c = search needs

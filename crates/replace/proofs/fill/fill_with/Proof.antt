@@ -20,22 +20,22 @@ array-share-prefix-words : tie.Need-array-share-prefix-words
 array-share-prefix-words c = search needs
 
 slice-aggregate-filled-from : tie.Need-slice-aggregate-filled-from
-slice-aggregate-filled-from c = sym (length-take-le _ _ (let a = c .before .before .before .before .before .before .before .pre .0 .tabled .few in let b = c .before .before .before .before .before .before .before .pre .0 .tabled .words in let h : c .before .before .before .before .before .before .before .args .table .n ≤ length (c .before .before .before .before .before .before .before .args .table .words) = omega arith in h))
+slice-aggregate-filled-from c = let b7 = c .before .before .before .before .before .before .before in sym (length-take-le _ _ (let a = b7 .pre .0 .tabled .few in let b = b7 .pre .0 .tabled .words in let h : b7 .args .table .n ≤ length (b7 .args .table .words) = omega arith in h))
 
 filled-from-requires : tie.Need-filled-from-requires
-filled-from-requires c κs = let l = length-take-le (c .before .before .before .before .before .before .before .args .table .n) (c .before .before .before .before .before .before .before .args .table .words) (let a = c .before .before .before .before .before .before .before .pre .0 .tabled .few in let b = c .before .before .before .before .before .before .before .pre .0 .tabled .words in let h : c .before .before .before .before .before .before .before .args .table .n ≤ length (c .before .before .before .before .before .before .before .args .table .words) = omega arith in h) in let a = c .before .before .before .before .before .before .before .pre .0 .tabled .few in let b = c .before .before .before .before .before .before .before .pre .1 in let z : length (take (c .before .before .before .before .before .before .before .args .table .n) (c .before .before .before .before .before .before .before .args .table .words)) ≤ 32 = omega arith in z
+filled-from-requires c κs = let b7 = c .before .before .before .before .before .before .before in let l = length-take-le (b7 .args .table .n) (b7 .args .table .words) (let a = b7 .pre .0 .tabled .few in let b = b7 .pre .0 .tabled .words in let h : b7 .args .table .n ≤ length (b7 .args .table .words) = omega arith in h) in let a = b7 .pre .0 .tabled .few in let b = b7 .pre .1 in let z : length (take (b7 .args .table .n) (b7 .args .table .words)) ≤ 32 = omega arith in z
 
 array-share-prefix-words-2 : tie.Need-array-share-prefix-words-2
 array-share-prefix-words-2 c = search needs
 
 slice-aggregate-write-head : tie.Need-slice-aggregate-write-head
-slice-aggregate-write-head c = sym (length-take-le _ _ (let a = c .before .before .before .before .before .before .before .before .before .pre .0 .tabled .few in let b = c .before .before .before .before .before .before .before .before .before .pre .0 .tabled .words in let h : c .before .before .before .before .before .before .before .before .before .args .table .n ≤ length (c .before .before .before .before .before .before .before .before .before .args .table .words) = omega arith in h))
+slice-aggregate-write-head c = let b9 = c .before .before .before .before .before .before .before .before .before in sym (length-take-le _ _ (let a = b9 .pre .0 .tabled .few in let b = b9 .pre .0 .tabled .words in let h : b9 .args .table .n ≤ length (b9 .args .table .words) = omega arith in h))
 
 slice-aggregate-write-head-2 : tie.Need-slice-aggregate-write-head-2
 slice-aggregate-write-head-2 c = search needs
 
 write-head-requires : tie.Need-write-head-requires
-write-head-requires c κs = let l = length-take-le (c .before .before .before .before .before .before .before .before .before .before .args .table .n) (c .before .before .before .before .before .before .before .before .before .before .args .table .words) (let a = c .before .before .before .before .before .before .before .before .before .before .pre .0 .tabled .few in let b = c .before .before .before .before .before .before .before .before .before .before .pre .0 .tabled .words in let h : c .before .before .before .before .before .before .before .before .before .before .args .table .n ≤ length (c .before .before .before .before .before .before .before .before .before .before .args .table .words) = omega arith in h) in let a = c .before .before .before .before .before .before .before .before .before .before .pre .0 .tabled .few in let b = c .before .before .before .before .before .before .before .before .before .before .pre .1 in let x : 2 + length (take (c .before .before .before .before .before .before .before .before .before .before .args .table .n) (c .before .before .before .before .before .before .before .before .before .before .args .table .words)) ≤ length (c .before .before .before .before .before .before .before .before .before .before .args .row .now) = omega arith in let y : 2 + length (take (c .before .before .before .before .before .before .before .before .before .before .args .table .n) (c .before .before .before .before .before .before .before .before .before .before .args .table .words)) ≤ 34 = omega arith in let z : length (take (c .before .before .before .before .before .before .before .before .before .before .args .table .n) (c .before .before .before .before .before .before .before .before .before .before .args .table .words)) ≤ 32 = omega arith in (x, (y, z))
+write-head-requires c κs = let b10 = c .before .before .before .before .before .before .before .before .before .before in let l = length-take-le (b10 .args .table .n) (b10 .args .table .words) (let a = b10 .pre .0 .tabled .few in let b = b10 .pre .0 .tabled .words in let h : b10 .args .table .n ≤ length (b10 .args .table .words) = omega arith in h) in let a = b10 .pre .0 .tabled .few in let b = b10 .pre .1 in let x : 2 + length (take (b10 .args .table .n) (b10 .args .table .words)) ≤ length (b10 .args .row .now) = omega arith in let y : 2 + length (take (b10 .args .table .n) (b10 .args .table .words)) ≤ 34 = omega arith in let z : length (take (b10 .args .table .n) (b10 .args .table .words)) ≤ 32 = omega arith in (x, (y, z))
 
 array-share-prefix-head : tie.Need-array-share-prefix-head
 array-share-prefix-head c = search needs

@@ -38,7 +38,7 @@ same-length-2 : tie.Need-same-length-2
 same-length-2 c = search needs
 
 returns-2 : tie.Need-returns-2
-returns-2 c = (let f = kept-short (c .before .before .before .before .before .before .before .before .before .args .words .now) (drop 2 (c .before .before .before .before .before .before .before .before .before .args .row .now)) in let e = c .before .before .before .before .write-names .ensures .0 in omega arith, head-some _ _ (keptWords (c .before .before .before .before .before .before .before .before .before .args .words .now) (drop 2 (c .before .before .before .before .before .before .before .before .before .args .row .now))) (c .before .before .before .before .before .before .before .before .before .args .head .now) _ (let f = kept-short (c .before .before .before .before .before .before .before .before .before .args .words .now) (drop 2 (c .before .before .before .before .before .before .before .before .before .args .row .now)) in let e = c .before .before .before .before .write-names .ensures .0 in omega arith) (c .before .before .before .before .write-names .ensures .1) (c .before .before .before .before .write-names .ensures .0) (c .before .if1 .left))
+returns-2 c = let b4 = c .before .before .before .before in let b9 = b4 .before .before .before .before .before in (let f = kept-short (b9 .args .words .now) (drop 2 (b9 .args .row .now)) in let e = b4 .write-names .ensures .0 in omega arith, head-some _ _ (keptWords (b9 .args .words .now) (drop 2 (b9 .args .row .now))) (b9 .args .head .now) _ (let f = kept-short (b9 .args .words .now) (drop 2 (b9 .args .row .now)) in let e = b4 .write-names .ensures .0 in omega arith) (b4 .write-names .ensures .1) (b4 .write-names .ensures .0) (c .before .if1 .left))
 
 pub write-head-spec : {M : Type 1} → statement M
 write-head-spec =

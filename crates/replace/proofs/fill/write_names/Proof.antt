@@ -46,7 +46,7 @@ loop-less : tie.Need-loop-less Inv-loop μ-loop
 loop-less c = omega arith
 
 loop-again : tie.Need-loop-again Inv-loop μ-loop
-loop-again c = (c .before .before .before .before .before .before .before .loop .inv .0 ∙ names-more (c .before .before .before .before .before .before .before .before .before .before .before .args .words .now) (c .before .before .before .before .before .before .before .before .before .before .before .args .row .now) _ (c .before .before .before .before .before .before .loop-test .taken) (c .before .before .before .before .before .before .before .before .before .before .before .pre .0) _ _ _ _ (c .before .before .put-kept .ensures .1) (c .before .before .put-kept .ensures .0), c .before .before .before .before .before .before .before .loop .inv .1 ∙ names-long (c .before .before .before .before .before .before .before .before .before .before .before .args .words .now) (c .before .before .before .before .before .before .before .before .before .before .before .args .row .now) _ (c .before .before .before .before .before .before .loop-test .taken) (c .before .before .before .before .before .before .before .before .before .before .before .pre .0) _ _ (c .before .before .put-kept .ensures .0), let f = kept-few (getD (c .before .before .before .before .before .before .before .before .before .before .before .args .words .now) (c .before .before .before .before .before .before .before .loop .i) 0) (getD (c .before .before .before .before .before .before .before .before .before .before .before .args .row .now) (c .before .before .before .before .before .before .before .loop .i + 2) 0) in let e = c .before .before .put-kept .ensures .0 in omega arith, c .before .before .put-kept .kept .0 ∙ c .before .before .before .before .before .before .before .loop .inv .3)
+loop-again c = let b6 = c .before .before .before .before .before .before in let b11 = b6 .before .before .before .before .before in (b6 .before .loop .inv .0 ∙ names-more (b11 .args .words .now) (b11 .args .row .now) _ (b6 .loop-test .taken) (b11 .pre .0) _ _ _ _ (c .before .before .put-kept .ensures .1) (c .before .before .put-kept .ensures .0), b6 .before .loop .inv .1 ∙ names-long (b11 .args .words .now) (b11 .args .row .now) _ (b6 .loop-test .taken) (b11 .pre .0) _ _ (c .before .before .put-kept .ensures .0), let f = kept-few (getD (b11 .args .words .now) (b6 .before .loop .i) 0) (getD (b11 .args .row .now) (b6 .before .loop .i + 2) 0) in let e = c .before .before .put-kept .ensures .0 in omega arith, c .before .before .put-kept .kept .0 ∙ b6 .before .loop .inv .3)
 
 same-length : tie.Need-same-length Inv-loop μ-loop
 same-length c = c .before .loop .inv .3

@@ -28,7 +28,7 @@ part-replace-end : tie.Need-part-replace-end
 part-replace-end c = search needs
 
 replace-requires : tie.Need-replace-requires
-replace-requires c κs = let h : Ready (freePlan (c .before .before .before .before .before .before .before .before .args .table)) (c .before .before .before .before .before .before .before .before .args .list .now) (take (length (c .before .before .before .before .before .before .before .before .args .work .now) - 8192) (drop 8192 (c .before .before .before .before .before .before .before .before .args .work .now))) = rw (rest-part (c .before .before .before .before .before .before .before .before .args .work .now) 8192) (c .before .before .before .before .before .before .before .before .pre .1) in h
+replace-requires c κs = let b8 = c .before .before .before .before .before .before .before .before in let h : Ready (freePlan (b8 .args .table)) (b8 .args .list .now) (take (length (b8 .args .work .now) - 8192) (drop 8192 (b8 .args .work .now))) = rw (rest-part (b8 .args .work .now) 8192) (b8 .pre .1) in h
 
 same-length : tie.Need-same-length
 same-length c = search needs

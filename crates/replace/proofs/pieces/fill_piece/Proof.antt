@@ -44,13 +44,13 @@ shared-slice-read-if3 : tie.Need-shared-slice-read-if3
 shared-slice-read-if3 c = search needs
 
 slice-aggregate-filled-from : tie.Need-slice-aggregate-filled-from
-slice-aggregate-filled-from c = sym (used-first (planFor (c .before .before .before .before .before .before .before .before .before .args .rule) (c .before .before .before .before .before .before .before .before .before .args .words .now) (c .before .before .before .before .before .before .before .before .before .args .starts .now) (c .before .before .before .before .before .before .before .before .before .args .ends .now)) (c .before .before .before .before .before .before .before .before .before .pre))
+slice-aggregate-filled-from c = let b9 = c .before .before .before .before .before .before .before .before .before in sym (used-first (planFor (b9 .args .rule) (b9 .args .words .now) (b9 .args .starts .now) (b9 .args .ends .now)) (b9 .pre))
 
 add-filled-from : tie.Need-add-filled-from
 add-filled-from c = search needs
 
 filled-from-requires : tie.Need-filled-from-requires
-filled-from-requires c κs = used-few (planFor (c .before .before .before .before .before .before .before .before .before .args .rule) (c .before .before .before .before .before .before .before .before .before .args .words .now) (c .before .before .before .before .before .before .before .before .before .args .starts .now) (c .before .before .before .before .before .before .before .before .before .args .ends .now)) (c .before .before .before .before .before .before .before .before .before .pre)
+filled-from-requires c κs = let b9 = c .before .before .before .before .before .before .before .before .before in used-few (planFor (b9 .args .rule) (b9 .args .words .now) (b9 .args .starts .now) (b9 .args .ends .now)) (b9 .pre)
 
 less-requires-3 : tie.Need-less-requires-3
 less-requires-3 c κs = search needs

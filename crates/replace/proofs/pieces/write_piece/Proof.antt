@@ -65,7 +65,7 @@ part-write-part-end-2 c = let h = part-fits (length (c .before .before .before .
 
 write-part-requires : tie.Need-write-part-requires
 unfolding part
-write-part-requires c κs = let h = part-fits (length (c .before .before .before .before .before .before .before .before .before .args .list .now)) (c .before .before .before .before .before .before .before .before .before .pre .0) (c .before .before .before .before .piece2 .given .1) in let a = h .0 in let b = h .1 in let l = part-length _ _ (c .before .before .before .before .before .before .before .before .before .args .list .now) a b in let z = part-size (c .before .before .before .before .before .before .before .before .before .args .it) (c .before .before .before .before .piece2 .given .1) in omega arith
+write-part-requires c κs = let b4 = c .before .before .before .before in let b9 = b4 .before .before .before .before .before in let h = part-fits (length (b9 .args .list .now)) (b9 .pre .0) (b4 .piece2 .given .1) in let a = h .0 in let b = h .1 in let l = part-length _ _ (b9 .args .list .now) a b in let z = part-size (b9 .args .it) (b4 .piece2 .given .1) in omega arith
 
 same-length : tie.Need-same-length
 same-length c = search needs

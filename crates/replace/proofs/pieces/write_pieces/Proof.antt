@@ -49,28 +49,28 @@ loop-less : tie.Need-loop-less Inv-loop μ-loop
 loop-less c = let s = size-in _ (c .before .before .before .before .before .before .before .before .before .before .before .before .before .before .before .before .before .args .marks .now) _ (c .before .before .before .before .before .before .before .loop-test .taken) (c .before .before .before .before .before .before .item-at .ensures) in let e = plain-step (c .before .before .before .before .enum-told .given .1) in omega arith
 
 loop-again : tie.Need-loop-again Inv-loop μ-loop
-loop-again c = (c .before .before .before .before .before .before .before .before .loop .inv .0 ∙ (store-next (c .before .before .before .before .before .before .before .before .before .before .before .before .before .before .before .before .before .args .row .now) (c .before .before .before .before .before .before .before .before .before .before .before .before .before .before .before .before .before .args .marks .now) _ (c .before .before .before .before .before .before .before .loop-test .taken) (c .before .before .before .before .before .before .item-at .ensures) (planned (planFor (c .before .before .before .before .before .before .before .before .before .before .before .before .before .before .before .before .before .args .rule) (c .before .before .before .before .before .before .before .before .before .before .before .before .before .before .before .before .before .args .words .now) (c .before .before .before .before .before .before .before .before .before .before .before .before .before .before .before .before .before .args .starts .now) (c .before .before .before .before .before .before .before .before .before .before .before .before .before .before .before .before .before .args .ends .now)) (c .before .before .before .before .before .before .before .before .before .before .before .before .before .before .before .before .before .args .list .now) (c .before .before .before .before .before .before .before .before .before .before .before .before .before .before .before .before .before .args .list-marks .now)) _ _ _ (c .before .before .before .before .before .before .before .before .loop .p + 1) (rw (plain-words (c .before .before .before .before .enum-told .given .1) (planFor (c .before .before .before .before .before .before .before .before .before .before .before .before .before .before .before .before .before .args .rule) (c .before .before .before .before .before .before .before .before .before .before .before .before .before .before .before .before .before .args .words .now) (c .before .before .before .before .before .before .before .before .before .before .before .before .before .before .before .before .before .args .starts .now) (c .before .before .before .before .before .before .before .before .before .before .before .before .before .before .before .before .before .args .ends .now)) (c .before .before .before .before .before .before .before .before .before .before .before .before .before .before .before .before .before .args .list .now) (c .before .before .before .before .before .before .before .before .before .before .before .before .before .before .before .before .before .args .list-marks .now)) at (c .before .before .put-item .ensures)) (ap (λ (n : ℕ). c .before .before .before .before .before .before .before .before .loop .p + n) (planned-size (planFor (c .before .before .before .before .before .before .before .before .before .before .before .before .before .before .before .before .before .args .rule) (c .before .before .before .before .before .before .before .before .before .before .before .before .before .before .before .before .before .args .words .now) (c .before .before .before .before .before .before .before .before .before .before .before .before .before .before .before .before .before .args .starts .now) (c .before .before .before .before .before .before .before .before .before .before .before .before .before .before .before .before .before .args .ends .now)) _ (plain-same (c .before .before .before .before .enum-told .given .1) (planFor (c .before .before .before .before .before .before .before .before .before .before .before .before .before .before .before .before .before .args .rule) (c .before .before .before .before .before .before .before .before .before .before .before .before .before .before .before .before .before .args .words .now) (c .before .before .before .before .before .before .before .before .before .before .before .before .before .before .before .before .before .args .starts .now) (c .before .before .before .before .before .before .before .before .before .before .before .before .before .before .before .before .before .args .ends .now))) (plain-size (c .before .before .before .before .enum-told .given .1)) _ _ (c .before .before .before .before .before .before .before .before .before .before .before .before .before .before .before .before .before .pre .0 .in-row))) ∙ rw (plain-step (c .before .before .before .before .enum-told .given .1))), let z = rw (plain-step (c .before .before .before .before .enum-told .given .1)) at (sizes-step (planFor (c .before .before .before .before .before .before .before .before .before .before .before .before .before .before .before .before .before .args .rule) (c .before .before .before .before .before .before .before .before .before .before .before .before .before .before .before .before .before .args .words .now) (c .before .before .before .before .before .before .before .before .before .before .before .before .before .before .before .before .before .args .starts .now) (c .before .before .before .before .before .before .before .before .before .before .before .before .before .before .before .before .before .args .ends .now)) _ (plain-same (c .before .before .before .before .enum-told .given .1) (planFor (c .before .before .before .before .before .before .before .before .before .before .before .before .before .before .before .before .before .args .rule) (c .before .before .before .before .before .before .before .before .before .before .before .before .before .before .before .before .before .args .words .now) (c .before .before .before .before .before .before .before .before .before .before .before .before .before .before .before .before .before .args .starts .now) (c .before .before .before .before .before .before .before .before .before .before .before .before .before .before .before .before .before .args .ends .now))) (plain-size (c .before .before .before .before .enum-told .given .1)) (c .before .before .before .before .before .before .before .before .before .before .before .before .before .before .before .before .before .args .row .now) (c .before .before .before .before .before .before .before .before .before .before .before .before .before .before .before .before .before .args .marks .now) _ (c .before .before .before .before .before .before .before .loop-test .taken) (c .before .before .before .before .before .before .item-at .ensures)) in let k = c .before .before .put-item .kept .0 in omega arith, c .before .before .put-item .kept .0 ∙ c .before .before .before .before .before .before .before .before .loop .inv .2)
+loop-again c = let b4 = c .before .before .before .before in let b7 = b4 .before .before .before in let b17 = b7 .before .before .before .before .before .before .before .before .before .before in (b7 .before .loop .inv .0 ∙ (store-next (b17 .args .row .now) (b17 .args .marks .now) _ (b7 .loop-test .taken) (b4 .before .before .item-at .ensures) (planned (planFor (b17 .args .rule) (b17 .args .words .now) (b17 .args .starts .now) (b17 .args .ends .now)) (b17 .args .list .now) (b17 .args .list-marks .now)) _ _ _ (b7 .before .loop .p + 1) (rw (plain-words (b4 .enum-told .given .1) (planFor (b17 .args .rule) (b17 .args .words .now) (b17 .args .starts .now) (b17 .args .ends .now)) (b17 .args .list .now) (b17 .args .list-marks .now)) at (c .before .before .put-item .ensures)) (ap (λ (n : ℕ). b7 .before .loop .p + n) (planned-size (planFor (b17 .args .rule) (b17 .args .words .now) (b17 .args .starts .now) (b17 .args .ends .now)) _ (plain-same (b4 .enum-told .given .1) (planFor (b17 .args .rule) (b17 .args .words .now) (b17 .args .starts .now) (b17 .args .ends .now))) (plain-size (b4 .enum-told .given .1)) _ _ (b17 .pre .0 .in-row))) ∙ rw (plain-step (b4 .enum-told .given .1))), let z = rw (plain-step (b4 .enum-told .given .1)) at (sizes-step (planFor (b17 .args .rule) (b17 .args .words .now) (b17 .args .starts .now) (b17 .args .ends .now)) _ (plain-same (b4 .enum-told .given .1) (planFor (b17 .args .rule) (b17 .args .words .now) (b17 .args .starts .now) (b17 .args .ends .now))) (plain-size (b4 .enum-told .given .1)) (b17 .args .row .now) (b17 .args .marks .now) _ (b7 .loop-test .taken) (b4 .before .before .item-at .ensures)) in let k = c .before .before .put-item .kept .0 in omega arith, c .before .before .put-item .kept .0 ∙ b7 .before .loop .inv .2)
 
 piece-of-requires : tie.Need-piece-of-requires Inv-loop μ-loop
 piece-of-requires c κs = c .before .before .before .before .before .before .before .before .before .before .before .before .before .before .pre .0 .tabled
 
 write-piece-requires : tie.Need-write-piece-requires Inv-loop μ-loop
-write-piece-requires c κs = (rw (c .before .piece-of .ensures) (piece-fits _ _ (c .before .before .before .before .before .before .before .before .before .before .before .before .before .before .before .before .pre .0 .in-row) _), (c .before .before .before .before .before .before .before .before .before .before .before .before .before .before .before .before .pre .0 .marked, let z = sizes-step (planFor (c .before .before .before .before .before .before .before .before .before .before .before .before .before .before .before .before .args .rule) (c .before .before .before .before .before .before .before .before .before .before .before .before .before .before .before .before .args .words .now) (c .before .before .before .before .before .before .before .before .before .before .before .before .before .before .before .before .args .starts .now) (c .before .before .before .before .before .before .before .before .before .before .before .before .before .before .before .before .args .ends .now)) _ (c .before .piece-of .ensures) refl (c .before .before .before .before .before .before .before .before .before .before .before .before .before .before .before .before .args .row .now) (c .before .before .before .before .before .before .before .before .before .before .before .before .before .before .before .before .args .marks .now) _ (c .before .before .before .before .before .before .loop-test .taken) (sym (c .before .before .before .it .given .1) ∙ c .before .before .before .before .before .item-at .ensures) in omega arith))
+write-piece-requires c κs = let b3 = c .before .before .before in let b6 = b3 .before .before .before in let b16 = b6 .before .before .before .before .before .before .before .before .before .before in (rw (c .before .piece-of .ensures) (piece-fits _ _ (b16 .pre .0 .in-row) _), (b16 .pre .0 .marked, let z = sizes-step (planFor (b16 .args .rule) (b16 .args .words .now) (b16 .args .starts .now) (b16 .args .ends .now)) _ (c .before .piece-of .ensures) refl (b16 .args .row .now) (b16 .args .marks .now) _ (b6 .loop-test .taken) (sym (b3 .it .given .1) ∙ b3 .before .before .item-at .ensures) in omega arith))
 
 piece-size-requires : tie.Need-piece-size-requires Inv-loop μ-loop
 piece-size-requires c κs = search needs
 
 add-p-2 : tie.Need-add-p-2 Inv-loop μ-loop
-add-p-2 c = let z = rw ident-size at (sizes-step (planFor (c .before .before .before .before .before .before .before .before .before .before .before .before .before .before .before .before .before .before .before .before .args .rule) (c .before .before .before .before .before .before .before .before .before .before .before .before .before .before .before .before .before .before .before .before .args .words .now) (c .before .before .before .before .before .before .before .before .before .before .before .before .before .before .before .before .before .before .before .before .args .starts .now) (c .before .before .before .before .before .before .before .before .before .before .before .before .before .before .before .before .before .before .before .before .args .ends .now)) _ (c .before .before .before .before .before .piece-of .ensures) (c .piece-size .ensures) (c .before .before .before .before .before .before .before .before .before .before .before .before .before .before .before .before .before .before .before .before .args .row .now) (c .before .before .before .before .before .before .before .before .before .before .before .before .before .before .before .before .before .before .before .before .args .marks .now) _ (c .before .before .before .before .before .before .before .before .before .before .loop-test .taken) (sym (c .before .before .before .before .before .before .before .it .given .1) ∙ c .before .before .before .before .before .before .before .before .before .item-at .ensures)) in let f = c .before .before .before .before .before .before .before .before .before .before .before .before .before .before .before .before .before .before .before .before .good .1 .1 .1 .1 .1 .1 .1 .1 .1 .0 .0 in omega arith
+add-p-2 c = let b5 = c .before .before .before .before .before in let b9 = b5 .before .before .before .before in let b20 = b9 .before .before .before .before .before .before .before .before .before .before .before in let z = rw ident-size at (sizes-step (planFor (b20 .args .rule) (b20 .args .words .now) (b20 .args .starts .now) (b20 .args .ends .now)) _ (b5 .piece-of .ensures) (c .piece-size .ensures) (b20 .args .row .now) (b20 .args .marks .now) _ (b9 .before .loop-test .taken) (sym (b5 .before .before .it .given .1) ∙ b9 .item-at .ensures)) in let f = b20 .good .1 .1 .1 .1 .1 .1 .1 .1 .1 .0 .0 in omega arith
 
 add-i-2 : tie.Need-add-i-2 Inv-loop μ-loop
-add-i-2 c = let s = size-in _ (c .before .before .before .before .before .before .before .before .before .before .before .before .before .before .before .before .before .before .before .before .args .marks .now) _ (c .before .before .before .before .before .before .before .before .before .before .loop-test .taken) (c .before .before .before .before .before .before .before .before .before .item-at .ensures) in let e = ident-step (c .before .before .before .before .before .before .before .it .given .1) in let f = c .before .before .before .before .before .before .before .before .before .before .before .before .before .before .before .before .before .before .before .before .good .1 .1 .1 .1 .1 .1 .0 .0 in omega arith
+add-i-2 c = let b7 = c .before .before .before .before .before .before .before in let b10 = b7 .before .before .before in let b20 = b10 .before .before .before .before .before .before .before .before .before .before in let s = size-in _ (b20 .args .marks .now) _ (b10 .loop-test .taken) (b7 .before .before .item-at .ensures) in let e = ident-step (b7 .it .given .1) in let f = b20 .good .1 .1 .1 .1 .1 .1 .0 .0 in omega arith
 
 loop-less-2 : tie.Need-loop-less-2 Inv-loop μ-loop
-loop-less-2 c = let s = size-in _ (c .before .before .before .before .before .before .before .before .before .before .before .before .before .before .before .before .before .before .before .before .args .marks .now) _ (c .before .before .before .before .before .before .before .before .before .before .loop-test .taken) (c .before .before .before .before .before .before .before .before .before .item-at .ensures) in let e = ident-step (c .before .before .before .before .before .before .before .it .given .1) in omega arith
+loop-less-2 c = let b7 = c .before .before .before .before .before .before .before in let b10 = b7 .before .before .before in let b20 = b10 .before .before .before .before .before .before .before .before .before .before in let s = size-in _ (b20 .args .marks .now) _ (b10 .loop-test .taken) (b7 .before .before .item-at .ensures) in let e = ident-step (b7 .it .given .1) in omega arith
 
 loop-again-2 : tie.Need-loop-again-2 Inv-loop μ-loop
-loop-again-2 c = (c .before .before .before .before .before .before .before .before .before .before .before .loop .inv .0 ∙ (store-next (c .before .before .before .before .before .before .before .before .before .before .before .before .before .before .before .before .before .before .before .before .args .row .now) (c .before .before .before .before .before .before .before .before .before .before .before .before .before .before .before .before .before .before .before .before .args .marks .now) _ (c .before .before .before .before .before .before .before .before .before .before .loop-test .taken) (sym (c .before .before .before .before .before .before .before .it .given .1) ∙ c .before .before .before .before .before .before .before .before .before .item-at .ensures) (planned (planFor (c .before .before .before .before .before .before .before .before .before .before .before .before .before .before .before .before .before .before .before .before .args .rule) (c .before .before .before .before .before .before .before .before .before .before .before .before .before .before .before .before .before .before .before .before .args .words .now) (c .before .before .before .before .before .before .before .before .before .before .before .before .before .before .before .before .before .before .before .before .args .starts .now) (c .before .before .before .before .before .before .before .before .before .before .before .before .before .before .before .before .before .before .before .before .args .ends .now)) (c .before .before .before .before .before .before .before .before .before .before .before .before .before .before .before .before .before .before .before .before .args .list .now) (c .before .before .before .before .before .before .before .before .before .before .before .before .before .before .before .before .before .before .before .before .args .list-marks .now)) _ _ _ (c .before .before .before .before .before .before .before .before .before .before .before .loop .p + c .piece-size .result) (rw (c .before .before .before .before .before .piece-of .ensures) at (c .before .before .before .write-piece .ensures)) (ap (λ (n : ℕ). c .before .before .before .before .before .before .before .before .before .before .before .loop .p + n) (planned-size (planFor (c .before .before .before .before .before .before .before .before .before .before .before .before .before .before .before .before .before .before .before .before .args .rule) (c .before .before .before .before .before .before .before .before .before .before .before .before .before .before .before .before .before .before .before .before .args .words .now) (c .before .before .before .before .before .before .before .before .before .before .before .before .before .before .before .before .before .before .before .before .args .starts .now) (c .before .before .before .before .before .before .before .before .before .before .before .before .before .before .before .before .before .before .before .before .args .ends .now)) _ (c .before .before .before .before .before .piece-of .ensures) (c .piece-size .ensures) _ _ (c .before .before .before .before .before .before .before .before .before .before .before .before .before .before .before .before .before .before .before .before .pre .0 .in-row))) ∙ rw ident-size), let z = rw ident-size at (sizes-step (planFor (c .before .before .before .before .before .before .before .before .before .before .before .before .before .before .before .before .before .before .before .before .args .rule) (c .before .before .before .before .before .before .before .before .before .before .before .before .before .before .before .before .before .before .before .before .args .words .now) (c .before .before .before .before .before .before .before .before .before .before .before .before .before .before .before .before .before .before .before .before .args .starts .now) (c .before .before .before .before .before .before .before .before .before .before .before .before .before .before .before .before .before .before .before .before .args .ends .now)) _ (c .before .before .before .before .before .piece-of .ensures) (c .piece-size .ensures) (c .before .before .before .before .before .before .before .before .before .before .before .before .before .before .before .before .before .before .before .before .args .row .now) (c .before .before .before .before .before .before .before .before .before .before .before .before .before .before .before .before .before .before .before .before .args .marks .now) _ (c .before .before .before .before .before .before .before .before .before .before .loop-test .taken) (sym (c .before .before .before .before .before .before .before .it .given .1) ∙ c .before .before .before .before .before .before .before .before .before .item-at .ensures)) in let k = c .before .before .before .write-piece .kept .1 .1 .1 .1 .0 in omega arith, c .before .before .before .write-piece .kept .1 .1 .1 .1 .0 ∙ c .before .before .before .before .before .before .before .before .before .before .before .loop .inv .2)
+loop-again-2 c = let b3 = c .before .before .before in let b7 = b3 .before .before .before .before in let b10 = b7 .before .before .before in let b20 = b10 .before .before .before .before .before .before .before .before .before .before in (b10 .before .loop .inv .0 ∙ (store-next (b20 .args .row .now) (b20 .args .marks .now) _ (b10 .loop-test .taken) (sym (b7 .it .given .1) ∙ b7 .before .before .item-at .ensures) (planned (planFor (b20 .args .rule) (b20 .args .words .now) (b20 .args .starts .now) (b20 .args .ends .now)) (b20 .args .list .now) (b20 .args .list-marks .now)) _ _ _ (b10 .before .loop .p + c .piece-size .result) (rw (b3 .before .before .piece-of .ensures) at (b3 .write-piece .ensures)) (ap (λ (n : ℕ). b10 .before .loop .p + n) (planned-size (planFor (b20 .args .rule) (b20 .args .words .now) (b20 .args .starts .now) (b20 .args .ends .now)) _ (b3 .before .before .piece-of .ensures) (c .piece-size .ensures) _ _ (b20 .pre .0 .in-row))) ∙ rw ident-size), let z = rw ident-size at (sizes-step (planFor (b20 .args .rule) (b20 .args .words .now) (b20 .args .starts .now) (b20 .args .ends .now)) _ (b3 .before .before .piece-of .ensures) (c .piece-size .ensures) (b20 .args .row .now) (b20 .args .marks .now) _ (b10 .loop-test .taken) (sym (b7 .it .given .1) ∙ b7 .before .before .item-at .ensures)) in let k = b3 .write-piece .kept .1 .1 .1 .1 .0 in omega arith, b3 .write-piece .kept .1 .1 .1 .1 .0 ∙ b10 .before .loop .inv .2)
 
 same-length : tie.Need-same-length Inv-loop μ-loop
 same-length c = c .before .loop .inv .2

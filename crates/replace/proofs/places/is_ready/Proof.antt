@@ -24,7 +24,7 @@ slice-aggregate-are-inside-2 : tie.Need-slice-aggregate-are-inside-2
 slice-aggregate-are-inside-2 c = search needs
 
 are-inside-requires : tie.Need-are-inside-requires
-are-inside-requires c κs = let a : length (c .before .before .before .before .before .before .before .before .args .table .starts) ≡ 32 = search needs in let b : length (c .before .before .before .before .before .before .before .before .args .table .ends) ≡ 32 = search needs in let h = c .before .before .before .before .before .if1 .left in let x : c .before .before .before .before .before .before .before .before .args .table .n ≤ length (c .before .before .before .before .before .before .before .before .args .table .starts) = omega arith in let y : c .before .before .before .before .before .before .before .before .args .table .n ≤ length (c .before .before .before .before .before .before .before .before .args .table .ends) = omega arith in (x, y)
+are-inside-requires c κs = let b5 = c .before .before .before .before .before in let b8 = b5 .before .before .before in let a : length (b8 .args .table .starts) ≡ 32 = search needs in let b : length (b8 .args .table .ends) ≡ 32 = search needs in let h = b5 .if1 .left in let x : b8 .args .table .n ≤ length (b8 .args .table .starts) = omega arith in let y : b8 .args .table .n ≤ length (b8 .args .table .ends) = omega arith in (x, y)
 
 returns-3 : tie.Need-returns-3
 returns-3 c = c .are-inside .ensures ∙ sym (ready-parts _ _ _ (c .before .before .before .before .before .before .if1 .left) (c .before .before .before .before .before .if2 .left))

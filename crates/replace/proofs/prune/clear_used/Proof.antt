@@ -38,10 +38,10 @@ add-i : tie.Need-add-i Inv-loop μ-loop
 add-i c = let s = size-in _ (c .before .before .before .before .before .before .before .before .before .before .before .args .marks .now) _ (c .before .before .before .before .before .before .loop-test .taken) (c .before .before .before .before .before .item-at .ensures) in let e = c .size-of .ensures in omega arith
 
 loop-less : tie.Need-loop-less Inv-loop μ-loop
-loop-less c = let s = size-in _ (c .before .before .before .before .before .before .before .before .before .before .before .args .marks .now) _ (c .before .before .before .before .before .before .loop-test .taken) (c .before .before .before .before .before .item-at .ensures) in let e = c .size-of .ensures in let p = size-pos (c .before .before .before .before .before .item-at .result) in omega arith
+loop-less c = let b5 = c .before .before .before .before .before in let b11 = b5 .before .before .before .before .before .before in let s = size-in _ (b11 .args .marks .now) _ (b5 .before .loop-test .taken) (b5 .item-at .ensures) in let e = c .size-of .ensures in let p = size-pos (b5 .item-at .result) in omega arith
 
 loop-again : tie.Need-loop-again Inv-loop μ-loop
-loop-again c = (c .before .before .before .before .before .before .before .loop .inv .0 ∙ (cleared-next _ _ _ _ _ (c .before .before .before .before .before .before .loop-test .taken) (c .before .before .before .before .before .item-at .ensures) _ (rw (c .before .before .before .before .before .before .before .loop .inv .1) at (c .before .before .before .clear-use .ensures)) ∙ rw (c .size-of .ensures)), c .before .before .before .clear-use .kept .1 .0 ∙ c .before .before .before .before .before .before .before .loop .inv .1)
+loop-again c = let b3 = c .before .before .before in let b6 = b3 .before .before .before in (b6 .before .loop .inv .0 ∙ (cleared-next _ _ _ _ _ (b6 .loop-test .taken) (b3 .before .before .item-at .ensures) _ (rw (b6 .before .loop .inv .1) at (b3 .clear-use .ensures)) ∙ rw (c .size-of .ensures)), b3 .clear-use .kept .1 .0 ∙ b6 .before .loop .inv .1)
 
 same-length : tie.Need-same-length Inv-loop μ-loop
 same-length c = c .before .loop .inv .1

@@ -56,7 +56,7 @@ loop-less : tie.Need-loop-less Inv-loop μ-loop
 loop-less c = omega arith
 
 loop-again : tie.Need-loop-again Inv-loop μ-loop
-loop-again c = (table-next (c .before .before .before .before .before .before .args .words .now) (c .before .before .before .loop .j) (c .before .before .loop-test .taken) (c .before .before .before .loop .falls) _ (let q = length-set (c .before .before .before .before .before .before .args .falls .now) 0 0 in omega arith) (c .before .before .before .loop .inv .0) (falls-next (c .before .before .before .before .before .before .args .words .now) (c .before .before .before .loop .j) (c .before .before .loop-test .taken) _ _ (c .before .before .before .loop .inv .1) (c .one-if .ensures)), (falls-next (c .before .before .before .before .before .before .args .words .now) (c .before .before .before .loop .j) (c .before .before .loop-test .taken) _ _ (c .before .before .before .loop .inv .1) (c .one-if .ensures)), let f = filled-few (getD (c .before .before .before .before .before .before .args .words .now) (length (c .before .before .before .before .before .before .args .words .now) - 1 - c .before .before .before .loop .j) 0) in let e = c .one-if .ensures in omega arith, length-set (c .before .before .before .loop .falls) _ _ ∙ c .before .before .before .loop .inv .3)
+loop-again c = let b3 = c .before .before .before in let b6 = b3 .before .before .before in (table-next (b6 .args .words .now) (b3 .loop .j) (c .before .before .loop-test .taken) (b3 .loop .falls) _ (let q = length-set (b6 .args .falls .now) 0 0 in omega arith) (b3 .loop .inv .0) (falls-next (b6 .args .words .now) (b3 .loop .j) (c .before .before .loop-test .taken) _ _ (b3 .loop .inv .1) (c .one-if .ensures)), (falls-next (b6 .args .words .now) (b3 .loop .j) (c .before .before .loop-test .taken) _ _ (b3 .loop .inv .1) (c .one-if .ensures)), let f = filled-few (getD (b6 .args .words .now) (length (b6 .args .words .now) - 1 - b3 .loop .j) 0) in let e = c .one-if .ensures in omega arith, length-set (b3 .loop .falls) _ _ ∙ b3 .loop .inv .3)
 
 same-length : tie.Need-same-length Inv-loop μ-loop
 same-length c = c .before .loop .inv .3 ∙ length-set (c .before .before .before .before .args .falls .now) 0 0

@@ -43,7 +43,7 @@ less-requires-2 : tie.Need-less-requires-2
 less-requires-2 c κs = search needs
 
 returns-4 : tie.Need-returns-4
-returns-4 c = falls-by (c .before .before .before .before .before .before .before .before .before .before .before .args .words .now) (c .before .before .before .before .before .before .before .it .given .1) (c .before .before .before .before .before .if1 .left) _ (c .before .before .before .before .less .ensures) (c .before .before .before .if2 .left) _ _ (table-at (c .before .before .before .before .before .before .before .before .before .before .before .args .words .now) (c .before .before .before .before .before .before .before .before .before .before .before .args .falls .now) (c .before .before .before .before .before .before .before .before .before .before .before .pre .1 .1) _ (omega arith) ∙ falls-past (c .before .before .before .before .before .before .before .before .before .before .before .args .words .now) _ (c .before .before .if3 .taken)) (c .less2 .ensures)
+returns-4 c = let b3 = c .before .before .before in let b7 = b3 .before .before .before .before in let b11 = b7 .before .before .before .before in falls-by (b11 .args .words .now) (b7 .it .given .1) (b3 .before .before .if1 .left) _ (b3 .before .less .ensures) (b3 .if2 .left) _ _ (table-at (b11 .args .words .now) (b11 .args .falls .now) (b11 .pre .1 .1) _ (omega arith) ∙ falls-past (b11 .args .words .now) _ (c .before .before .if3 .taken)) (c .less2 .ensures)
 
 mul-less-2 : tie.Need-mul-less-2
 mul-less-2 c = search needs
@@ -55,7 +55,7 @@ less-requires-3 : tie.Need-less-requires-3
 less-requires-3 c κs = search needs
 
 returns-5 : tie.Need-returns-5
-returns-5 c = falls-by (c .before .before .before .before .before .before .before .before .before .before .before .args .words .now) (c .before .before .before .before .before .before .before .it .given .1) (c .before .before .before .before .before .if1 .left) _ (c .before .before .before .before .less .ensures) (c .before .before .before .if2 .left) _ _ (table-at (c .before .before .before .before .before .before .before .before .before .before .before .args .words .now) (c .before .before .before .before .before .before .before .before .before .before .before .args .falls .now) (c .before .before .before .before .before .before .before .before .before .before .before .pre .1 .1) _ (omega arith)) (c .less3 .ensures)
+returns-5 c = let b3 = c .before .before .before in let b7 = b3 .before .before .before .before in let b11 = b7 .before .before .before .before in falls-by (b11 .args .words .now) (b7 .it .given .1) (b3 .before .before .if1 .left) _ (b3 .before .less .ensures) (b3 .if2 .left) _ _ (table-at (b11 .args .words .now) (b11 .args .falls .now) (b11 .pre .1 .1) _ (omega arith)) (c .less3 .ensures)
 
 pub fall-item-spec : {M : Type 1} → statement M
 fall-item-spec =

@@ -49,10 +49,10 @@ add-i : tie.Need-add-i Inv-loop μ-loop
 add-i c = let s = size-in _ (c .before .before .before .before .before .before .before .before .before .before .before .before .before .before .before .args .marks .now) _ (c .before .before .before .before .before .before .before .before .loop-test .taken) (c .before .before .before .before .before .before .before .item-at .ensures) in let e = c .size-of2 .ensures in omega arith
 
 loop-less : tie.Need-loop-less Inv-loop μ-loop
-loop-less c = let s = size-in _ (c .before .before .before .before .before .before .before .before .before .before .before .before .before .before .before .args .marks .now) _ (c .before .before .before .before .before .before .before .before .loop-test .taken) (c .before .before .before .before .before .before .before .item-at .ensures) in let e = c .size-of2 .ensures in let w = size-pos (c .before .before .before .before .before .before .before .item-at .result) in omega arith
+loop-less c = let b7 = c .before .before .before .before .before .before .before in let b15 = b7 .before .before .before .before .before .before .before .before in let s = size-in _ (b15 .args .marks .now) _ (b7 .before .loop-test .taken) (b7 .item-at .ensures) in let e = c .size-of2 .ensures in let w = size-pos (b7 .item-at .result) in omega arith
 
 loop-again : tie.Need-loop-again Inv-loop μ-loop
-loop-again c = (c .before .before .before .before .before .before .before .before .before .loop .inv .0 ∙ (store-next (c .before .before .before .before .before .before .before .before .before .before .before .before .before .before .before .args .row .now) (c .before .before .before .before .before .before .before .before .before .before .before .before .before .before .before .args .marks .now) _ (c .before .before .before .before .before .before .before .before .loop-test .taken) (c .before .before .before .before .before .before .before .item-at .ensures) (fallenWords (c .before .before .before .before .before .before .before .before .before .before .before .before .before .before .before .args .words .now)) _ _ _ (c .before .before .before .before .before .before .before .before .before .loop .p + c .before .size-of .result) (rw (c .before .before .before .before .before .fall-item .ensures) at (c .before .before .before .before .put-item .ensures)) (ap (λ (n : ℕ). c .before .before .before .before .before .before .before .before .before .loop .p + n) (c .before .size-of .ensures ∙ sym (falls-keep (c .before .before .before .before .before .before .before .before .before .before .before .before .before .before .before .args .words .now) (c .before .before .before .before .before .before .before .item-at .result)))) ∙ rw (c .size-of2 .ensures)), let s = size-in _ (c .before .before .before .before .before .before .before .before .before .before .before .before .before .before .before .args .marks .now) _ (c .before .before .before .before .before .before .before .before .loop-test .taken) (c .before .before .before .before .before .before .before .item-at .ensures) in let e = c .before .size-of .ensures in let f = c .size-of2 .ensures in let k = c .before .before .before .before .put-item .kept .0 in omega arith, c .before .before .before .before .put-item .kept .0 ∙ c .before .before .before .before .before .before .before .before .before .loop .inv .2)
+loop-again c = let b4 = c .before .before .before .before in let b7 = b4 .before .before .before in let b15 = b7 .before .before .before .before .before .before .before .before in (b7 .before .before .loop .inv .0 ∙ (store-next (b15 .args .row .now) (b15 .args .marks .now) _ (b7 .before .loop-test .taken) (b7 .item-at .ensures) (fallenWords (b15 .args .words .now)) _ _ _ (b7 .before .before .loop .p + c .before .size-of .result) (rw (b4 .before .fall-item .ensures) at (b4 .put-item .ensures)) (ap (λ (n : ℕ). b7 .before .before .loop .p + n) (c .before .size-of .ensures ∙ sym (falls-keep (b15 .args .words .now) (b7 .item-at .result)))) ∙ rw (c .size-of2 .ensures)), let s = size-in _ (b15 .args .marks .now) _ (b7 .before .loop-test .taken) (b7 .item-at .ensures) in let e = c .before .size-of .ensures in let f = c .size-of2 .ensures in let k = b4 .put-item .kept .0 in omega arith, b4 .put-item .kept .0 ∙ b7 .before .before .loop .inv .2)
 
 same-length : tie.Need-same-length Inv-loop μ-loop
 same-length c = c .before .loop .inv .2
