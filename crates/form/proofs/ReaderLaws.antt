@@ -238,7 +238,7 @@ module _ (row : List ℕ) (at d : ℕ) where
   one-word : at < length row → length row ≤ at + 1 → drop at row ≡ getD row at 0 ∷ []
   one-word h k = here row at h ∙ rw (gone row (at + 1) k)
 
-  two-words : at + 1 < length row → drop at row ≡ getD row at 0 ∷ (getD row (at + 1) 0 ∷ drop (at + 1 + 1) row)
+  pub two-words : at + 1 < length row → drop at row ≡ getD row at 0 ∷ (getD row (at + 1) 0 ∷ drop (at + 1 + 1) row)
   two-words h = here row at (omega arith) ∙ rw (here row (at + 1) h)
 
   pub leaf-short : at < length row → length row ≤ at + 1 → startsLeaf d (drop at row) ≡ false

@@ -39,7 +39,7 @@ fn mark_tag(marks: &mut [u32], at: usize, tag: u32, under: u32)
 }
 
 // Whether a name or an index stands at `at`, within the depth.
-fn is_leaf(row: &[u32], at: usize, depth: u32) -> bool
+pub fn is_leaf(row: &[u32], at: usize, depth: u32) -> bool
     ensures { λ r. ⌜ r ≡ startsLeaf depth (drop at (now (row .entry))) ⌝ }
 {
     if depth == 0 {

@@ -1,21 +1,23 @@
 -- What is printed of a node, from its own words and its children. Assumes nothing.
 use mathlib.Core.Path.{_≡_, refl, ap, sym, _∙_}
-use mathlib.Core.Bool.{Bool, true, false}
+use mathlib.Core.Bool.{Bool, true, false, _&&_}
 use mathlib.Core.List.{List, [], _∷_, _++_, append-assoc, append-nil}
 use Prim.Native.Nat.{ℕ, zero, suc, _+_, _-_, _*_, _≤_, _<_}
 use native.Mathlib.Numerals.{sub-one}
 use native.Mathlib.Omega.{arith}
+use lib.Dec.{leb}
+use borrow.Author.Tests.{le-leb}
 use lib.ListN.{length, getD, take, drop, length-append, length-take, length-drop}
 use lib.Seq.{take-at}
 use Rattle.tree.specs.Form.{Leaf, free, bound, leaf, node, Forms, none, pick, encode, encodeAll}
-use Rattle.tree.specs.Tag.{Sort, own, sorts}
+use Rattle.tree.specs.Tag.{Sort, expr, ownOf, exprTags, shapeOf, own, sorts}
 use Rattle.form.specs.Decode.{Head, head, bad, read, no-form, Gots, gots, no-forms, first, leafAt, isLeaf, make, close, decodeAll, branch, decode}
-use Rattle.form.specs.Internal.Reads.{headAt}
+use Rattle.form.specs.Internal.Reads.{headAt, startsLeaf}
 use Rattle.form.specs.declared.head.Head as code
 use Rattle.form.specs.declared.head.Head.the-variants.{Kids, None}
 use Rattle.form.proofs.DecodeLaws.{clash, read-exact, read-at, all-sound, made}
 use Rattle.form.proofs.HeadLaws.{gone}
-use Rattle.form.proofs.ReaderLaws.{no-word, node-here}
+use Rattle.form.proofs.ReaderLaws.{no-word, node-here, two-words, leaf-room}
 use Rattle.spell.specs.Spell.{decimal, spaced, bracket, spellLeaf, spell, spellAll}
 use Rattle.spell.specs.Put.{put}
 use Rattle.spell.specs.Internal.Writes.{Wrote, Printed, PrintedAll}
@@ -43,6 +45,13 @@ opening-few o t n i l a b w =
 bracket-is : (t : ℕ) (ws ks : List ℕ) → opening t ws ++ (ks ++ (93 ∷ [])) ≡ bracket t ws ks
 unfolding bracket
 bracket-is t ws ks = rw (append-assoc (decimal t))
+
+pub wrote-leaf : (o p q i j r t w : ℕ) (a b c e f g : List ℕ) → Wrote o (91 ∷ []) a b p → Wrote p (decimal t) b c q → Wrote q (32 ∷ []) c e i → Wrote i (decimal w) e f j → Wrote j (93 ∷ []) f g r
+    → Wrote o (bracket t (w ∷ []) []) a g r
+unfolding bracket spaced
+wrote-leaf o p q i j r t w a b c e f g x y z u v =
+    let s = wrote-both q i r (32 ∷ []) _ c e g z (wrote-both i j r (decimal w) (93 ∷ []) e f g u v) in
+    rw (append-nil (decimal w)) (wrote-both o p r (91 ∷ []) _ a b g x (wrote-both p q r (decimal t) _ b c g y s))
 
 leaf-spell : (x : Leaf) (t : ℕ) (ws : List ℕ) → t ∷ ws ≡ encode (leaf x) → bracket t ws [] ≡ spellLeaf x
 unfolding spellLeaf encode
@@ -151,3 +160,25 @@ module _ (s : Sort) (row : List ℕ) (at : ℕ) where
 
     pub kids-within : (p x y w : ℕ) → h ≡ Kids p x y w → (at < p) × (p ≤ length row)
     kids-within p x y w e = within (getD row at 0) _ p x y w low refl (sym hd ∙ e)
+
+-- a name or an index
+module _ (row : List ℕ) (at d : ℕ) where
+  pub leaf-printed : (o r : ℕ) (a b : List ℕ) → startsLeaf d (drop at row) ≡ true → Wrote o (bracket (getD row at 0) (getD row (at + 1) 0 ∷ []) []) a b r
+      → Printed at o (decode d expr (drop at row)) a b (End (at + 2) r)
+  unfolding decode decodeAll read own ownOf shapeOf exprTags Printed Wrote encode spell spellLeaf startsLeaf
+  leaf-printed o r a b e w = rw (two-words row at d (leaf-room row at d e .1)) (go d (getD row at 0) (getD row (at + 1) 0) _ (rw (two-words row at d (leaf-room row at d e .1)) at e) w)
+    where
+      word-printed : (t d w : ℕ) (ws : List ℕ) → isLeaf t ≡ true → leb w 65535 ≡ true → Wrote o (bracket t (w ∷ []) []) a b r → Printed at o (decode (suc d) expr (t ∷ w ∷ ws)) a b (End (at + 2) r)
+      word-printed zero d w ws l e h = absurd (clash cc)
+      word-printed (suc zero) d w ws l e h = rw (le-leb 0 w (omega arith), e) (rw (h .0), h .1)
+      word-printed (suc (suc zero)) d w ws l e h = rw (le-leb 0 w (omega arith), e) (rw (h .0), h .1)
+      word-printed (suc (suc (suc t))) d w ws l e h = absurd (clash cc)
+
+      both : (t d w : ℕ) (ws : List ℕ) (x y : Bool) → isLeaf t ≡ x → leb w 65535 ≡ y → (x && y) ≡ true → Wrote o (bracket t (w ∷ []) []) a b r → Printed at o (decode (suc d) expr (t ∷ w ∷ ws)) a b (End (at + 2) r)
+      both t d w ws true true l e k h = word-printed t d w ws l e h
+      both t d w ws true false l e k h = absurd (clash cc)
+      both t d w ws false y l e k h = absurd (clash cc)
+
+      go : (d t w : ℕ) (ws : List ℕ) → startsLeaf d (t ∷ w ∷ ws) ≡ true → Wrote o (bracket t (w ∷ []) []) a b r → Printed at o (decode d expr (t ∷ w ∷ ws)) a b (End (at + 2) r)
+      go zero t w ws e h = absurd (clash cc)
+      go (suc d) t w ws e h = both t d w ws (isLeaf t) (leb w 65535) refl refl (rw (le-leb 1 (suc d) (omega arith)) at e) h

@@ -5,12 +5,13 @@ use crate::decimal::put_spaced;
 use form::head::Head;
 use form::head::expr_head;
 use form::head::pred_head;
-ghost use mathlib.Core.List.{_∷_, _++_};
+use form::reader::is_leaf;
+ghost use mathlib.Core.List.{[], _∷_, _++_};
 ghost use Prim.Native.Nat.{_+_, _-_, _*_, _^_, _<_, _≤_};
 ghost use lib.ListN.{length, getD, take, drop, replicate};
 ghost use Rattle.tree.specs.Tag.{expr, pred, sorts};
 ghost use Rattle.form.specs.Decode.{decode, decodeAll};
-ghost use Rattle.spell.specs.Spell.{decimal, spaced};
+ghost use Rattle.spell.specs.Spell.{decimal, spaced, bracket};
 ghost use Rattle.spell.specs.Internal.Writes.{Wrote, Printed, PrintedAll};
 
 // Where a part ends, in the row and in the output, or that it is no such part.
@@ -92,6 +93,29 @@ fn print_kids(
     print_exprs(row, out, p, exprs, depth, i)
 }
 
+// A name or an index at `at`, written at `o`.
+fn put_leaf(row: &[u32], out: &mut [u8], at: usize, o: usize) -> usize
+    requires { ⌜ (at + 1 < length (now row)) × (o + 26 < 2 ^ 64) ⌝ }
+    ensures { λ r. ⌜ Wrote o (bracket (getD (now (row .entry)) at 0) (getD (now (row .entry)) (at + 1) 0 ∷ []) []) (now (out .entry)) (now (out .exit)) r ⌝ }
+{
+    let p = put_byte(out, o, b'[');
+    let q = put_decimal(out, p, row[at]);
+    let i = put_byte(out, q, b' ');
+    let j = put_decimal(out, i, row[at + 1]);
+    put_byte(out, j, b']')
+}
+
+// An expression at `at`, written at `o`: a name or an index, the common case, without a call.
+fn print_child(row: &[u32], out: &mut [u8], at: usize, depth: u32, o: usize) -> Ends
+    requires { ⌜ o + 13 * (length (now row) - at) < 2 ^ 64 ⌝ }
+    ensures { λ r. ⌜ Printed at o (decode depth expr (drop at (now (row .entry)))) (now (out .entry)) (now (out .exit)) r ⌝ }
+{
+    if is_leaf(row, at, depth) {
+        return Ends::End(at + 2, put_leaf(row, out, at, o));
+    }
+    print_expr(row, out, at, depth, o)
+}
+
 // n expressions, each after a space.
 fn print_exprs(row: &[u32], out: &mut [u8], at: usize, n: u32, depth: u32, o: usize) -> Ends
     requires { ⌜ o + 1 + 13 * (length (now row) - at) < 2 ^ 64 ⌝ }
@@ -102,7 +126,7 @@ fn print_exprs(row: &[u32], out: &mut [u8], at: usize, n: u32, depth: u32, o: us
     let mut left = n;
     while 0 < left {
         let k = put_byte(out, i, b' ');
-        let Ends::End(q, j) = print_expr(row, out, p, depth, k) else {
+        let Ends::End(q, j) = print_child(row, out, p, depth, k) else {
             return Ends::Bad;
         };
         p = q;

@@ -1,6 +1,6 @@
--- The proof of the cycle of calls {print_expr, print_exprs, print_kids, print_pred, print_preds}. The measure is three times the words that are left, and a little more for a function that calls another at the same place.
+-- The proof of the cycle of calls {print_child, print_expr, print_exprs, print_kids, print_pred, print_preds}. The measure is four times the words that are left, and a little more for a function that calls another at the same place.
 -- Assumes nothing.
-use mathlib.Core.Path.{_≡_, refl, _∙_}
+use mathlib.Core.Path.{_≡_, refl, sym, _∙_}
 use mathlib.Core.List.{List}
 use Prim.Native.Nat.{_+_, _-_, _*_, _≤_}
 use native.Mathlib.Nat.{le-refl, le-trans}
@@ -11,49 +11,64 @@ use Rattle.tree.specs.Tag.{expr, pred}
 use Rattle.form.specs.Decode.{decode, decodeAll}
 use Rattle.spell.specs.declared.print.Ends.{Ends}
 use Rattle.spell.specs.Internal.Writes.{PrintedAll}
+use Rattle.form.proofs.ReaderLaws.{leaf-room}
 use Rattle.spell.proofs.WriteLaws.{wrote-end}
 use Rattle.spell.proofs.PrintLaws.{printed-within, all-within, all-more, all-stop, all-none, both-go, both-stop}
-use Rattle.spell.proofs.NodeLaws.{opening-few, too-deep, past-end, no-own, kids-stop, a-form, kids-within}
+use Rattle.spell.proofs.NodeLaws.{opening-few, too-deep, past-end, no-own, kids-stop, a-form, kids-within, leaf-printed}
 use Prim.Native.Nat.{ℕ}
 use Prim.Native.Nat.{_<_}
 use borrow.Fn.Kinds.{In}
 use borrow.Fn.PlainCycle.{Measures, is, falls, and}
+use Rattle.spell.proofs.print.print_child.Reads as print-child
+use Rattle.spell.proofs.print.print_child.Kinds as print-child-kinds
+use Rattle.spell.proofs.print.+print_child+print_expr+print_exprs+print_kids+print_pred+print_preds.Lts-print_child as print-child-lts
 use Rattle.spell.proofs.print.print_expr.Reads as print-expr
 use Rattle.spell.proofs.print.print_expr.Kinds as print-expr-kinds
-use Rattle.spell.proofs.print.+print_expr+print_exprs+print_kids+print_pred+print_preds.Lts-print_expr as print-expr-lts
+use Rattle.spell.proofs.print.+print_child+print_expr+print_exprs+print_kids+print_pred+print_preds.Lts-print_expr as print-expr-lts
 use Rattle.spell.proofs.print.print_exprs.Reads as print-exprs
 use Rattle.spell.proofs.print.print_exprs.Kinds as print-exprs-kinds
-use Rattle.spell.proofs.print.+print_expr+print_exprs+print_kids+print_pred+print_preds.Lts-print_exprs as print-exprs-lts
+use Rattle.spell.proofs.print.+print_child+print_expr+print_exprs+print_kids+print_pred+print_preds.Lts-print_exprs as print-exprs-lts
 use Rattle.spell.proofs.print.print_kids.Reads as print-kids
 use Rattle.spell.proofs.print.print_kids.Kinds as print-kids-kinds
-use Rattle.spell.proofs.print.+print_expr+print_exprs+print_kids+print_pred+print_preds.Lts-print_kids as print-kids-lts
+use Rattle.spell.proofs.print.+print_child+print_expr+print_exprs+print_kids+print_pred+print_preds.Lts-print_kids as print-kids-lts
 use Rattle.spell.proofs.print.print_pred.Reads as print-pred
 use Rattle.spell.proofs.print.print_pred.Kinds as print-pred-kinds
-use Rattle.spell.proofs.print.+print_expr+print_exprs+print_kids+print_pred+print_preds.Lts-print_pred as print-pred-lts
+use Rattle.spell.proofs.print.+print_child+print_expr+print_exprs+print_kids+print_pred+print_preds.Lts-print_pred as print-pred-lts
 use Rattle.spell.proofs.print.print_preds.Reads as print-preds
 use Rattle.spell.proofs.print.print_preds.Kinds as print-preds-kinds
-use Rattle.spell.proofs.print.+print_expr+print_exprs+print_kids+print_pred+print_preds.Lts-print_preds as print-preds-lts
+use Rattle.spell.proofs.print.+print_child+print_expr+print_exprs+print_kids+print_pred+print_preds.Lts-print_preds as print-preds-lts
 use Rattle.form.proofs.head.expr_head.Reads as expr-head-reads
 use Rattle.form.proofs.head.pred_head.Reads as pred-head-reads
 use Rattle.spell.proofs.decimal.put_byte.Reads as put-byte-reads
 use Rattle.spell.proofs.print.put_head.Reads as put-head-reads
-use Rattle.spell.proofs.print.+print_expr+print_exprs+print_kids+print_pred+print_preds.{statement}
-use Rattle.spell.proofs.print.+print_expr+print_exprs+print_kids+print_pred+print_preds.Tie.{close}
+use Rattle.spell.proofs.print.put_leaf.Reads as put-leaf-reads
+use Rattle.form.proofs.reader.is_leaf.Reads as is-leaf-reads
+use Rattle.spell.proofs.print.+print_child+print_expr+print_exprs+print_kids+print_pred+print_preds.{statement}
+use Rattle.spell.proofs.print.+print_child+print_expr+print_exprs+print_kids+print_pred+print_preds.Tie.{close}
+
+abbrev μ-print-child : Measures 2 print-child-kinds.ps ℕ
+μ-print-child κs a = 4 * (length (a .0 .now) - a .1 .1 .0) + 1
 
 abbrev μ-print-expr : Measures 2 print-expr-kinds.ps ℕ
-μ-print-expr κs a = 3 * (length (a .0 .now) - a .1 .1 .0)
+μ-print-expr κs a = 4 * (length (a .0 .now) - a .1 .1 .0)
 
 abbrev μ-print-exprs : Measures 2 print-exprs-kinds.ps ℕ
-μ-print-exprs κs a = 3 * (length (a .0 .now) - a .1 .1 .0) + 1
+μ-print-exprs κs a = 4 * (length (a .0 .now) - a .1 .1 .0) + 2
 
 abbrev μ-print-kids : Measures 2 print-kids-kinds.ps ℕ
-μ-print-kids κs a = 3 * (length (a .0 .now) - a .1 .1 .0) + 2
+μ-print-kids κs a = 4 * (length (a .0 .now) - a .1 .1 .0) + 3
 
 abbrev μ-print-pred : Measures 2 print-pred-kinds.ps ℕ
-μ-print-pred κs a = 3 * (length (a .0 .now) - a .1 .1 .0)
+μ-print-pred κs a = 4 * (length (a .0 .now) - a .1 .1 .0)
 
 abbrev μ-print-preds : Measures 2 print-preds-kinds.ps ℕ
-μ-print-preds κs a = 3 * (length (a .0 .now) - a .1 .1 .0) + 1
+μ-print-preds κs a = 4 * (length (a .0 .now) - a .1 .1 .0) + 2
+
+abbrev print-child-at : ℕ → In 2 print-child-kinds.ps
+print-child-at t = and 2 print-child-kinds.ps (is 2 print-child-kinds.ps μ-print-child t) print-child.Pre
+
+abbrev print-child-below : ℕ → In 2 print-child-kinds.ps
+print-child-below t = and 2 print-child-kinds.ps (falls 2 print-child-kinds.ps _<_ μ-print-child t) print-child.Pre
 
 abbrev print-expr-at : ℕ → In 2 print-expr-kinds.ps
 print-expr-at t = and 2 print-expr-kinds.ps (is 2 print-expr-kinds.ps μ-print-expr t) print-expr.Pre
@@ -85,11 +100,14 @@ print-preds-at t = and 2 print-preds-kinds.ps (is 2 print-preds-kinds.ps μ-prin
 abbrev print-preds-below : ℕ → In 2 print-preds-kinds.ps
 print-preds-below t = and 2 print-preds-kinds.ps (falls 2 print-preds-kinds.ps _<_ μ-print-preds t) print-preds.Pre
 
+abbrev print-child-calls : ℕ → print-child-lts.Claims
+print-child-calls t = (is-leaf-reads.Asked, is-leaf-reads.Learnt, put-leaf-reads.Asked, put-leaf-reads.Learnt, print-expr-below t, print-expr.Post)
+
 abbrev print-expr-calls : ℕ → print-expr-lts.Claims
 print-expr-calls t = (expr-head-reads.Asked, expr-head-reads.Learnt, put-head-reads.Asked, put-head-reads.Learnt, print-kids-below t, print-kids.Post, put-byte-reads.Asked, put-byte-reads.Learnt)
 
 abbrev print-exprs-calls : ℕ → print-exprs-lts.Claims
-print-exprs-calls t = (put-byte-reads.Asked, put-byte-reads.Learnt, print-expr-below t, print-expr.Post)
+print-exprs-calls t = (put-byte-reads.Asked, put-byte-reads.Learnt, print-child-below t, print-child.Post)
 
 abbrev print-kids-calls : ℕ → print-kids-lts.Claims
 print-kids-calls t = (print-preds-below t, print-preds.Post, print-exprs-below t, print-exprs.Post)
@@ -99,6 +117,30 @@ print-pred-calls t = (pred-head-reads.Asked, pred-head-reads.Learnt, put-head-re
 
 abbrev print-preds-calls : ℕ → print-preds-lts.Claims
 print-preds-calls t = (put-byte-reads.Asked, put-byte-reads.Learnt, print-pred-below t, print-pred.Post)
+
+print-child-is-leaf-requires : (t : ℕ) → print-child-lts.Need-is-leaf-requires (print-child-calls t) (print-child-at t) print-child.Post
+print-child-is-leaf-requires t c κs = search needs
+
+print-child-add-t7 : (t : ℕ) → print-child-lts.Need-add-t7 (print-child-calls t) (print-child-at t) print-child.Post
+print-child-add-t7 t c = let (x, y) = leaf-room (c .before .before .before .before .args .row .now) (c .before .before .before .before .args .at) (c .before .before .before .before .args .depth) (sym (c .before .is-leaf .ensures) ∙ c .if1 .taken) in omega arith
+
+print-child-put-leaf-requires : (t : ℕ) → print-child-lts.Need-put-leaf-requires (print-child-calls t) (print-child-at t) print-child.Post
+print-child-put-leaf-requires t c κs = let (x, y) = leaf-room (c .before .before .before .before .before .args .row .now) (c .before .before .before .before .before .args .at) (c .before .before .before .before .before .args .depth) (sym (c .before .before .is-leaf .ensures) ∙ c .before .if1 .taken) in (y, omega arith)
+
+print-child-same-length : (t : ℕ) → print-child-lts.Need-same-length (print-child-calls t) (print-child-at t) print-child.Post
+print-child-same-length t c = c .before .before .put-leaf .kept .1 .0
+
+print-child-returns : (t : ℕ) → print-child-lts.Need-returns (print-child-calls t) (print-child-at t) print-child.Post
+print-child-returns t c = leaf-printed _ _ _ _ _ _ _ (sym (c .before .before .before .before .before .is-leaf .ensures) ∙ c .before .before .before .before .if1 .taken) (c .before .before .put-leaf .ensures)
+
+print-child-print-expr-requires : (t : ℕ) → print-child-lts.Need-print-expr-requires (print-child-calls t) (print-child-at t) print-child.Post
+print-child-print-expr-requires t c κs = omega arith
+
+print-child-same-length-2 : (t : ℕ) → print-child-lts.Need-same-length-2 (print-child-calls t) (print-child-at t) print-child.Post
+print-child-same-length-2 t c = c .before .before .print-expr .kept .1 .0
+
+print-child-returns-2 : (t : ℕ) → print-child-lts.Need-returns-2 (print-child-calls t) (print-child-at t) print-child.Post
+print-child-returns-2 t c = c .before .before .print-expr .ensures
 
 print-expr-returns : (t : ℕ) → print-expr-lts.Need-returns (print-expr-calls t) (print-expr-at t) print-expr.Post
 print-expr-returns t c = too-deep expr _ _ _ _ _ _ (c .if1 .taken)
@@ -169,8 +211,8 @@ print-exprs-loop-holds t c = (λ b r t. t, le-refl _, le-refl _, refl)
 print-exprs-put-byte-requires : (t : ℕ) → print-exprs-lts.Need-put-byte-requires (print-exprs-calls t) (print-exprs-at t) print-exprs.Post print-exprs-Inv-loop print-exprs-μ-loop
 print-exprs-put-byte-requires t c κs = omega arith
 
-print-exprs-print-expr-requires : (t : ℕ) → print-exprs-lts.Need-print-expr-requires (print-exprs-calls t) (print-exprs-at t) print-exprs.Post print-exprs-Inv-loop print-exprs-μ-loop
-print-exprs-print-expr-requires t c κs = let e : c .before .before .before .put-byte .result ≡ c .before .before .before .before .before .before .loop .i + 1 = wrote-end _ _ _ _ _ (c .before .before .before .put-byte .ensures) in omega arith
+print-exprs-print-child-requires : (t : ℕ) → print-exprs-lts.Need-print-child-requires (print-exprs-calls t) (print-exprs-at t) print-exprs.Post print-exprs-Inv-loop print-exprs-μ-loop
+print-exprs-print-child-requires t c κs = let e : c .before .before .before .put-byte .result ≡ c .before .before .before .before .before .before .loop .i + 1 = wrote-end _ _ _ _ _ (c .before .before .before .put-byte .ensures) in omega arith
 
 print-exprs-enum-known-q : (t : ℕ) → print-exprs-lts.Need-enum-known-q (print-exprs-calls t) (print-exprs-at t) print-exprs.Post print-exprs-Inv-loop print-exprs-μ-loop
 print-exprs-enum-known-q t c = search needs
@@ -179,10 +221,10 @@ print-exprs-enum-told : (t : ℕ) → print-exprs-lts.Need-enum-told (print-expr
 print-exprs-enum-told t c = search needs
 
 print-exprs-same-length : (t : ℕ) → print-exprs-lts.Need-same-length (print-exprs-calls t) (print-exprs-at t) print-exprs.Post print-exprs-Inv-loop print-exprs-μ-loop
-print-exprs-same-length t c = c .before .before .before .before .print-expr .kept .1 .0 ∙ c .before .before .before .before .before .before .before .before .put-byte .kept .0 ∙ c .before .before .before .before .before .before .before .before .before .before .before .loop .inv .3
+print-exprs-same-length t c = c .before .before .before .before .print-child .kept .1 .0 ∙ c .before .before .before .before .before .before .before .before .put-byte .kept .0 ∙ c .before .before .before .before .before .before .before .before .before .before .before .loop .inv .3
 
 print-exprs-returns : (t : ℕ) → print-exprs-lts.Need-returns (print-exprs-calls t) (print-exprs-at t) print-exprs.Post print-exprs-Inv-loop print-exprs-μ-loop
-print-exprs-returns t c = let b4 = c .before .before .before .before in let b10 = b4 .before .before .before .before .before .before in b10 .before .loop .inv .0 _ _ (all-stop _ _ expr _ _ _ _ _ _ _ _ _ (b10 .loop-test .taken) (b4 .print-expr .ensures) (c .enum-told .given .1))
+print-exprs-returns t c = let b4 = c .before .before .before .before in let b10 = b4 .before .before .before .before .before .before in b10 .before .loop .inv .0 _ _ (all-stop _ _ expr _ _ _ _ _ _ _ _ _ (b10 .loop-test .taken) (b4 .print-child .ensures) (c .enum-told .given .1))
 
 print-exprs-sub-left : (t : ℕ) → print-exprs-lts.Need-sub-left (print-exprs-calls t) (print-exprs-at t) print-exprs.Post print-exprs-Inv-loop print-exprs-μ-loop
 print-exprs-sub-left t c = search needs
@@ -191,7 +233,7 @@ print-exprs-loop-less : (t : ℕ) → print-exprs-lts.Need-loop-less (print-expr
 print-exprs-loop-less t c = search needs
 
 print-exprs-loop-again : (t : ℕ) → print-exprs-lts.Need-loop-again (print-exprs-calls t) (print-exprs-at t) print-exprs.Post print-exprs-Inv-loop print-exprs-μ-loop
-print-exprs-loop-again t c = let b5 = c .before .before .before .before .before in let b9 = b5 .before .before .before .before in let b12 = b9 .before .before .before in let e : b9 .put-byte .result ≡ b12 .loop .i + 1 = wrote-end _ _ _ _ _ (b9 .put-byte .ensures) in let (g, k) = printed-within _ _ expr _ _ _ _ _ _ _ (b5 .print-expr .ensures) (c .before .q .given .1) in (λ b r t. b12 .loop .inv .0 b r (all-more _ _ expr _ _ _ _ _ _ _ _ _ _ (b9 .before .before .loop-test .taken) (b9 .put-byte .ensures) (b5 .print-expr .ensures) (c .before .q .given .1) b r t), le-trans (b12 .loop .inv .1) g, omega arith, b5 .print-expr .kept .1 .0 ∙ b9 .put-byte .kept .0 ∙ b12 .loop .inv .3)
+print-exprs-loop-again t c = let b5 = c .before .before .before .before .before in let b9 = b5 .before .before .before .before in let b12 = b9 .before .before .before in let e : b9 .put-byte .result ≡ b12 .loop .i + 1 = wrote-end _ _ _ _ _ (b9 .put-byte .ensures) in let (g, k) = printed-within _ _ expr _ _ _ _ _ _ _ (b5 .print-child .ensures) (c .before .q .given .1) in (λ b r t. b12 .loop .inv .0 b r (all-more _ _ expr _ _ _ _ _ _ _ _ _ _ (b9 .before .before .loop-test .taken) (b9 .put-byte .ensures) (b5 .print-child .ensures) (c .before .q .given .1) b r t), le-trans (b12 .loop .inv .1) g, omega arith, b5 .print-child .kept .1 .0 ∙ b9 .put-byte .kept .0 ∙ b12 .loop .inv .3)
 
 print-exprs-same-length-2 : (t : ℕ) → print-exprs-lts.Need-same-length-2 (print-exprs-calls t) (print-exprs-at t) print-exprs.Post print-exprs-Inv-loop print-exprs-μ-loop
 print-exprs-same-length-2 t c = c .before .loop .inv .3
@@ -322,11 +364,12 @@ print-preds-same-length-2 t c = c .before .loop .inv .3
 print-preds-returns-2 : (t : ℕ) → print-preds-lts.Need-returns-2 (print-preds-calls t) (print-preds-at t) print-preds.Post print-preds-Inv-loop print-preds-μ-loop
 print-preds-returns-2 t c = c .before .loop .inv .0 _ _ (all-none _ _ pred _ _ _ _ (c .loop-test .left))
 
-pub +print-expr+print-exprs+print-kids+print-pred+print-preds-spec : {M : Type 1} → statement M
-+print-expr+print-exprs+print-kids+print-pred+print-preds-spec =
-    close μ-print-expr μ-print-exprs μ-print-kids μ-print-pred μ-print-preds
+pub +print-child+print-expr+print-exprs+print-kids+print-pred+print-preds-spec : {M : Type 1} → statement M
++print-child+print-expr+print-exprs+print-kids+print-pred+print-preds-spec =
+    close μ-print-child μ-print-expr μ-print-exprs μ-print-kids μ-print-pred μ-print-preds
+    (λ t. print-child-lts.spec (print-child-calls t) (print-child-at t) print-child.Post (print-child-is-leaf-requires t) (print-child-add-t7 t) (print-child-put-leaf-requires t) (print-child-same-length t) (print-child-returns t) (print-child-print-expr-requires t) (print-child-same-length-2 t) (print-child-returns-2 t))
     (λ t. print-expr-lts.spec (print-expr-calls t) (print-expr-at t) print-expr.Post (print-expr-returns t) (print-expr-returns-2 t) (print-expr-mul-tag t) (print-expr-shared-slice-read-tag t) (print-expr-add-expr-head t) (print-expr-expr-head-requires t) (print-expr-enum-known-p t) (print-expr-enum-told t) (print-expr-returns-3 t) (print-expr-put-head-requires t) (print-expr-sub-print-kids t) (print-expr-print-kids-requires t) (print-expr-enum-known-q t) (print-expr-enum-told-2 t) (print-expr-same-length t) (print-expr-returns-4 t) (print-expr-put-byte-requires t) (print-expr-same-length-2 t) (print-expr-returns-5 t))
-    (λ t. print-exprs-lts.spec (print-exprs-calls t) (print-exprs-at t) print-exprs.Post print-exprs-Inv-loop print-exprs-μ-loop (print-exprs-loop-holds t) (print-exprs-put-byte-requires t) (print-exprs-print-expr-requires t) (print-exprs-enum-known-q t) (print-exprs-enum-told t) (print-exprs-same-length t) (print-exprs-returns t) (print-exprs-sub-left t) (print-exprs-loop-less t) (print-exprs-loop-again t) (print-exprs-same-length-2 t) (print-exprs-returns-2 t))
+    (λ t. print-exprs-lts.spec (print-exprs-calls t) (print-exprs-at t) print-exprs.Post print-exprs-Inv-loop print-exprs-μ-loop (print-exprs-loop-holds t) (print-exprs-put-byte-requires t) (print-exprs-print-child-requires t) (print-exprs-enum-known-q t) (print-exprs-enum-told t) (print-exprs-same-length t) (print-exprs-returns t) (print-exprs-sub-left t) (print-exprs-loop-less t) (print-exprs-loop-again t) (print-exprs-same-length-2 t) (print-exprs-returns-2 t))
     (λ t. print-kids-lts.spec (print-kids-calls t) (print-kids-at t) print-kids.Post (print-kids-print-preds-requires t) (print-kids-enum-known-p t) (print-kids-enum-told t) (print-kids-same-length t) (print-kids-returns t) (print-kids-print-exprs-requires t) (print-kids-same-length-2 t) (print-kids-returns-2 t))
     (λ t. print-pred-lts.spec (print-pred-calls t) (print-pred-at t) print-pred.Post (print-pred-returns t) (print-pred-returns-2 t) (print-pred-mul-tag t) (print-pred-shared-slice-read-tag t) (print-pred-add-pred-head t) (print-pred-pred-head-requires t) (print-pred-enum-known-p t) (print-pred-enum-told t) (print-pred-returns-3 t) (print-pred-put-head-requires t) (print-pred-sub-print-kids t) (print-pred-print-kids-requires t) (print-pred-enum-known-q t) (print-pred-enum-told-2 t) (print-pred-same-length t) (print-pred-returns-4 t) (print-pred-put-byte-requires t) (print-pred-same-length-2 t) (print-pred-returns-5 t))
     (λ t. print-preds-lts.spec (print-preds-calls t) (print-preds-at t) print-preds.Post print-preds-Inv-loop print-preds-μ-loop (print-preds-loop-holds t) (print-preds-put-byte-requires t) (print-preds-print-pred-requires t) (print-preds-enum-known-q t) (print-preds-enum-told t) (print-preds-same-length t) (print-preds-returns t) (print-preds-sub-left t) (print-preds-loop-less t) (print-preds-loop-again t) (print-preds-same-length-2 t) (print-preds-returns-2 t))
