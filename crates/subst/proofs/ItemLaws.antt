@@ -1,16 +1,20 @@
 -- Loops over a row and its marks. Assumes nothing.
-use mathlib.Core.Path.{_≡_, refl, ap}
-use mathlib.Core.Bool.{Bool, true, false, not}
+use mathlib.Core.Path.{_≡_, refl, ap, sym, _∙_}
+use mathlib.Core.Bool.{Bool, true, false, not, _&&_}
 use mathlib.Core.List.{List, [], _∷_, _++_, append-assoc}
 use Prim.Native.Nat.{ℕ, zero, suc, _+_, _-_, _≤_, _<_}
 use native.Mathlib.Nat.{add-zero}
 use native.Mathlib.Numerals.{sub-one}
 use native.Mathlib.Omega.{arith}
+use borrow.Author.Tests.{le-leb}
+use lib.Dec.{ltb, eqb}
 use lib.ListN.{length, getD, drop, set, length-append, length-drop}
 use lib.Seq.{drop-drop, set-out}
+use Rattle.tree.specs.Form.{pick}
 use Rattle.form.proofs.HeadLaws.{here, gone}
 use Rattle.form.proofs.DecodeLaws.{clash}
-use Rattle.subst.specs.Internal.Items.{itemAt, items, sizeOf, rewritten, allItems, store}
+use Rattle.subst.specs.Internal.Items.{itemAt, items, sizeOf, rewritten, allItems, itemIn, allBelow, store}
+use Rattle.subst.proofs.WalkLaws.{and-left, and-right}
 use Rattle.subst.specs.declared.items.Item.{Item}
 use Rattle.subst.specs.declared.items.Item.the-variants.{Plain, Ident}
 
@@ -139,3 +143,43 @@ store-front a (y ∷ b) (w ∷ ws) i e h =
 
 pub stored : (out ws : List ℕ) → length ws ≤ length out → store out 0 ws ≡ ws ++ drop (length ws) out
 stored out ws h = store-front [] out ws 0 refl h
+
+-- where every word is below hi, every index is
+in-below : (lo k t v hi : ℕ) → lo ≡ 0 → ltb v hi ≡ true → itemIn lo hi (Ident k t v) ≡ true
+unfolding itemIn
+in-below lo k t v hi z h = rw (z, h, le-leb 0 (v - k) (omega arith)) (go (eqb t 2) (ltb v k))
+  where
+    go : (b c : Bool) → pick b (pick c true (true && true)) true ≡ true
+    go true true = refl
+    go true false = refl
+    go false c = refl
+
+pub below-in : (lo hi : ℕ) (row marks : List ℕ) → lo ≡ 0 → allBelow hi row ≡ true → allItems (itemIn lo hi) (items row marks) ≡ true
+unfolding allBelow allItems items itemIn
+below-in lo hi [] ms z h = refl
+below-in lo hi (w ∷ ws) [] z h = below-in lo hi ws [] z (and-right (ltb w hi) (allBelow hi ws) h)
+below-in lo hi (w ∷ ws) (zero ∷ ms) z h = below-in lo hi ws ms z (and-right (ltb w hi) (allBelow hi ws) h)
+below-in lo hi (w ∷ []) (suc k ∷ ms) z h = refl
+below-in lo hi (w ∷ v ∷ ws) (suc k ∷ ms) z h =
+    let g = and-right (ltb w hi) (ltb v hi && allBelow hi ws) h in
+    rw (in-below lo k w v hi z (and-left (ltb v hi) (allBelow hi ws) g)) (below-in lo hi ws (drop 1 ms) z (and-right (ltb v hi) (allBelow hi ws) g))
+
+-- the pass over the words
+module _ (hi : ℕ) (row : List ℕ) (i : ℕ) (b : Bool) where
+  pub below-more : i < length row → allBelow hi row ≡ (b && allBelow hi (drop i row)) → allBelow hi row ≡ (pick (ltb (getD row i 0) hi) b false && allBelow hi (drop (i + 1) row))
+  unfolding allBelow
+  below-more low e = e ∙ rw (here row i low) (go b (ltb (getD row i 0) hi))
+    where
+      go : (b c : Bool) → (b && (c && allBelow hi (drop (i + 1) row))) ≡ (pick c b false && allBelow hi (drop (i + 1) row))
+      go true true = refl
+      go true false = refl
+      go false true = refl
+      go false false = refl
+
+  pub below-end : length row ≤ i → allBelow hi row ≡ (b && allBelow hi (drop i row)) → b ≡ allBelow hi row
+  unfolding allBelow
+  below-end h e = sym (e ∙ rw (gone row i h) (go b))
+    where
+      go : (b : Bool) → (b && true) ≡ b
+      go true = refl
+      go false = refl

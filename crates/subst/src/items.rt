@@ -1,7 +1,10 @@
 // A row and its marks, item by item: the words that stay, and the names and indices with their depth.
 ghost use mathlib.Core.Path.{_≡_};
+ghost use mathlib.Core.Bool.{false};
+ghost use lib.Dec.{ltb};
 ghost use lib.ListN.{drop};
-ghost use Rattle.subst.specs.Internal.Items.{itemAt, items, sizeOf, wordsOf, allItems, itemIn, store};
+ghost use Rattle.tree.specs.Form.{pick};
+ghost use Rattle.subst.specs.Internal.Items.{itemAt, items, sizeOf, wordsOf, allItems, itemIn, allBelow, store};
 
 // A word that stays, or a name or index: its depth, tag and number.
 pub enum Item {
@@ -78,7 +81,31 @@ fn item_in(lo: u32, hi: u32, it: Item) -> bool
     v < hi
 }
 
-pub fn all_in(row: &[u32], marks: &[u32], lo: u32, hi: u32) -> bool
+// Whether words that were below hi still are with one more.
+fn still_below(below: bool, hi: u32, w: u32) -> bool
+    ensures { λ r. ⌜ r ≡ pick (ltb w hi) below false ⌝ }
+{
+    if w < hi {
+        return below;
+    }
+    false
+}
+
+// Whether every word of a row is below hi: one pass to its end, which takes several words at a time.
+fn all_below(row: &[u32], hi: u32) -> bool
+    ensures { λ r. ⌜ r ≡ allBelow hi (now (row .entry)) ⌝ }
+{
+    let mut below = true;
+    let mut i = 0;
+    while i < row.len() {
+        below = still_below(below, hi, row[i]);
+        i += 1;
+    }
+    below
+}
+
+// Whether every index that dangles does so by at least lo, and is below hi, looked up item by item.
+fn each_in(row: &[u32], marks: &[u32], lo: u32, hi: u32) -> bool
     ensures { λ r. ⌜ r ≡ allItems (itemIn lo hi) (items (now (row .entry)) (now (marks .entry))) ⌝ }
 {
     let mut i = 0;
@@ -90,4 +117,16 @@ pub fn all_in(row: &[u32], marks: &[u32], lo: u32, hi: u32) -> bool
         i += size_of(it);
     }
     true
+}
+
+// The same; where lo is 0 and every word is below hi, no item is looked up.
+pub fn all_in(row: &[u32], marks: &[u32], lo: u32, hi: u32) -> bool
+    ensures { λ r. ⌜ r ≡ allItems (itemIn lo hi) (items (now (row .entry)) (now (marks .entry))) ⌝ }
+{
+    if lo == 0 {
+        if all_below(row, hi) {
+            return true;
+        }
+    }
+    each_in(row, marks, lo, hi)
 }

@@ -67,6 +67,11 @@ unfoldable pub itemIn : ℕ → ℕ → Item → Bool
 itemIn lo hi (Plain w) = true
 itemIn lo hi (Ident k t v) = pick (eqb t 2) (pick (ltb v k) true (leb lo (v - k) && ltb v hi)) true
 
+-- whether every word is below hi
+unfoldable pub allBelow : ℕ → List ℕ → Bool
+allBelow hi [] = true
+allBelow hi (w ∷ ws) = ltb w hi && allBelow hi ws
+
 unfoldable pub moveWord : ℕ → ℕ → ℕ → ℕ
 moveWord u d v = min (v + u) 4294967295 - d
 
