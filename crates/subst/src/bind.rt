@@ -115,6 +115,10 @@ pub fn bind_idents(names: &[u32], row: &[u32], out: &mut [u32]) -> Answer
         let mut marks = [0u32; 512];
         return bind_in(names, row, &mut marks, out);
     }
+    if row.len() <= 2048 {
+        let mut marks = [0u32; 2048];
+        return bind_in(names, row, &mut marks, out);
+    }
     if Limit::WORDS < row.len() {
         return Answer::No(1);
     }

@@ -130,6 +130,10 @@ pub fn shift_bound_identifiers(row: &[u32], offset: i32, out: &mut [u32]) -> Ans
         let mut marks = [0u32; 512];
         return shift_in(row, offset, &mut marks, out);
     }
+    if row.len() <= 2048 {
+        let mut marks = [0u32; 2048];
+        return shift_in(row, offset, &mut marks, out);
+    }
     if Limit::WORDS < row.len() {
         return Answer::No(1);
     }
