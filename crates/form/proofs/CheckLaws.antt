@@ -11,7 +11,7 @@ use Rattle.tree.specs.Form.{Form, pick, encode}
 use Rattle.tree.specs.Tag.{Sort, expr, pred, own, ownOf, shapeOf}
 use Rattle.form.specs.Decode.{read, got, no-form, decode, Whole, one, not-one, whole, rowForm, Found, found, missing, asSort, either, formOf}
 use Rattle.form.specs.Answer.{Outcome, answer, refusal, told, ofFound, checkOutcome}
-use Rattle.form.specs.Internal.Reads.{Told, Marked, known, asExpr}
+use Rattle.form.specs.Internal.Reads.{mark, Told, Marked, known, asExpr}
 use Rattle.form.specs.declared.answer.Kind.{Kind}
 use Rattle.form.specs.declared.answer.Kind.the-variants.{Expression, Predicate, Either}
 use Rattle.form.specs.declared.answer.Answer.the-variants.{Done, No}
@@ -83,6 +83,31 @@ form-of Expression row b e = rw e
 form-of Predicate row b e = rw e
 form-of Either row b e = sort-of row b (sym e)
 
+-- a row read as one form of a sort, at most d deep
+module _ (d : ℕ) (s : Sort) (row a b : List ℕ) (r : Step) (t : Told 0 0 (decode d s row) a b r) where
+  pub read-bad : r ≡ Bad → whole (decode d s row) ≡ not-one
+  read-bad e = rw (told-bad 0 0 (decode d s row) a b r t e)
+
+  pub read-whole : (p : ℕ) → r ≡ End p → p ≡ length row → (f : Form) × (whole (decode d s row) ≡ one f) × (b ≡ mark f 0 0 a)
+  read-whole p e q =
+      let (f, y, g, l, m) = told-end 0 0 (decode d s row) a b r p t e in
+      let (w, n) = decode-sound d s row f y g in
+      (f, go f y g (let n = ap length w ∙ length-append (encode f) y in omega arith), m)
+    where
+      go : (f : Form) (y : List ℕ) → decode d s row ≡ got f y → length y ≡ 0 → whole (decode d s row) ≡ one f
+      go f [] g e = rw g
+      go f (w ∷ y) g e = absurd (omega arith)
+
+  pub read-part : (p : ℕ) → r ≡ End p → (p ≡ length row → ⊥) → whole (decode d s row) ≡ not-one
+  read-part p e q =
+      let (f, y, g, l, m) = told-end 0 0 (decode d s row) a b r p t e in
+      let (w, n) = decode-sound d s row f y g in
+      go f y g (λ z. let n = ap length w ∙ length-append (encode f) y in q (omega arith))
+    where
+      go : (f : Form) (y : List ℕ) → decode d s row ≡ got f y → (length y ≡ 0 → ⊥) → whole (decode d s row) ≡ not-one
+      go f [] g e = absurd (e refl)
+      go f (w ∷ y) g e = rw g
+
 module _ (kind : Kind) (row a b : List ℕ) where
   pub row-long : 8192 < length row → (No 1 ≡ told (checkOutcome kind row)) × Marked (formOf kind row) a b
   unfolding checkOutcome Marked formOf rowForm
@@ -105,26 +130,14 @@ module _ (kind : Kind) (row a b : List ℕ) where
 
     pub row-bad : r ≡ Bad → (No 2 ≡ told (checkOutcome kind row)) × Marked (formOf kind row) a b
     unfolding Marked
-    row-bad e = ends not-one (rw (told-bad 0 0 (decode 64 (sortFor x) row) a b r t e)) (refusal 2) refl tt
-
-    whole-is : (f : Form) (y : List ℕ) → decode 64 (sortFor x) row ≡ got f y → length y ≡ 0 → whole (decode 64 (sortFor x) row) ≡ one f
-    whole-is f [] g e = rw g
-    whole-is f (w ∷ y) g e = absurd (omega arith)
-
-    part-is : (f : Form) (y : List ℕ) → decode 64 (sortFor x) row ≡ got f y → (length y ≡ 0 → ⊥) → whole (decode 64 (sortFor x) row) ≡ not-one
-    part-is f [] g e = absurd (e refl)
-    part-is f (w ∷ y) g e = rw g
+    row-bad e = ends not-one (read-bad 64 (sortFor x) row a b r t e) (refusal 2) refl tt
 
     pub row-whole : (p : ℕ) → r ≡ End p → p ≡ length row → (Done 0 ≡ told (checkOutcome kind row)) × Marked (formOf kind row) a b
     unfolding Marked
     row-whole p e q =
-        let (f, y, g, l, m) = told-end 0 0 (decode 64 (sortFor x) row) a b r p t e in
-        let (w, n) = decode-sound 64 (sortFor x) row f y g in
-        ends (one f) (whole-is f y g (let n = ap length w ∙ length-append (encode f) y in omega arith)) (answer []) refl m
+        let (f, w, m) = read-whole 64 (sortFor x) row a b r t p e q in
+        ends (one f) w (answer []) refl m
 
     pub row-part : (p : ℕ) → r ≡ End p → (p ≡ length row → ⊥) → (No 2 ≡ told (checkOutcome kind row)) × Marked (formOf kind row) a b
     unfolding Marked
-    row-part p e q =
-        let (f, y, g, l, m) = told-end 0 0 (decode 64 (sortFor x) row) a b r p t e in
-        let (w, n) = decode-sound 64 (sortFor x) row f y g in
-        ends not-one (part-is f y g (λ z. let n = ap length w ∙ length-append (encode f) y in q (omega arith))) (refusal 2) refl tt
+    row-part p e q = ends not-one (read-part 64 (sortFor x) row a b r t p e q) (refusal 2) refl tt

@@ -19,18 +19,21 @@ within : (b : Bool) (w : Whole) (f : Form) → pick b w not-one ≡ one f → (b
 within true w f e = (refl, e)
 within false w f e = absurd (clash cc)
 
-whole-exact : (s : Sort) (row : List ℕ) (f : Form) (g : Got) → decode 64 s row ≡ g → whole g ≡ one f → (row ≡ encode f) × Ok 64 s f
-whole-exact s row f (got f′ []) q e =
-    let z : f′ ≡ f = cc in
-    let y = decode-sound 64 s row f′ [] q in
-    rw (← z) (y .0 ∙ append-nil (encode f′), y .1)
-whole-exact s row f (got f′ (w ∷ r)) q e = absurd (clash cc)
-whole-exact s row f no-form q e = absurd (clash cc)
+pub whole-exact : (d : ℕ) (s : Sort) (row : List ℕ) (f : Form) → whole (decode d s row) ≡ one f → (row ≡ encode f) × Ok d s f
+whole-exact d s row f e = go (decode d s row) refl e
+  where
+    go : (g : Got) → decode d s row ≡ g → whole g ≡ one f → (row ≡ encode f) × Ok d s f
+    go (got f′ []) q e =
+        let z : f′ ≡ f = cc in
+        let y = decode-sound d s row f′ [] q in
+        rw (← z) (y .0 ∙ append-nil (encode f′), y .1)
+    go (got f′ (w ∷ r)) q e = absurd (clash cc)
+    go no-form q e = absurd (clash cc)
 
 module _ (s : Sort) (row : List ℕ) (f : Form) (e : rowForm s row ≡ one f) where
   pub row-exact : (row ≡ encode f) × Ok 64 s f
   unfolding rowForm
-  row-exact = whole-exact s row f (decode 64 s row) refl (within (leb (length row) 8192) (whole (decode 64 s row)) f e .1)
+  row-exact = whole-exact 64 s row f (within (leb (length row) 8192) (whole (decode 64 s row)) f e .1)
 
   pub row-short : length row ≤ 8192
   unfolding rowForm

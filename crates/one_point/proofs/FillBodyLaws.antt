@@ -175,7 +175,7 @@ module _ (row lm names body marks : List ℕ) (t : Table) (ps : List Place) (tab
       rw any
 
   module _ (room : ℕ) where
-    emits : (hd : List ℕ) (from : ℕ) (r : Form) → hd ++ restFrom from ≡ encode r → placedRow hd t 0 row lm (drop from body) (drop from marks) room ≡ finish pred room r
+    emits : (hd : List ℕ) (from : ℕ) (r : Form) → hd ++ restFrom from ≡ encode r → placedRow false hd t 0 row lm (drop from body) (drop from marks) room ≡ finish pred room r
     unfolding placedRow replaced
     emits hd from r e = rw (ready-is t row lm 0 ready, words, e) (emit-form pred room r)
 

@@ -78,7 +78,7 @@ kept-room names body j from start low few s h =
 
 pub kept-row : (row lm names : List ℕ) (j : ℕ) (t : Table) (body marks : List ℕ) (room from start : ℕ) (hd : List ℕ) → from ≡ innerFrom (ltb j (t .n)) (take j names) (take (length names - j) (drop j names)) body → start ≡ innerStart from
     → hd ≡ headWords 852 (take j names ++ (take (length names - j) (drop j names) ++ take (from - start) (drop start body)))
-    → placedRow hd t 0 row lm (drop from body) (drop from marks) room ≡ keptRow row lm names j t body marks room
+    → placedRow false hd t 0 row lm (drop from body) (drop from marks) room ≡ keptRow row lm names j t body marks room
 unfolding keptRow
 kept-row row lm names j t body marks room from start hd e s h =
     let k : from ≡ innerFrom (ltb j (t .n)) (take j names) (drop j names) body = rw (rest-part names j) at e in

@@ -28,3 +28,4 @@ pub mod BodyLaws
 pub mod SetLaws
 pub mod FillBodyLaws
 pub mod MemberLaws
+pub mod InsidePoint

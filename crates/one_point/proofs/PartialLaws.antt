@@ -39,7 +39,7 @@ pub mark-front : (f : Form) (u n : ℕ) → length (encode f) ≤ n → mark f 0
 mark-front f u n h = rw (zeros-replicate (encode f) n h) (mark-zeros f 0 u [] (replicate (n - length (encode f)) 0) refl)
 
 -- the places that are lowered
-lower-places : (n : ℕ) (ps : List Place) → map (lowerPlace n) ps ≡ map (lowPlace (lower n)) ps
+pub lower-places : (n : ℕ) (ps : List Place) → map (lowerPlace n) ps ≡ map (lowPlace (lower n)) ps
 lower-places n [] = refl
 lower-places n (kept ∷ ps) = ap (λ z. kept ∷ z) (lower-places n ps)
 lower-places n (filled x ∷ ps) = ap (λ z. filled (lower n x) ∷ z) (lower-places n ps)
@@ -56,7 +56,7 @@ join-not t u ns o ds (more f none) e = go (eqb u 851 || eqb u 852)
 join-not t u ns o ds (more f (more g gs)) e = refl
 
 -- one with the same tag does
-join-same : (t : ℕ) (ns o ds : List ℕ) (f : Form) → (eqb t 851 || eqb t 852) ≡ true → joinWith t ns (node t o ds (more f none)) (quantified (node t o ds (more f none))) ≡ quantify t (ns ++ ds) f
+pub join-same : (t : ℕ) (ns o ds : List ℕ) (f : Form) → (eqb t 851 || eqb t 852) ≡ true → joinWith t ns (node t o ds (more f none)) (quantified (node t o ds (more f none))) ≡ quantify t (ns ++ ds) f
 unfolding quantified
 join-same t ns o ds f e = rw (e, eq-eqb t t refl)
 
@@ -81,6 +81,23 @@ pub node-heads : (t u : ℕ) (o ds : List ℕ) (ks : Forms) → (u ≡ t → ⊥
 unfolding encode
 node-heads t u o ds ks ne = record { other = λ ns e ps. node-other t u o ds ks ns e ps; same = λ e. absurd (ne e) }
 
+-- a body that is a quantifier itself, filled
+module _ (g : Form) (y : Quant g) where
+  quant-one : getD (encode g) 1 0 ≡ length (y .decls)
+  unfolding encode
+  quant-one = rw (y .form)
+
+  pub inner-are : take (getD (encode g) 1 0) (drop 2 (encode g)) ≡ y .decls
+  inner-are = rw (quant-one, quant-names g y) (take-at (y .decls) (encode (y .body)) (length (y .decls)) refl)
+
+  pub filled-quant : (t : ℕ) (ps : List Place) → y .tag ≡ t → subst (fillFor ps) g ≡ node t (length (y .decls) ∷ []) (y .decls) (more (walk (put (fillFor ps)) (length (y .decls)) (y .body)) none)
+  unfolding walk
+  filled-quant t ps e = rw (y .form, e, add-zero)
+
+  pub same-tag : (t : ℕ) → (eqb t 851 || eqb t 852) ≡ true → (ps : List Place) → y .tag ≡ t → (ns : List ℕ)
+      → joinWith t ns (subst (fillFor ps) g) (quantified (subst (fillFor ps) g)) ≡ quantify t (ns ++ y .decls) (walk (put (fillFor ps)) (length (y .decls)) (y .body))
+  same-tag t which ps e ns = rw (filled-quant t ps e) (join-same t ns (length (y .decls) ∷ []) (y .decls) (walk (put (fillFor ps)) (length (y .decls)) (y .body)) which)
+
 -- the body filled, by its row and marks from a word on
 module _ (t : ℕ) (which : (eqb t 851 || eqb t 852) ≡ true) (ps : List Place) (g : Form) (shape : Heads t g) (rest-from : ℕ → List ℕ) (whole : rest-from 0 ≡ encode (subst (fillFor ps) g))
     (inner : (y : Quant g) → rest-from (2 + length (y .decls)) ≡ encode (walk (put (fillFor ps)) (length (y .decls)) (y .body))) where
@@ -91,26 +108,13 @@ module _ (t : ℕ) (which : (eqb t 851 || eqb t 852) ≡ true) (ps : List Place)
   quantify-words ns = rw whole (encode-quantify t ns (subst (fillFor ps) g))
 
   -- where nothing stays and there is a front
-  same-tag : (y : Quant g) → y .tag ≡ t → (ns : List ℕ) → joinWith t ns (subst (fillFor ps) g) (quantified (subst (fillFor ps) g)) ≡ quantify t (ns ++ y .decls) (walk (put (fillFor ps)) (length (y .decls)) (y .body))
-  unfolding walk
-  same-tag y e ns =
-      let f : subst (fillFor ps) g ≡ node t (length (y .decls) ∷ []) (y .decls) (more (walk (put (fillFor ps)) (length (y .decls)) (y .body)) none) = rw (y .form, e, add-zero) in
-      rw f (join-same t ns (length (y .decls) ∷ []) (y .decls) (walk (put (fillFor ps)) (length (y .decls)) (y .body)) which)
-
-  quant-one : (y : Quant g) → getD (encode g) 1 0 ≡ length (y .decls)
-  unfolding encode
-  quant-one y = rw (y .form)
-
-  inner-are : (y : Quant g) → take (getD (encode g) 1 0) (drop 2 (encode g)) ≡ y .decls
-  inner-are y = rw (quant-one y, quant-names g y) (take-at (y .decls) (encode (y .body)) (length (y .decls)) refl)
-
   none-stays : (n : ℕ) (ns : List ℕ) (b : Bool) → eqb (getD (encode g) 0 0) t ≡ b → made (n ∷ ns) [] ≡ encode (joinWith t (n ∷ ns) (subst (fillFor ps) g) (quantified (subst (fillFor ps) g)))
   unfolding joins innerEnd innerNames
   none-stays n ns false e = rw (e, shape .other (n ∷ ns) e ps) (ap (λ z. headWords t (n ∷ z) ++ rest-from 0) (append-nil ns) ∙ quantify-words (n ∷ ns))
   none-stays n ns true e =
       let q : getD (encode g) 0 0 ≡ t = eqb-true (getD (encode g) 0 0) t e in
       let y = shape .same q in
-      rw (e, same-tag y (sym (quant-tag g y) ∙ q) (n ∷ ns), inner-are y, quant-one y, inner y) (encode-quantify t ((n ∷ ns) ++ y .decls) (walk (put (fillFor ps)) (length (y .decls)) (y .body)))
+      rw (e, same-tag g y t which ps (sym (quant-tag g y) ∙ q) (n ∷ ns), inner-are g y, quant-one g y, inner y) (encode-quantify t ((n ∷ ns) ++ y .decls) (walk (put (fillFor ps)) (length (y .decls)) (y .body)))
 
   pub round-words : (ns stay : List ℕ) → made ns stay ≡ encode (putRound t ns (quantify t stay (subst (fillFor ps) g)))
   unfolding joins innerEnd innerNames putRound

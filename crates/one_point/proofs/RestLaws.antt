@@ -150,7 +150,7 @@ module _ (ns : List ℕ) (p : ℕ) (within : p < length ns) (few : length ns ≤
     pub rest-put : (t : ℕ) (hd : List ℕ) (tb : Table) → tb ≡ oneTable (length ns - p) (length part) → (from start : ℕ) → start ≡ innerStart from → (row marks : List ℕ) (room : ℕ)
         → from ≡ innerEnd t (take p ns) (take (length ns - (p + 1)) (drop (p + 1) ns)) row
         → hd ≡ headWords t (take p ns ++ (take (length ns - (p + 1)) (drop (p + 1) ns) ++ take (from - start) (drop start row)))
-        → placedRow hd tb (length ns - p) part pm (drop from row) (drop from marks) room
+        → placedRow false hd tb (length ns - p) part pm (drop from row) (drop from marks) room
         ≡ partialRow t (take p ns) (drop p ns) (oneTable (length ns - p) (length part)) part pm row marks room
     unfolding placedRow replaced partialWords
     rest-put t hd tb b from start i row marks room e h =

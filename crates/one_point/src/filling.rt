@@ -86,7 +86,18 @@ fn fill_kept(
         &body[inner_start(from)..from],
         &mut head,
     );
-    fill_places(&head[..h], table, 0, row, row_marks, body, marks, from, out)
+    fill_places(
+        &head[..h],
+        table,
+        0,
+        false,
+        row,
+        row_marks,
+        body,
+        marks,
+        from,
+        out,
+    )
 }
 
 // The names round the body, with the places of the table filled by parts of the row.

@@ -107,6 +107,7 @@ pub(crate) fn put_rest(
         &head[..h],
         one_table(n, part.len()),
         n as u32,
+        false,
         part,
         part_marks,
         body,

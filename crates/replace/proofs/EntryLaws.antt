@@ -138,11 +138,26 @@ entry-place kind (entry w p ∷ es) g a a′ b b′ at h h′ (suc i) l =
 moved-place : (K : Type 0) (list list′ lm lm′ : List ℕ) (s e : ℕ) (p : Place) → PlaceAt K list lm s e p → list ≡ list′ → lm ≡ lm′ → PlaceAt K list′ lm′ s e p
 moved-place K list list′ lm lm′ s e p h a b = rw (← a, ← b) h
 
+-- the words of each place
+entry-part : (es : List Entry) (a b : List ℕ) (at : ℕ) → length a ≡ at → (i : ℕ) → i < length es
+    → part (getD (column start at es) i 0) (getD (column end at es) i 0) (a ++ (encodeList es ++ b)) ≡ placeWords (getD (map placeOf es) i kept)
+unfolding encodeList entryWords
+entry-part [] a b at h i l = absurd (omega arith)
+entry-part (entry w p ∷ es) a b at h zero l =
+    let y : a ++ (((w ∷ placeWords p) ++ encodeList es) ++ b) ≡ (a ++ (w ∷ [])) ++ (placeWords p ++ (encodeList es ++ b)) = simp append-assoc in
+    rw y (part-mid (a ++ (w ∷ [])) (placeWords p) (encodeList es ++ b) (at + 1) (at + suc (length (placeWords p))) (rw length-append (omega arith)) (omega arith))
+entry-part (entry w p ∷ es) a b at h (suc i) l =
+    let y : a ++ (((w ∷ placeWords p) ++ encodeList es) ++ b) ≡ (a ++ (w ∷ placeWords p)) ++ (encodeList es ++ b) = simp append-assoc in
+    rw y (entry-part es (a ++ (w ∷ placeWords p)) b (at + suc (length (placeWords p))) (rw length-append (omega arith)) i (omega arith))
+
 -- the places of a list that was read, by its table
 module _ (kind : ListKind) (list : List ℕ) (es : List Entry) (is : listOf kind list ≡ some es) (few : length es ≤ 32) where
   pub listed-in-row : (i : ℕ) → i < length es
       → (getD (tabled es 0 emptyTable .starts) i 0 ≤ getD (tabled es 0 emptyTable .ends) i 0) × (getD (tabled es 0 emptyTable .ends) i 0 ≤ length list)
   listed-in-row i h = rw (start-at es few i h, end-at es few i h, list-sound kind list es is .0) (rw zero-add at (spans es 0 i h))
+
+  pub listed-part : (i : ℕ) → i < length es → part (getD (tabled es 0 emptyTable .starts) i 0) (getD (tabled es 0 emptyTable .ends) i 0) list ≡ placeWords (getD (map placeOf es) i kept)
+  listed-part i h = rw (start-at es few i h, end-at es few i h, list-sound kind list es is .0) (rw append-nil at (entry-part es [] [] 0 refl i h))
 
   pub listed-places : (lm : List ℕ) → take (length list) lm ≡ markEntries es 0 (replicate (length list) 0) → (i : ℕ) → i < length es
       → PlaceAt (Kept kind) list lm (getD (tabled es 0 emptyTable .starts) i 0) (getD (tabled es 0 emptyTable .ends) i 0) (getD (map placeOf es) i kept)

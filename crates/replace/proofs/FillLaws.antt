@@ -1,6 +1,6 @@
 -- Fill on rows is fill on trees. Assumes nothing.
 use mathlib.Core.Path.{_≡_, refl, ap, sym, _∙_}
-use mathlib.Core.Bool.{true}
+use mathlib.Core.Bool.{Bool, true}
 use mathlib.Core.List.{List, [], _∷_, map}
 use mathlib.Core.Option.{none as absent, some}
 use Prim.Native.Nat.{ℕ, zero, suc, _+_, _-_, _≤_, _<_}
@@ -12,7 +12,7 @@ use Rattle.tree.specs.Form.{Form, encode}
 use Rattle.tree.specs.Tag.{Sort, pred}
 use Rattle.form.specs.Decode.{Whole, one, not-one, rowForm, found, missing, asSort, formOf}
 use Rattle.form.specs.Lists.{Place, kept, filled, Entry, entry, wordOf, placeOf, listOf}
-use Rattle.form.specs.Answer.{Outcome, refusal, needs, finish}
+use Rattle.form.specs.Answer.{Outcome, refusal, needs, isOne, finish}
 use Rattle.form.specs.Internal.Reads.{mark, markEntries, emptyTable, tabled, Listing}
 use Rattle.form.specs.declared.answer.Kind.the-variants.{Predicate}
 use Rattle.form.specs.declared.lists.ListKind.the-variants.{Places}
@@ -23,9 +23,11 @@ use Rattle.form.proofs.ListLaws.{GoodAll, list-sound}
 use Rattle.form.proofs.TableLaws.{listed-words, listed-n, listing-yes}
 use Rattle.subst.proofs.CheckedLaws.{Checked}
 use Rattle.replace.specs.Fill.{quantified, other, ofQuantified, fill, fillOutcome}
-use Rattle.replace.specs.Internal.Pieces.{filledWords, InRow, Ready, replaced, fillPlan, declaredIn, keptWords, headWords, filledRow}
+use Rattle.replace.specs.Internal.Pieces.{filledWords, InRow, Ready, replaced, fillPlan, declaredIn, keptWords, headWords, filledRow, isSure}
 use Rattle.replace.proofs.EntryLaws.{PlaceAt, listed-places, listed-in-row}
-use Rattle.replace.proofs.BuildLaws.{emit-form}
+use Rattle.replace.proofs.BuildLaws.{emit-sure}
+use Rattle.replace.proofs.InsideLaws.{fill-fits}
+use Rattle.replace.proofs.SmallLaws.{listed-small, sure-shallow}
 use Rattle.replace.proofs.CallLaws.{call-small, call-long, call-missing, call-list-long, call-no-list, call-read, front-same}
 use Rattle.replace.proofs.FillTree.{wordFor, fill-tree}
 use Rattle.replace.proofs.NameLaws.{kept-names, encode-quantify}
@@ -35,19 +37,20 @@ use Rattle.replace.proofs.QuantLaws.{Quant, is-quant, not-quant, quant-
 pub ready-gone : (t : Table) (g : ℕ) (list lm : List ℕ) → g ≡ filledWords (take (t .n) (t .words)) → Ready (fillPlan t) list lm → Ready (record { table = t; fills = true; gone = g; down = 0 }) list lm
 ready-gone t g list lm e h = rw e h
 
-pub filled-same : (hd list lm row marks : List ℕ) (t : Table) (g room : ℕ) → hd ≡ headWords (getD row 0 0) (keptWords (take (t .n) (t .words)) (drop 2 row)) → g ≡ filledWords (take (t .n) (t .words))
-    → replaced Predicate hd (record { table = t; fills = true; gone = g; down = 0 }) list lm (drop (2 + t .n) row) (drop (2 + t .n) marks) room ≡ filledRow list lm row marks t room
+pub filled-same : (sure sure′ : Bool) (hd list lm row marks : List ℕ) (t : Table) (g room : ℕ) → sure ≡ sure′ → hd ≡ headWords (getD row 0 0) (keptWords (take (t .n) (t .words)) (drop 2 row)) → g ≡ filledWords (take (t .n) (t .words))
+    → replaced sure Predicate hd (record { table = t; fills = true; gone = g; down = 0 }) list lm (drop (2 + t .n) row) (drop (2 + t .n) marks) room ≡ filledRow sure′ list lm row marks t room
 unfolding filledRow
-filled-same hd list lm row marks t g room e f = rw (e, f)
+filled-same sure sure′ hd list lm row marks t g room b e f = rw (b, e, f)
 
-pub same-filled : (list lm lm′ row marks : List ℕ) (t : Table) (room : ℕ) → lm ≡ lm′ → filledRow list lm row marks t room ≡ filledRow list lm′ row marks t room
-same-filled list lm lm′ row marks t room e = rw e
+pub same-filled : (sure : Bool) (list lm lm′ row marks : List ℕ) (t : Table) (room : ℕ) → lm ≡ lm′ → filledRow sure list lm row marks t room ≡ filledRow sure list lm′ row marks t room
+same-filled sure list lm lm′ row marks t room e = rw e
 
 -- a quantified row filled by places is the filled tree
 module _ (f : Form) (q : Quant f) (t : Table) (list lm : List ℕ) (ps : List Place) (words : take (t .n) (t .words) ≡ map wordFor ps) (count : t .n ≡ length ps)
     (placed : (i : ℕ) → i < length ps → PlaceAt (Unit {0}) list lm (getD (t .starts) i 0) (getD (t .ends) i 0) (getD ps i kept)) (fits : length ps ≡ length (q .decls))
-    (m : List ℕ) (marks : take (length (encode f)) m ≡ mark f 0 0 (replicate (length (encode f)) 0)) (room : ℕ) where
-  pub filled-tree : filledRow list lm (encode f) m t room ≡ finish pred room (fill (q .tag) (q .decls) ps (q .body))
+    (m : List ℕ) (marks : take (length (encode f)) m ≡ mark f 0 0 (replicate (length (encode f)) 0)) (room : ℕ)
+    (sure : Bool) (inside : sure ≡ true → length (encode (fill (q .tag) (q .decls) ps (q .body))) ≤ 8192 → isOne (rowForm pred (encode (fill (q .tag) (q .decls) ps (q .body)))) ≡ true) where
+  pub filled-tree : filledRow sure list lm (encode f) m t room ≡ finish pred room (fill (q .tag) (q .decls) ps (q .body))
   unfolding filledRow replaced fill
   filled-tree =
       let most = q .most in
@@ -60,7 +63,7 @@ module _ (f : Form) (q : Quant f) (t : Table) (list lm : List ℕ) (ps : List Pl
         kept-names ps (q .decls) (encode (q .body)) fits,
         encode-quantify,
       )
-      (emit-form pred room _)
+      (emit-sure sure pred room _ inside)
 
 -- the row's form
 pub pred-sort : (row : List ℕ) (s : Sort) (f : Form) → formOf Predicate row ≡ found s f → s ≡ pred
@@ -194,17 +197,28 @@ module _ (list : List ℕ) (t : Table) (work : List ℕ) (n : ℕ) (y : Placing 
     row-marks : take (length (encode (x .form))) work ≡ mark (x .form) 0 0 (replicate (length (encode (x .form))) 0)
     row-marks = rw (x .words) at (front-same work work₀ (length row) (x .short) same ∙ x .marks)
 
-    fill-built : filledRow list (drop 8192 work) (encode (x .form)) work (tabled (y .es) 0 emptyTable) room ≡ finish pred room (fill (q .tag) (q .decls) (map placeOf (y .es)) (q .body))
-    fill-built =
-        filled-tree (x .form) q (tabled (y .es) 0 emptyTable) list (drop 8192 work) (map placeOf (y .es)) (listed-words (y .es) es-few ∙ place-words (y .es) (list-sound Places list (y .es) (y .is) .1))
-        (listed-n (y .es) ∙ sym (length-map (y .es) placeOf))
-        (λ i h. listed-places Places list (y .es) (y .is) es-few (drop 8192 work) (y .marks) i (rw (length-map (y .es) placeOf) at h)) ps-count work row-marks room
-
     fill-said : fillOutcome list row wl room ≡ finish pred room (fill (q .tag) (q .decls) (map placeOf (y .es)) (q .body))
     fill-said = fill-counted list row wl room enough (take (length row) work₀) x short (y .es) (y .is) q ∙ rw (eq-eqb (length (y .es)) (length (q .decls)) (sym (length-map (y .es) placeOf) ∙ ps-count))
 
-    fill-made : filledRow list (drop 8192 work) row work t room ≡ finish pred room (fill (q .tag) (q .decls) (map placeOf (y .es)) (q .body))
-    fill-made = ap (λ (u : Table). filledRow list (drop 8192 work) row work u room) (y .table) ∙ (ap (λ (r : List ℕ). filledRow list (drop 8192 work) r work (tabled (y .es) 0 emptyTable) room) (x .words) ∙ fill-built)
+    module _ (b : Bool) (shallow : b ≡ true → Ok 52 (x .sort) (x .form)) where
+      abbrev result : Form
+      result = fill (q .tag) (q .decls) (map placeOf (y .es)) (q .body)
 
-    pub fill-row : filledRow list (drop 8192 work) row work t room ≡ fillOutcome list row wl room
-    fill-row = fill-made ∙ sym fill-said
+      fill-within : isSure b t list ≡ true → length (encode result) ≤ 8192 → isOne (rowForm pred (encode result)) ≡ true
+      fill-within s l =
+          let ok = rw (pred-sort row (x .sort) (x .form) (x .is-found)) at (shallow (sure-shallow b t list s)) in
+          fill-fits (x .form) ok q (map placeOf (y .es)) ps-count (listed-small Places list (y .es) (y .is) es-few b (rw (y .table) at s)) l
+
+      fill-built : filledRow (isSure b t list) list (drop 8192 work) (encode (x .form)) work (tabled (y .es) 0 emptyTable) room ≡ finish pred room result
+      fill-built =
+          filled-tree (x .form) q (tabled (y .es) 0 emptyTable) list (drop 8192 work) (map placeOf (y .es)) (listed-words (y .es) es-few ∙ place-words (y .es) (list-sound Places list (y .es) (y .is) .1))
+          (listed-n (y .es) ∙ sym (length-map (y .es) placeOf))
+          (λ i h. listed-places Places list (y .es) (y .is) es-few (drop 8192 work) (y .marks) i (rw (length-map (y .es) placeOf) at h)) ps-count work row-marks room (isSure b t list) fill-within
+
+      fill-made : filledRow (isSure b t list) list (drop 8192 work) row work t room ≡ finish pred room result
+      fill-made =
+          ap (λ (u : Table). filledRow (isSure b t list) list (drop 8192 work) row work u room) (y .table)
+          ∙ (ap (λ (r : List ℕ). filledRow (isSure b t list) list (drop 8192 work) r work (tabled (y .es) 0 emptyTable) room) (x .words) ∙ fill-built)
+
+      pub fill-row : filledRow (isSure b t list) list (drop 8192 work) row work t room ≡ fillOutcome list row wl room
+      fill-row = fill-made ∙ sym fill-said

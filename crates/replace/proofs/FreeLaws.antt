@@ -13,7 +13,7 @@ use Rattle.tree.specs.Form.{Leaf, free, bound, Form, leaf, pick, encode}
 use Rattle.tree.specs.Tag.{Sort, expr, pred}
 use Rattle.form.specs.Decode.{Whole, one, not-one, found, missing, asSort, rowForm, formOf}
 use Rattle.form.specs.Lists.{Place, kept, filled, Entry, entry, wordOf, placeOf, listOf, distinct, goodNames}
-use Rattle.form.specs.Answer.{Outcome, refusal, needs, finish}
+use Rattle.form.specs.Answer.{Outcome, refusal, needs, isOne, finish}
 use Rattle.form.specs.Internal.Reads.{asExpr, markEntries, emptyTable, tabled, Listing, goodTable}
 use Rattle.form.specs.declared.answer.Kind.the-variants.{Either}
 use Rattle.form.specs.declared.lists.ListKind.the-variants.{Pairs}
@@ -31,12 +31,14 @@ use Rattle.subst.proofs.ShiftLaws.{moved}
 use Rattle.subst.proofs.RowLaws.{identOf, itemsOf, marked-items, walk-items}
 use Rattle.subst.proofs.CheckedLaws.{Checked}
 use Rattle.replace.specs.Free.{orName, seek, freeFor, substitute, freeOutcome}
-use Rattle.replace.specs.Internal.Pieces.{pieceWords, spot, freePiece, pieceOf, planned, InRow, Ready, replaced, kindFor, freePlan}
+use Rattle.replace.specs.Internal.Pieces.{pieceWords, spot, freePiece, pieceOf, planned, InRow, Ready, replaced, kindFor, freePlan, isSure}
 use Rattle.replace.specs.declared.pieces.Piece.the-variants.{Same, Part}
 use Rattle.replace.proofs.EntryLaws.{PlaceAt, listed-places, listed-in-row}
 use Rattle.replace.proofs.MarkLaws.{items-take}
 use Rattle.replace.proofs.ActionLaws.{tight-depth, moved-words, moved-lift}
-use Rattle.replace.proofs.BuildLaws.{kindOf, emit-form}
+use Rattle.replace.proofs.BuildLaws.{kindOf, emit-sure}
+use Rattle.replace.proofs.InsideLaws.{free-fits}
+use Rattle.replace.proofs.SmallLaws.{listed-small, sure-shallow}
 use Rattle.replace.proofs.CallLaws.{call-small, call-long, call-missing, call-list-long, call-no-list, call-read, front-same}
 
 -- the list is searched as the words are
@@ -217,17 +219,19 @@ module _ (list : List ℕ) (t : Table) (work : List ℕ) (y : Pairing list t wor
         sym (items-take row work)
         ∙ (rw (front-same work work₀ (length row) (x .short) same, x .marks, x .words) (marked-items (x .form) (length (encode (x .form))) (le-refl _)))
 
-    free-built : replaced (kindFor (asExpr Either row)) [] (freePlan t) list (drop 8192 work) row work room ≡ finish (x .sort) room (substitute (y .es) (x .form))
+    free-built : (sure : Bool) → (sure ≡ true → length (encode (substitute (y .es) (x .form))) ≤ 8192 → isOne (rowForm (x .sort) (encode (substitute (y .es) (x .form)))) ≡ true)
+        → replaced sure (kindFor (asExpr Either row)) [] (freePlan t) list (drop 8192 work) row work room ≡ finish (x .sort) room (substitute (y .es) (x .form))
     unfolding replaced
-    free-built =
+    free-built sure fits =
         let g = free-tree (tabled (y .es) 0 emptyTable) list (drop 8192 work) (y .es) (listed-words (y .es) (y .few)) (listed-n (y .es)) (listed-places Pairs list (y .es) (y .is) (y .few) (drop 8192 work) (y .marks)) (x .sort) (x .form) (x .ok) in
-        rw (y .table, row-items, g, kind-sort row (x .sort) (x .form) (x .is-found) (asExpr Either row) refl) (emit-form (x .sort) room (substitute (y .es) (x .form)))
+        rw (y .table, row-items, g, kind-sort row (x .sort) (x .form) (x .is-found) (asExpr Either row) refl) (emit-sure sure (x .sort) room (substitute (y .es) (x .form)) fits)
 
     free-said : freeOutcome list row wl room ≡ finish (x .sort) room (substitute (y .es) (x .form))
     free-said = free-named list row wl room enough (take (length row) work₀) x short (y .es) (y .is) ∙ rw (y .good)
 
-    pub free-row : replaced (kindFor (asExpr Either row)) [] (freePlan t) list (drop 8192 work) row work room ≡ freeOutcome list row wl room
-    free-row = free-built ∙ sym free-said
+    pub free-row : (b : Bool) → (b ≡ true → Ok 52 (x .sort) (x .form)) → replaced (isSure b t list) (kindFor (asExpr Either row)) [] (freePlan t) list (drop 8192 work) row work room ≡ freeOutcome list row wl room
+    free-row b shallow =
+        free-built (isSure b t list) (λ s l. free-fits (y .es) (listed-small Pairs list (y .es) (y .is) (y .few) b (rw (y .table) at s)) (shallow (sure-shallow b t list s)) l) ∙ sym free-said
 
   pub pairs-ready : length (t .words) ≡ 32 → length (t .starts) ≡ 32 → length (t .ends) ≡ 32 → 8192 + length list ≤ length work → Ready (freePlan t) list (drop 8192 work)
   pairs-ready a b c h = record { tabled = record { few = pairs-few; words = a; starts = b; ends = c }; in-row = pairs-in-row; marked = rw length-drop (omega arith) }

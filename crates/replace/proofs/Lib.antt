@@ -17,3 +17,6 @@ pub mod ReadyLaws
 pub mod TreeLaws
 pub mod OkLaws
 pub mod PruneTree
+pub mod InsideLaws
+pub mod ShallowLaws
+pub mod SmallLaws

@@ -197,14 +197,14 @@ ranked-small ps k (dangling j) h =
     rw (le-leb 0 (k + rank (keptCount ps) 0 (reverse ps) j) (omega arith), le-leb (k + rank (keptCount ps) 0 (reverse ps) j) 65535 (omega arith))
 
 -- the names that are kept
-few-names : (ps : List Place) (ns : List ℕ) → length (keptNames ps ns) ≤ length ns
+pub few-names : (ps : List Place) (ns : List ℕ) → length (keptNames ps ns) ≤ length ns
 few-names [] ns = omega arith
 few-names (kept ∷ ps) [] = omega arith
 few-names (filled x ∷ ps) [] = omega arith
 few-names (kept ∷ ps) (n ∷ ns) = let h = few-names ps ns in omega arith
 few-names (filled x ∷ ps) (n ∷ ns) = let h = few-names ps ns in omega arith
 
-names-kept : (ps : List Place) (ns : List ℕ) → areNames ns ≡ true → areNames (keptNames ps ns) ≡ true
+pub names-kept : (ps : List Place) (ns : List ℕ) → areNames ns ≡ true → areNames (keptNames ps ns) ≡ true
 names-kept [] ns h = refl
 names-kept (kept ∷ ps) [] h = refl
 names-kept (filled x ∷ ps) [] h = refl
@@ -217,7 +217,7 @@ word-good true c w (head o′ ds′ p′ e′ r′) o ds p e r q k = k o′ ds�
 word-good true c w bad o ds p e r q k = absurd (clash cc)
 word-good false c w h o ds p e r q k = absurd (clash cc)
 
-node-names : {d : ℕ} (t : ℕ) (ns : List ℕ) (ks : Forms) → (eqb t 851 || eqb t 852) ≡ true → Ok d pred (node t (length ns ∷ []) ns ks) → areNames ns ≡ true
+pub node-names : {d : ℕ} (t : ℕ) (ns : List ℕ) (ks : Forms) → (eqb t 851 || eqb t 852) ≡ true → Ok d pred (node t (length ns ∷ []) ns ks) → areNames ns ≡ true
 unfolding read
 node-names t ns ks h (ok-node {p = p} {e = e} l r w) =
     word-good (between 1 32 (length ns)) (areNames ns) (length ns) (names (length ns) 1 0 (ns ++ [])) (length ns ∷ []) ns p e [] (rw (tag-own t h) at (r []))
@@ -229,7 +229,7 @@ unfolding read
 quant-node d t ns b h g lo hi ok =
     ok-node {s = pred} {t = t} {o = length ns ∷ []} {ds = ns} {p = 1} {e = 0} (tag-node t h) (λ x. rw (tag-own t h, le-leb 1 (length ns) lo, le-leb (length ns) 32 hi, names-made ns x 1 0 g)) (ok-more ok ok-none)
 
-quantify-ok : (t : ℕ) (ns : List ℕ) (b : Form) → (eqb t 851 || eqb t 852) ≡ true → areNames ns ≡ true → length ns ≤ 32 → Ok 63 pred b → Ok 64 pred (quantify t ns b)
+pub quantify-ok : (t : ℕ) (ns : List ℕ) (b : Form) → (eqb t 851 || eqb t 852) ≡ true → areNames ns ≡ true → length ns ≤ 32 → Ok 63 pred b → Ok 64 pred (quantify t ns b)
 quantify-ok t [] b h g hi ok = ok-deep ok 64 (omega arith)
 quantify-ok t (n ∷ ns) b h g hi ok = quant-node 63 t (n ∷ ns) b h g (omega arith) hi ok
 

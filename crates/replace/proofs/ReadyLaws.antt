@@ -88,13 +88,13 @@ module _ (t : Table) (list lm : List ℕ) where
     unfolding InRow
     ready-is r = ready-parts (r .tabled .few) (r .marked) ∙ inside-parts (t .starts) (t .ends) (length list) (t .n) (r .in-row)
 
-    module _ (head row marks : List ℕ) (room : ℕ) where
-      pub placed-not : isReady t list lm ≡ false → placedRow head t d list lm row marks room ≡ refusal 7
+    module _ (sure : Bool) (head row marks : List ℕ) (room : ℕ) where
+      pub placed-not : isReady t list lm ≡ false → placedRow sure head t d list lm row marks room ≡ refusal 7
       unfolding placedRow
       placed-not q = rw q
 
       pub placed-ready : isReady t list lm ≡ true → (g : ℕ) → g ≡ filledWords (take (t .n) (t .words))
-          → replaced Predicate head (record { table = t; fills = true; gone = g; down = d }) list lm row marks room ≡ placedRow head t d list lm row marks room
+          → replaced sure Predicate head (record { table = t; fills = true; gone = g; down = d }) list lm row marks room ≡ placedRow sure head t d list lm row marks room
       unfolding placedRow
       placed-ready q g e = rw (q, e)
 

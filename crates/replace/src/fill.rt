@@ -1,9 +1,11 @@
 // Fill: some declarations of a quantified predicate are replaced by expressions; the others are kept and renumbered.
 use crate::build::replace;
+use crate::marks::Reading;
 use crate::marks::mark_entries;
 use crate::marks::mark_row;
 use crate::pieces::Plan;
 use crate::pieces::filled_from;
+use crate::small::is_sure;
 use form::answer::Answer;
 use form::answer::Kind;
 use form::answer::Limit;
@@ -16,7 +18,7 @@ ghost use lib.ListN.{length, getD, take, drop};
 ghost use Rattle.form.specs.Answer.{told, written};
 ghost use Rattle.subst.specs.Internal.Items.{store};
 ghost use Rattle.replace.specs.Fill.{fillOutcome};
-ghost use Rattle.replace.specs.Internal.Pieces.{Ready, fillPlan, keptWords, headWords, declaredIn, filledRow};
+ghost use Rattle.replace.specs.Internal.Pieces.{Ready, fillPlan, keptWords, headWords, declaredIn, isSure, filledRow};
 
 // The number of declarations of a row that is a quantified predicate; 0 for any other.
 pub fn declared(row: &[u32]) -> u32
@@ -82,6 +84,7 @@ pub(crate) fn write_head(words: &[u32], row: &[u32], head: &mut [u32]) -> usize
 
 // The quantified predicate with its declarations filled by the places of the table.
 fn fill_with(
+    shallow: bool,
     list: &[u32],
     list_marks: &[u32],
     row: &[u32],
@@ -91,8 +94,8 @@ fn fill_with(
 ) -> Answer
     requires { ⌜ Ready (fillPlan table) (now list) (now «list_marks») ⌝ }
     requires { ⌜ 2 + table .n ≤ length (now row) ⌝ }
-    ensures { λ r. ⌜ r ≡ told (filledRow (now (list .entry)) (now («list_marks» .entry)) (now (row .entry)) (now (marks .entry)) table (length (now (out .entry)))) ⌝ }
-    ensures { λ _. ⌜ now (out .exit) ≡ written (filledRow (now (list .entry)) (now («list_marks» .entry)) (now (row .entry)) (now (marks .entry)) table (length (now (out .entry)))) (now (out .entry)) ⌝ }
+    ensures { λ r. ⌜ r ≡ told (filledRow (isSure shallow table (now (list .entry))) (now (list .entry)) (now («list_marks» .entry)) (now (row .entry)) (now (marks .entry)) table (length (now (out .entry)))) ⌝ }
+    ensures { λ _. ⌜ now (out .exit) ≡ written (filledRow (isSure shallow table (now (list .entry))) (now (list .entry)) (now («list_marks» .entry)) (now (row .entry)) (now (marks .entry)) table (length (now (out .entry)))) (now (out .entry)) ⌝ }
 {
     let n = table.n;
     let words = table.words;
@@ -105,6 +108,7 @@ fn fill_with(
     let mut head = [0u32; 34];
     let h = write_head(&words[..n], row, &mut head);
     replace(
+        is_sure(shallow, table, list),
         Kind::Predicate,
         &head[..h],
         plan,
@@ -118,14 +122,21 @@ fn fill_with(
 }
 
 // Fill where the form's marks stand at the start of the work row, and the list's from word 8,192 on.
-fn fill_marked(list: &[u32], row: &[u32], table: Table, work: &[u32], out: &mut [u32]) -> Answer
+fn fill_marked(
+    shallow: bool,
+    list: &[u32],
+    row: &[u32],
+    table: Table,
+    work: &[u32],
+    out: &mut [u32],
+) -> Answer
     requires { ⌜ 8192 ≤ length (now work) ⌝ }
     requires { ⌜ Ready (fillPlan table) (now list) (drop 8192 (now work)) ⌝ }
     requires { ⌜ 2 + table .n ≤ length (now row) ⌝ }
-    ensures { λ r. ⌜ r ≡ told (filledRow (now (list .entry)) (drop 8192 (now (work .entry))) (now (row .entry)) (now (work .entry)) table (length (now (out .entry)))) ⌝ }
-    ensures { λ _. ⌜ now (out .exit) ≡ written (filledRow (now (list .entry)) (drop 8192 (now (work .entry))) (now (row .entry)) (now (work .entry)) table (length (now (out .entry)))) (now (out .entry)) ⌝ }
+    ensures { λ r. ⌜ r ≡ told (filledRow (isSure shallow table (now (list .entry))) (now (list .entry)) (drop 8192 (now (work .entry))) (now (row .entry)) (now (work .entry)) table (length (now (out .entry)))) ⌝ }
+    ensures { λ _. ⌜ now (out .exit) ≡ written (filledRow (isSure shallow table (now (list .entry))) (now (list .entry)) (drop 8192 (now (work .entry))) (now (row .entry)) (now (work .entry)) table (length (now (out .entry)))) (now (out .entry)) ⌝ }
 {
-    fill_with(list, &work[8192..], row, work, table, out)
+    fill_with(shallow, list, &work[8192..], row, work, table, out)
 }
 
 // Replaces the filled declarations of a quantified predicate by their expressions.
@@ -139,7 +150,7 @@ pub fn instantiate(list: &[u32], row: &[u32], work: &mut [u32], out: &mut [u32])
     if Limit::WORDS < row.len() {
         return Answer::No(1);
     }
-    let Answer::Done(k) = mark_row(row, Kind::Predicate, work) else {
+    let Reading::Taken(shallow) = mark_row(row, Kind::Predicate, work) else {
         return Answer::No(2);
     };
     if Limit::WORDS < list.len() {
@@ -157,5 +168,5 @@ pub fn instantiate(list: &[u32], row: &[u32], work: &mut [u32], out: &mut [u32])
     if table.n != n as usize {
         return Answer::No(5);
     }
-    fill_marked(list, row, table, work, out)
+    fill_marked(shallow, list, row, table, work, out)
 }

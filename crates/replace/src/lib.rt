@@ -6,3 +6,4 @@ mod marks;
 mod pieces;
 pub mod places;
 pub mod prune;
+pub mod small;

@@ -1,16 +1,29 @@
 // Marks in the work row: the form's at its start, the list's from word 8,192 on.
+use crate::small::Margin;
 use form::answer::Answer;
 use form::answer::Kind;
+use form::check::is_expr;
+use form::head::Step;
 use form::lists::ListKind;
 use form::lists::Listed;
+use form::reader::expr_at;
+use form::reader::pred_at;
 ghost use mathlib.Core.Path.{_≡_};
 ghost use Prim.Native.Nat.{_+_, _≤_};
 ghost use lib.ListN.{length, take, drop, replicate};
-ghost use Rattle.form.specs.Decode.{formOf};
+ghost use Rattle.tree.specs.Form.{pick};
+ghost use Rattle.tree.specs.Tag.{expr, pred};
+ghost use Rattle.form.specs.Decode.{decode, formOf};
 ghost use Rattle.form.specs.Lists.{listOf};
-ghost use Rattle.form.specs.Answer.{told, checkOutcome};
-ghost use Rattle.form.specs.Internal.Reads.{Marked, Listing};
+ghost use Rattle.form.specs.Internal.Reads.{Told, Marked, Listing};
 ghost use Rattle.subst.specs.Internal.Items.{store};
+ghost use Rattle.replace.specs.Internal.Pieces.{isFound, shallowForm, readingOf};
+
+// A row that is a form, and whether it is at most 52 deep; or one that is none.
+pub enum Reading {
+    Taken(bool),
+    Refused,
+}
 
 fn clear(work: &mut [u32], at: usize, n: usize)
     requires { ⌜ at + n ≤ length (now work) ⌝ }
@@ -23,14 +36,46 @@ fn clear(work: &mut [u32], at: usize, n: usize)
     }
 }
 
-// The check of the row, which marks it at the start of the work row.
-pub(crate) fn mark_row(row: &[u32], kind: Kind, work: &mut [u32]) -> Answer
+fn shallow_form(row: &[u32], is_expr: bool, marks: &mut [u32]) -> Step
+    ensures { λ r. ⌜ Told 0 0 (decode 52 (pick «is_expr» expr pred) (now (row .entry))) (now (marks .entry)) (now (marks .exit)) r ⌝ }
+{
+    if is_expr {
+        expr_at(row, marks, 0, Margin::ROW, 0)
+    } else {
+        pred_at(row, marks, 0, Margin::ROW, 0)
+    }
+}
+
+// Whether the row is exactly one form of the kind at most 52 deep, which is then marked.
+fn mark_shallow(row: &[u32], kind: Kind, marks: &mut [u32]) -> bool
+    ensures { λ r. ⌜ r ≡ isFound (shallowForm kind (now (row .entry))) ⌝ }
+    ensures { λ _. ⌜ Marked (shallowForm kind (now (row .entry))) (now (marks .entry)) (now (marks .exit)) ⌝ }
+{
+    let Step::End(p) = shallow_form(row, is_expr(row, kind), marks) else {
+        return false;
+    };
+    if p == row.len() {
+        return true;
+    }
+    false
+}
+
+// The check of the row, which marks it at the start of the work row: first as a form at most 52 deep.
+pub(crate) fn mark_row(row: &[u32], kind: Kind, work: &mut [u32]) -> Reading
     requires { ⌜ length (now row) ≤ length (now work) ⌝ }
-    ensures { λ r. ⌜ r ≡ told (checkOutcome kind (now (row .entry))) ⌝ }
+    requires { ⌜ length (now row) ≤ 8192 ⌝ }
+    ensures { λ r. ⌜ r ≡ readingOf (shallowForm kind (now (row .entry))) (formOf kind (now (row .entry))) ⌝ }
     ensures { λ _. ⌜ Marked (formOf kind (now (row .entry))) (replicate (length (now (row .entry))) 0) (take (length (now (row .entry))) (now (work .exit))) ⌝ }
 {
     clear(work, 0, row.len());
-    form::check::mark(row, kind, work)
+    if mark_shallow(row, kind, work) {
+        return Reading::Taken(true);
+    }
+    clear(work, 0, row.len());
+    let Answer::Done(n) = form::check::mark(row, kind, work) else {
+        return Reading::Refused;
+    };
+    Reading::Taken(false)
 }
 
 // The entries of the list, which are marked from word 8,192 of the work row on.

@@ -51,11 +51,12 @@ fn is_ready(table: Table, list: &[u32], list_marks: &[u32]) -> bool
 }
 
 // The head, and the items from `from` on with their outermost declarations filled by the places of the table, whose expressions are
-// moved down: as a predicate.
+// moved down: as a predicate, of which only the length is checked where it is sure to be one.
 pub fn fill_places(
     head: &[u32],
     table: Table,
     down: u32,
+    sure: bool,
     list: &[u32],
     list_marks: &[u32],
     row: &[u32],
@@ -63,8 +64,8 @@ pub fn fill_places(
     from: usize,
     out: &mut [u32],
 ) -> Answer
-    ensures { λ r. ⌜ r ≡ told (placedRow (now (head .entry)) table down (now (list .entry)) (now («list_marks» .entry)) (drop from (now (row .entry))) (drop from (now (marks .entry))) (length (now (out .entry)))) ⌝ }
-    ensures { λ _. ⌜ now (out .exit) ≡ written (placedRow (now (head .entry)) table down (now (list .entry)) (now («list_marks» .entry)) (drop from (now (row .entry))) (drop from (now (marks .entry))) (length (now (out .entry)))) (now (out .entry)) ⌝ }
+    ensures { λ r. ⌜ r ≡ told (placedRow sure (now (head .entry)) table down (now (list .entry)) (now («list_marks» .entry)) (drop from (now (row .entry))) (drop from (now (marks .entry))) (length (now (out .entry)))) ⌝ }
+    ensures { λ _. ⌜ now (out .exit) ≡ written (placedRow sure (now (head .entry)) table down (now (list .entry)) (now («list_marks» .entry)) (drop from (now (row .entry))) (drop from (now (marks .entry))) (length (now (out .entry)))) (now (out .entry)) ⌝ }
 {
     if !is_ready(table, list, list_marks) {
         return Answer::No(7);
@@ -78,6 +79,7 @@ pub fn fill_places(
         down: down,
     };
     replace(
+        sure,
         Kind::Predicate,
         head,
         plan,

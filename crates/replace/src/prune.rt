@@ -2,6 +2,7 @@
 use crate::build::copy;
 use crate::fill::declared;
 use crate::fill::write_head;
+use crate::marks::Reading;
 use crate::marks::mark_row;
 use crate::pieces::filled_from;
 use crate::pieces::less;
@@ -156,7 +157,7 @@ fn prune_in(row: &[u32], marks: &mut [u32], out: &mut [u32]) -> Answer
     ensures { λ r. ⌜ r ≡ told (pruneOutcome (now (row .entry)) (length (now (out .entry)))) ⌝ }
     ensures { λ _. ⌜ now (out .exit) ≡ written (pruneOutcome (now (row .entry)) (length (now (out .entry)))) (now (out .entry)) ⌝ }
 {
-    let Answer::Done(k) = mark_row(row, Kind::Predicate, marks) else {
+    let Reading::Taken(shallow) = mark_row(row, Kind::Predicate, marks) else {
         return Answer::No(2);
     };
     let n = declared(row);

@@ -53,7 +53,7 @@ module _ (kind : Kind) (row : List ℕ) where
       go missing p c = p
 
   module _ (m : List ℕ) (n : ℕ) (before : List ℕ) (zero-marks : before ≡ replicate n 0) where
-    marks-of : (s : Sort) (f : Form) → formOf kind row ≡ found s f → Marked (formOf kind row) before m → Checked kind row m n
+    pub marks-of : (s : Sort) (f : Form) → formOf kind row ≡ found s f → Marked (formOf kind row) before m → Checked kind row m n
     unfolding Marked
     marks-of s f e k =
         let (l, w, o) = found-row row s f kind e in

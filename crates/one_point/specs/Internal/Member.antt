@@ -1,7 +1,7 @@
 -- Membership by words. The element stands in the row as it is; a part of it is shifted where it is written. No index of the shifted element
 -- is below the number of declarations, so that a part fills a place exactly if its side of the value is the index of a free one.
 use mathlib.Core.Path.{_≡_}
-use mathlib.Core.Bool.{Bool, true}
+use mathlib.Core.Bool.{Bool, true, false}
 use mathlib.Core.List.{List, [], _∷_, _++_, map}
 use mathlib.Core.Option.{Option, none as absent, some}
 use Prim.Native.Nat.{ℕ, suc, _+_, _-_, _≤_, _<_}
@@ -193,7 +193,7 @@ innerFrom b front stay body = pick b (innerEnd 852 front stay body) 0
 unfoldable pub keptRow : List ℕ → List ℕ → List ℕ → ℕ → Table → List ℕ → List ℕ → ℕ → Outcome
 keptRow row lm names j t body marks room =
     let from = innerFrom (ltb j (t .n)) (take j names) (drop j names) body in
-    placedRow (headWords 852 (take j names ++ (drop j names ++ take (from - innerStart from) (drop (innerStart from) body)))) t 0 row lm (drop from body) (drop from marks) room
+    placedRow false (headWords 852 (take j names ++ (drop j names ++ take (from - innerStart from) (drop (innerStart from) body)))) t 0 row lm (drop from body) (drop from marks) room
 
 -- the body with the element not shifted stands at the start of the work row
 abbrev pub leftParts : Shares → List (Form × Form)

@@ -1,6 +1,6 @@
 -- A rest of declarations filled by the places of a table, and the front put round it, on words. The parts of the list row are moved down by
 -- the declarations of the rest.
-use mathlib.Core.Bool.{Bool, true, not, _&&_}
+use mathlib.Core.Bool.{Bool, true, false, not, _&&_}
 use mathlib.Core.List.{List, [], _++_}
 use Prim.Native.Nat.{ℕ, _+_}
 use lib.Dec.{eqb}
@@ -40,4 +40,4 @@ partialWords t front rest tb list lm row marks =
     headWords t (front ++ (stay ++ innerNames t front stay row)) ++ rewritten (planned (restPlan tb) list lm) (items (drop from row) (drop from marks))
 
 abbrev pub partialRow : ℕ → List ℕ → List ℕ → Table → List ℕ → List ℕ → List ℕ → List ℕ → ℕ → Outcome
-partialRow t front rest tb list lm row marks room = emitted Predicate (partialWords t front rest tb list lm row marks) room
+partialRow t front rest tb list lm row marks room = emitted false Predicate (partialWords t front rest tb list lm row marks) room

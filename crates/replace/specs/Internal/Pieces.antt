@@ -7,8 +7,10 @@ use Prim.Native.Nat.{ℕ, zero, suc, _+_, _-_, _≤_, _<_}
 use lib.Dec.{leb, ltb, eqb}
 use lib.ListN.{length, getD, take, drop, replicate}
 use Rattle.tree.specs.Form.{pick}
-use Rattle.form.specs.Decode.{Found, found, missing, formOf}
-use Rattle.form.specs.Answer.{Outcome, answer, needs}
+use Rattle.tree.specs.Tag.{expr, pred}
+use Rattle.form.specs.Decode.{decode, whole, Found, found, missing, asSort, formOf}
+use Rattle.form.specs.Answer.{Outcome, answer, needs, isOne}
+use Rattle.form.specs.Internal.Reads.{asExpr}
 use Rattle.form.specs.declared.answer.Kind.{Kind}
 use Rattle.form.specs.declared.answer.Kind.the-variants.{Expression, Predicate}
 use Rattle.form.specs.declared.lists.Table.{Table}
@@ -19,6 +21,8 @@ use Rattle.replace.specs.declared.pieces.Piece.{Piece}
 use Rattle.replace.specs.declared.pieces.Piece.the-variants.{Same, Index, Part}
 use Rattle.replace.specs.declared.pieces.Plan.{Plan}
 use Rattle.replace.specs.declared.pieces.Rule.{Rule}
+use Rattle.replace.specs.declared.marks.Reading.{Reading}
+use Rattle.replace.specs.declared.marks.Reading.the-variants.{Taken, Refused}
 
 -- the words from s up to e
 unfoldable pub part : ℕ → ℕ → List ℕ → List ℕ
@@ -104,17 +108,54 @@ Fits Same n = Unit {0}
 Fits (Index v) n = Unit {0}
 Fits (Part s e u d) n = (s ≤ e) × (e ≤ n)
 
--- words that are checked as a form, and then answered
+-- whether a form was found
 abbrev pub isFound : Found → Bool
 isFound (found s f) = true
 isFound missing = false
 
-unfoldable pub emitted : Kind → List ℕ → ℕ → Outcome
-emitted kind ws room = needs 7 (isFound (formOf kind ws)) (needs 14 (leb (length ws) room) (answer ws))
+-- words that are answered where there is room for them
+abbrev pub fitted : List ℕ → ℕ → Outcome
+fitted ws room = needs 14 (leb (length ws) room) (answer ws)
+
+-- first checked as a form; only their number is, where they are sure to be one
+unfoldable pub emitted : Bool → Kind → List ℕ → ℕ → Outcome
+emitted sure kind ws room = needs 7 (pick sure (leb (length ws) 8192) (isFound (formOf kind ws))) (fitted ws room)
+
+-- a row as a form at most 52 deep, and how it was read
+unfoldable pub shallowForm : Kind → List ℕ → Found
+shallowForm kind row = let s = pick (asExpr kind row) expr pred in asSort s (whole (decode 52 s row))
+
+abbrev pub readingOf : Found → Found → Reading
+readingOf (found s f) o = Taken true
+readingOf missing (found s f) = Taken false
+readingOf missing missing = Refused
+
+-- every word is at most 63,487: 2,048 can be added to each index
+abbrev pub smallWords : List ℕ → Bool
+smallWords [] = true
+smallWords (w ∷ ws) = leb w 63487 && smallWords ws
+
+-- exactly one expression at most 13 deep, of such words; the words from s up to e, where there are any; the first n parts of a row
+unfoldable pub smallPart : List ℕ → Bool
+smallPart ws = isOne (whole (decode 13 expr ws)) && smallWords ws
+
+unfoldable pub smallAt : ℕ → ℕ → List ℕ → Bool
+smallAt s e l = pick (leb e s) true (leb e (length l) && smallPart (part s e l))
+
+unfoldable pub smallParts : List ℕ → List ℕ → List ℕ → ℕ → Bool
+smallParts starts ends l zero = true
+smallParts starts ends l (suc n) = smallAt (getD starts n 0) (getD ends n 0) l && smallParts starts ends l n
+
+-- whether replacement by the expressions of a table is sure to give a form: in a form at most 52 deep, by small ones
+unfoldable pub isSure : Bool → Table → List ℕ → Bool
+isSure shallow t list = shallow && (leb (t .n) 32 && smallParts (t .starts) (t .ends) list (t .n))
 
 -- a head, and what a plan puts for the items of a row
-unfoldable pub replaced : Kind → List ℕ → Plan → List ℕ → List ℕ → List ℕ → List ℕ → ℕ → Outcome
-replaced kind head p list lm row marks room = emitted kind (head ++ rewritten (planned p list lm) (items row marks)) room
+abbrev pub replacedWords : List ℕ → Plan → List ℕ → List ℕ → List ℕ → List ℕ → List ℕ
+replacedWords head p list lm row marks = head ++ rewritten (planned p list lm) (items row marks)
+
+unfoldable pub replaced : Bool → Kind → List ℕ → Plan → List ℕ → List ℕ → List ℕ → List ℕ → ℕ → Outcome
+replaced sure kind head p list lm row marks room = emitted sure kind (replacedWords head p list lm row marks) room
 
 -- the kind as which a row of either kind was read
 abbrev pub kindFor : Bool → Kind
@@ -145,9 +186,9 @@ unfoldable pub declaredIn : List ℕ → ℕ
 declaredIn row = pick (ltb (length row) 2) 0 (pick (eqb (getD row 0 0) 851) (getD row 1 0) (pick (eqb (getD row 0 0) 852) (getD row 1 0) 0))
 
 -- a quantified row filled by the places of a table
-unfoldable pub filledRow : List ℕ → List ℕ → List ℕ → List ℕ → Table → ℕ → Outcome
-filledRow list lm row marks t room =
-    replaced Predicate (headWords (getD row 0 0) (keptWords (take (t .n) (t .words)) (drop 2 row))) (fillPlan t) list lm (drop (2 + t .n) row) (drop (2 + t .n) marks) room
+unfoldable pub filledRow : Bool → List ℕ → List ℕ → List ℕ → List ℕ → Table → ℕ → Outcome
+filledRow sure list lm row marks t room =
+    replaced sure Predicate (headWords (getD row 0 0) (keptWords (take (t .n) (t .words)) (drop 2 row))) (fillPlan t) list lm (drop (2 + t .n) row) (drop (2 + t .n) marks) room
 
 -- an item that is not index j of a body round which n declarations are open
 unfoldable pub notIndex : ℕ → ℕ → Item → Bool
@@ -198,5 +239,5 @@ isReady t list lm = leb (t .n) 32 && (leb (length list) (length lm) && partsIn (
 abbrev pub downPlan : Table → ℕ → Plan
 downPlan t d = record { table = t; fills = true; gone = filledWords (take (t .n) (t .words)); down = d }
 
-unfoldable pub placedRow : List ℕ → Table → ℕ → List ℕ → List ℕ → List ℕ → List ℕ → ℕ → Outcome
-placedRow head t d list lm row marks room = needs 7 (isReady t list lm) (replaced Predicate head (downPlan t d) list lm row marks room)
+unfoldable pub placedRow : Bool → List ℕ → Table → ℕ → List ℕ → List ℕ → List ℕ → List ℕ → ℕ → Outcome
+placedRow sure head t d list lm row marks room = needs 7 (isReady t list lm) (replaced sure Predicate head (downPlan t d) list lm row marks room)

@@ -28,7 +28,7 @@ same-length : tie.Need-same-length
 same-length c = search needs
 
 returns : tie.Need-returns
-returns c = passed _ _ _ _ _ (same-filled _ _ _ _ _ _ _ (rest-part (c .before .before .before .before .before .before .before .before .before .args .work .now) 8192)) (c .before .before .fill-with .ensures)
+returns c = passed _ _ _ _ _ (same-filled _ _ _ _ _ _ _ _ (rest-part (c .before .before .before .before .before .before .before .before .before .args .work .now) 8192)) (c .before .before .fill-with .ensures)
 
 pub fill-marked-spec : {M : Type 1} → statement M
 fill-marked-spec =

@@ -11,6 +11,10 @@ use Rattle.replace.proofs.free.substitute_marked.Reads as reads
 use Rattle.replace.proofs.free.substitute_marked.Lts as lts
 use Rattle.replace.proofs.build.replace.Reads as replace-reads
 use Rattle.replace.proofs.free.kind_of.Reads as kind-of-reads
+use Rattle.replace.proofs.small.is_sure.Reads as is-sure-reads
+
+is-sure-requires : tie.Need-is-sure-requires
+is-sure-requires c κs = search needs
 
 kind-of-requires : tie.Need-kind-of-requires
 kind-of-requires c κs = search needs
@@ -28,18 +32,19 @@ part-replace-end : tie.Need-part-replace-end
 part-replace-end c = search needs
 
 replace-requires : tie.Need-replace-requires
-replace-requires c κs = let b8 = c .before .before .before .before .before .before .before .before in let h : Ready (freePlan (b8 .args .table)) (b8 .args .list .now) (take (length (b8 .args .work .now) - 8192) (drop 8192 (b8 .args .work .now))) = rw (rest-part (b8 .args .work .now) 8192) (b8 .pre .1) in h
+replace-requires c κs = let h : Ready (freePlan (c .before .before .before .before .before .before .before .before .before .args .table)) (c .before .before .before .before .before .before .before .before .before .args .list .now) (take (length (c .before .before .before .before .before .before .before .before .before .args .work .now) - 8192) (drop 8192 (c .before .before .before .before .before .before .before .before .before .args .work .now))) = rw (rest-part (c .before .before .before .before .before .before .before .before .before .args .work .now) 8192) (c .before .before .before .before .before .before .before .before .before .pre .1) in h
 
 same-length : tie.Need-same-length
 same-length c = search needs
 
 returns : tie.Need-returns
-returns c = passed _ _ _ _ _ (same-replaced _ _ _ _ _ _ _ _ _ _ (c .before .before .before .before .before .before .kind-of .ensures) (rest-part (c .before .before .before .before .before .before .before .before .before .before .before .args .work .now) 8192)) (c .before .before .replace .ensures)
+returns c = passed _ _ _ _ _ (same-replaced _ _ _ _ _ _ _ _ _ _ _ _ (c .before .before .before .before .before .before .before .is-sure .ensures) (c .before .before .before .before .before .before .kind-of .ensures) (rest-part (c .before .before .before .before .before .before .before .before .before .before .before .before .args .work .now) 8192)) (c .before .before .replace .ensures)
 
 pub substitute-marked-spec : {M : Type 1} → statement M
 substitute-marked-spec =
     tie.close
     (tie.spec
+    is-sure-requires
     kind-of-requires
     slice-aggregate-replace
     sub-replace

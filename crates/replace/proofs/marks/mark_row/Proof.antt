@@ -1,24 +1,66 @@
 -- `replace::marks::mark_row` meets its contract. Assumes nothing.
-use borrow.Author.Needs.{needs}
+use mathlib.Core.Path.{sym, _∙_}
+use native.Mathlib.Omega.{arith}
 use Rattle.replace.proofs.MarkLaws.{marked-front}
+use Rattle.replace.proofs.ShallowLaws.{taken-shallow, taken-deep, refused-row}
+use borrow.Author.Needs.{needs}
 use Rattle.replace.proofs.marks.mark_row.Statement.{statement}
 use Rattle.replace.proofs.marks.mark_row.Tie as tie
 use Rattle.replace.proofs.marks.mark_row.Reads as reads
 use Rattle.replace.proofs.marks.mark_row.Lts as lts
 use Rattle.form.proofs.check.mark.Reads as mark-reads
 use Rattle.replace.proofs.marks.clear.Reads as clear-reads
+use Rattle.replace.proofs.marks.mark_shallow.Reads as mark-shallow-reads
 
 clear-requires : tie.Need-clear-requires
 clear-requires c κs = search needs
 
-mark-requires : tie.Need-mark-requires
-mark-requires c κs = search needs
+mark-shallow-requires : tie.Need-mark-shallow-requires
+mark-shallow-requires c κs = search needs
 
 same-length : tie.Need-same-length
 same-length c = search needs
 
 returns : tie.Need-returns
-returns c = (c .before .before .mark .ensures .0, marked-front _ _ _ _ _ (c .before .before .before .before .before .before .before .before .before .before .pre) (c .before .before .before .before .before .before .clear .ensures) (c .before .before .mark .ensures .1))
+returns c = taken-shallow _ _ (c .before .before .before .before .before .before .before .before .before .before .before .pre .1) (sym (c .before .before .before .mark-shallow .ensures .0) ∙ c .if1 .taken) _ _ _ (c .before .before .before .before .before .before .before .before .before .before .before .pre .0) (c .before .before .before .before .before .before .before .clear .ensures) (c .before .before .before .mark-shallow .ensures .1)
+
+clear-requires-2 : tie.Need-clear-requires-2
+clear-requires-2 c κs = search needs
+
+mark-requires : tie.Need-mark-requires
+mark-requires c κs = search needs
+
+enum-known-n : tie.Need-enum-known-n
+enum-known-n c = search needs
+
+enum-told : tie.Need-enum-told
+enum-told c = search needs
+
+same-length-2 : tie.Need-same-length-2
+same-length-2 c = search needs
+
+returns-2 : tie.Need-returns-2
+returns-2 c = (refused-row _ _ (c .before .before .before .before .before .before .before .before .before .before .before .before .before .before .before .before .before .before .before .before .before .pre .1) (sym (c .before .before .before .before .before .before .before .before .before .before .before .before .before .mark-shallow .ensures .0) ∙ c .before .before .before .before .before .before .before .before .before .before .if1 .left) _ _ (c .before .before .before .before .mark .ensures .0) (c .enum-told .given .1), marked-front _ _ _ _ _ (omega arith) (c .before .before .before .before .before .before .before .before .clear2 .ensures) (c .before .before .before .before .mark .ensures .1))
+
+same-length-3 : tie.Need-same-length-3
+same-length-3 c = search needs
+
+returns-3 : tie.Need-returns-3
+returns-3 c = (taken-deep _ _ (c .before .before .before .before .before .before .before .before .before .before .before .before .before .before .before .before .before .before .before .before .before .before .pre .1) (sym (c .before .before .before .before .before .before .before .before .before .before .before .before .before .before .mark-shallow .ensures .0) ∙ c .before .before .before .before .before .before .before .before .before .before .before .if1 .left) _ _ (c .before .before .before .before .before .mark .ensures .0) (c .before .n .given .1), marked-front _ _ _ _ _ (omega arith) (c .before .before .before .before .before .before .before .before .before .clear2 .ensures) (c .before .before .before .before .before .mark .ensures .1))
 
 pub mark-row-spec : {M : Type 1} → statement M
-mark-row-spec = tie.close (tie.spec clear-requires mark-requires same-length returns)
+mark-row-spec =
+    tie.close
+    (tie.spec
+    clear-requires
+    mark-shallow-requires
+    same-length
+    returns
+    clear-requires-2
+    mark-requires
+    enum-known-n
+    enum-told
+    same-length-2
+    returns-2
+    same-length-3
+    returns-3)

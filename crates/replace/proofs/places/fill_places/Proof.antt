@@ -20,7 +20,7 @@ is-ready-requires : tie.Need-is-ready-requires
 is-ready-requires c κs = search needs
 
 returns : tie.Need-returns
-returns c = refused _ _ _ _ (placed-not _ _ _ _ _ _ _ _ (sym (c .before .is-ready .ensures) ∙ not-yes _ (c .if1 .taken))) refl
+returns c = refused _ _ _ _ (placed-not _ _ _ _ _ _ _ _ _ (sym (c .before .is-ready .ensures) ∙ not-yes _ (c .if1 .taken))) refl
 
 array-share-prefix-words : tie.Need-array-share-prefix-words
 array-share-prefix-words c = let b9 = c .before .before .before .before .before .before .before .before .before in let r = (is-ready (b9 .args .table) (b9 .args .list .now) (b9 .args .list-marks .now) (b9 .args .down) (sym (c .before .before .is-ready .ensures) ∙ not-no _ (c .before .if1 .left)) (search needs) (search needs) (search needs)) in let a : b9 .args .table .n ≤ 32 = r .tabled .few in let b : length (b9 .args .table .words) ≡ 32 = r .tabled .words in omega arith
@@ -38,7 +38,7 @@ same-length : tie.Need-same-length
 same-length c = search needs
 
 returns-2 : tie.Need-returns-2
-returns-2 c = passed _ _ _ _ _ (placed-ready _ _ _ _ _ _ _ _ (sym (c .before .before .before .before .before .before .before .before .is-ready .ensures) ∙ not-no _ (c .before .before .before .before .before .before .before .if1 .left)) _ (c .before .before .before .before .filled-from .ensures)) (c .before .before .replace .ensures)
+returns-2 c = passed _ _ _ _ _ (placed-ready _ _ _ _ _ _ _ _ _ (sym (c .before .before .before .before .before .before .before .before .is-ready .ensures) ∙ not-no _ (c .before .before .before .before .before .before .before .if1 .left)) _ (c .before .before .before .before .filled-from .ensures)) (c .before .before .replace .ensures)
 
 pub fill-places-spec : {M : Type 1} → statement M
 fill-places-spec =
