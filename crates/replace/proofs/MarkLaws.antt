@@ -15,7 +15,7 @@ use Rattle.form.specs.declared.lists.ListKind.{ListKind}
 use Rattle.form.specs.declared.lists.Listed.{Listed}
 use Rattle.form.proofs.HeadLaws.{here, gone}
 use Rattle.form.proofs.ListLaws.{list-sound}
-use Rattle.subst.specs.Internal.Items.{items, store}
+use Rattle.subst.specs.Internal.Items.{Fresh, items, store}
 use Rattle.subst.specs.declared.items.Item.the-variants.{Plain, Ident}
 use Rattle.subst.proofs.CheckedLaws.{found-row}
 use Rattle.subst.proofs.ItemLaws.{stored, store-front}
@@ -58,6 +58,19 @@ marked-front kind row l l′ m h s k = go (formOf kind row) refl k
     go : (o : Found) → formOf kind row ≡ o → Marked o l′ m → Marked o (replicate (length row) 0) (take (length row) m)
     go (found s′ f) q k = take-mark f row l l′ m (found-row row s′ f kind q .1) h s k
     go missing q k = tt
+
+-- in marks that hold 0
+zeros-stay : (m n : ℕ) → m ≤ n → _++_ {A = ℕ} (replicate m 0) (drop m (replicate n 0)) ≡ replicate n 0
+zeros-stay zero n h = refl
+zeros-stay (suc m) zero h = absurd (omega arith)
+zeros-stay (suc m) (suc n) h = ap (λ z. 0 ∷ z) (zeros-stay m n (omega arith))
+
+pub marked-fresh : (kind : Kind) (row l m : List ℕ) → Fresh row l → Marked (formOf kind row) l m → Marked (formOf kind row) (replicate (length row) 0) (take (length row) m)
+marked-fresh kind row l m x k =
+    let e : drop (length (replicate {A = ℕ} (length row) 0)) l ≡ drop (length row) (replicate (length l) 0) = rw length-replicate (ap (λ z. drop (length row) z) (x .zeros)) in
+    let d = stored l (replicate (length row) 0) (rw length-replicate (x .enough)) in
+    let s : l ≡ store l 0 (replicate (length row) 0) = x .zeros ∙ sym (zeros-stay (length row) (length l) (x .enough)) ∙ ap (λ z. replicate (length row) 0 ++ z) (sym e) ∙ sym d in
+    marked-front kind row l l m (x .enough) s k
 
 -- the marks of a list
 abbrev pub marksPlace : Place → List ℕ

@@ -15,8 +15,9 @@ ghost use Rattle.tree.specs.Form.{pick};
 ghost use Rattle.tree.specs.Tag.{expr, pred};
 ghost use Rattle.form.specs.Decode.{decode, formOf};
 ghost use Rattle.form.specs.Lists.{listOf};
+ghost use Rattle.form.specs.Answer.{told, checkOutcome};
 ghost use Rattle.form.specs.Internal.Reads.{Told, Marked, Listing};
-ghost use Rattle.subst.specs.Internal.Items.{store};
+ghost use Rattle.subst.specs.Internal.Items.{Fresh, store};
 ghost use Rattle.replace.specs.Internal.Pieces.{isFound, shallowForm, readingOf};
 
 // A row that is a form, and whether it is at most 52 deep; or one that is none.
@@ -76,6 +77,15 @@ pub(crate) fn mark_row(row: &[u32], kind: Kind, work: &mut [u32]) -> Reading
         return Reading::Refused;
     };
     Reading::Taken(false)
+}
+
+// The check of the row, which marks it at the start of marks that hold 0.
+pub(crate) fn mark_fresh(row: &[u32], kind: Kind, marks: &mut [u32]) -> Answer
+    requires { ⌜ Fresh (now row) (now marks) ⌝ }
+    ensures { λ r. ⌜ r ≡ told (checkOutcome kind (now (row .entry))) ⌝ }
+    ensures { λ _. ⌜ Marked (formOf kind (now (row .entry))) (replicate (length (now (row .entry))) 0) (take (length (now (row .entry))) (now (marks .exit))) ⌝ }
+{
+    form::check::mark(row, kind, marks)
 }
 
 // The entries of the list, which are marked from word 8,192 of the work row on.

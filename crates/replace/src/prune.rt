@@ -2,8 +2,7 @@
 use crate::build::copy;
 use crate::fill::declared;
 use crate::fill::write_head;
-use crate::marks::Reading;
-use crate::marks::mark_row;
+use crate::marks::mark_fresh;
 use crate::pieces::filled_from;
 use crate::pieces::less;
 use crate::pieces::one_if;
@@ -19,7 +18,7 @@ ghost use mathlib.Core.List.{[], _∷_};
 ghost use Prim.Native.Nat.{_+_, _-_, _≤_, _<_};
 ghost use lib.ListN.{length, drop};
 ghost use Rattle.form.specs.Answer.{told, written};
-ghost use Rattle.subst.specs.Internal.Items.{items, rewritten, store};
+ghost use Rattle.subst.specs.Internal.Items.{Fresh, items, rewritten, store};
 ghost use Rattle.replace.specs.Prune.{pruneOutcome};
 ghost use Rattle.replace.specs.Internal.Pieces.{cleared, Falls, fallItem, fallenWords, droppedOutcome};
 
@@ -152,12 +151,11 @@ fn drop_decls(words: &[u32], row: &[u32], marks: &[u32], out: &mut [u32]) -> Ans
 
 // Prune with marks of its own. What is left is within the limits whenever the row is, so it is not checked.
 fn prune_in(row: &[u32], marks: &mut [u32], out: &mut [u32]) -> Answer
-    requires { ⌜ length (now row) ≤ length (now marks) ⌝ }
-    requires { ⌜ length (now row) ≤ 8192 ⌝ }
+    requires { ⌜ Fresh (now row) (now marks) ⌝ }
     ensures { λ r. ⌜ r ≡ told (pruneOutcome (now (row .entry)) (length (now (out .entry)))) ⌝ }
     ensures { λ _. ⌜ now (out .exit) ≡ written (pruneOutcome (now (row .entry)) (length (now (out .entry)))) (now (out .entry)) ⌝ }
 {
-    let Reading::Taken(shallow) = mark_row(row, Kind::Predicate, marks) else {
+    let Answer::Done(k) = mark_fresh(row, Kind::Predicate, marks) else {
         return Answer::No(2);
     };
     let n = declared(row);
@@ -181,6 +179,10 @@ pub fn remove_unused_decls(row: &[u32], out: &mut [u32]) -> Answer
     }
     if row.len() <= 512 {
         let mut marks = [0u32; 512];
+        return prune_in(row, &mut marks, out);
+    }
+    if row.len() <= 2048 {
+        let mut marks = [0u32; 2048];
         return prune_in(row, &mut marks, out);
     }
     if Limit::WORDS < row.len() {

@@ -1,19 +1,17 @@
 -- `replace::prune::remove_unused_decls` meets its contract. Assumes nothing.
 use mathlib.Core.Path.{refl}
-use borrow.Author.Needs.{needs}
+use native.Mathlib.Omega.{arith}
 use Rattle.subst.proofs.CheckedLaws.{refused}
 use Rattle.replace.proofs.PruneLaws.{prune-long}
+use borrow.Author.Needs.{needs}
 use Rattle.replace.proofs.prune.remove_unused_decls.Statement.{statement}
 use Rattle.replace.proofs.prune.remove_unused_decls.Tie as tie
-use Rattle.replace.proofs.prune.remove_unused_decls.Reads as reads
-use Rattle.replace.proofs.prune.remove_unused_decls.Lts as lts
-use Rattle.replace.proofs.prune.prune_in.Reads as prune-in-reads
 
 slice-aggregate-prune-in : tie.Need-slice-aggregate-prune-in
 slice-aggregate-prune-in c = search needs
 
 prune-in-requires : tie.Need-prune-in-requires
-prune-in-requires c κs = search needs
+prune-in-requires c κs = record { zeros = refl; enough = omega arith; short = omega arith }
 
 same-length : tie.Need-same-length
 same-length c = search needs
@@ -25,7 +23,7 @@ slice-aggregate-prune-in-2 : tie.Need-slice-aggregate-prune-in-2
 slice-aggregate-prune-in-2 c = search needs
 
 prune-in-requires-2 : tie.Need-prune-in-requires-2
-prune-in-requires-2 c κs = search needs
+prune-in-requires-2 c κs = record { zeros = refl; enough = omega arith; short = omega arith }
 
 same-length-2 : tie.Need-same-length-2
 same-length-2 c = search needs
@@ -33,20 +31,32 @@ same-length-2 c = search needs
 returns-2 : tie.Need-returns-2
 returns-2 c = search needs
 
-returns-3 : tie.Need-returns-3
-returns-3 c = refused _ _ _ _ (prune-long _ _ (c .if3 .taken)) refl
-
 slice-aggregate-prune-in-3 : tie.Need-slice-aggregate-prune-in-3
 slice-aggregate-prune-in-3 c = search needs
 
 prune-in-requires-3 : tie.Need-prune-in-requires-3
-prune-in-requires-3 c κs = search needs
+prune-in-requires-3 c κs = record { zeros = refl; enough = omega arith; short = omega arith }
 
 same-length-3 : tie.Need-same-length-3
 same-length-3 c = search needs
 
+returns-3 : tie.Need-returns-3
+returns-3 c = search needs
+
 returns-4 : tie.Need-returns-4
-returns-4 c = search needs
+returns-4 c = refused _ _ _ _ (prune-long _ _ (c .if4 .taken)) refl
+
+slice-aggregate-prune-in-4 : tie.Need-slice-aggregate-prune-in-4
+slice-aggregate-prune-in-4 c = search needs
+
+prune-in-requires-4 : tie.Need-prune-in-requires-4
+prune-in-requires-4 c κs = record { zeros = refl; enough = omega arith; short = omega arith }
+
+same-length-4 : tie.Need-same-length-4
+same-length-4 c = search needs
+
+returns-5 : tie.Need-returns-5
+returns-5 c = search needs
 
 pub remove-unused-decls-spec : {M : Type 1} → statement M
 remove-unused-decls-spec =
@@ -60,8 +70,12 @@ remove-unused-decls-spec =
     prune-in-requires-2
     same-length-2
     returns-2
-    returns-3
     slice-aggregate-prune-in-3
     prune-in-requires-3
     same-length-3
-    returns-4)
+    returns-3
+    returns-4
+    slice-aggregate-prune-in-4
+    prune-in-requires-4
+    same-length-4
+    returns-5)
