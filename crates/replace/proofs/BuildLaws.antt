@@ -18,11 +18,12 @@ use Rattle.form.specs.declared.answer.Kind.the-variants.{Expression, Predicate}
 use Rattle.form.specs.declared.answer.Answer.{Answer}
 use Rattle.form.specs.declared.answer.Answer.the-variants.{Done, No}
 use Rattle.form.proofs.DecodeLaws.{clash}
-use Rattle.subst.specs.Internal.Items.{items, rewritten, store}
+use Rattle.subst.specs.Internal.Items.{items, store}
 use Rattle.subst.proofs.CheckedLaws.{found-row}
 use Rattle.subst.proofs.ItemLaws.{stored, store-append}
-use Rattle.replace.specs.Internal.Pieces.{planned, sizes, InRow, isFound, fitted, emitted, replacedWords, replaced}
+use Rattle.replace.specs.Internal.Pieces.{sizes, lengthRefusal, InRow, isFound, shortWords, emitted, replacedWords, replaced}
 use Rattle.replace.specs.declared.pieces.Plan.{Plan}
+use Rattle.replace.proofs.LengthLaws.{not-refused, refused-many}
 use Rattle.replace.proofs.PieceLaws.{planned-length}
 
 module _ (kind : Kind) (ws : List ℕ) where
@@ -38,7 +39,7 @@ module _ (kind : Kind) (ws : List ℕ) where
   unfolding checkOutcome
   told-yes s f q = rw (le-leb (length ws) 8192 (found-row ws s f kind q .0), q)
 
-  pub long-missing : 8192 < length ws → formOf kind ws ≡ missing
+  long-missing : 8192 < length ws → formOf kind ws ≡ missing
   long-missing h = go (formOf kind ws) refl
     where
       go : (o : Found) → formOf kind ws ≡ o → formOf kind ws ≡ missing
@@ -56,14 +57,8 @@ module _ (kind : Kind) (ws : List ℕ) where
       go (found s f) q = let y = told-yes s f q in absurd (clash cc)
       go missing q = missing-emitted room q
 
-  pub emit-long : (sure : Bool) (room : ℕ) → 8192 < length ws → emitted sure kind ws room ≡ refusal 7
-  unfolding emitted
-  emit-long true room h = rw (lt-leb (length ws) 8192 h)
-  emit-long false room h = missing-emitted room (long-missing h)
-
-  pub emit-short : (room : ℕ) → length ws ≤ 8192 → fitted ws room ≡ emitted true kind ws room
-  unfolding emitted
-  emit-short room h = rw (le-leb (length ws) 8192 h)
+  emit-long : (room : ℕ) → 8192 < length ws → emitted false kind ws room ≡ refusal 7
+  emit-long room h = missing-emitted room (long-missing h)
 
   module _ (j : ℕ) (r : Answer) (e : r ≡ told (checkOutcome kind ws)) (n : r ≡ Done j) where
     pub is-found : isFound (formOf kind ws) ≡ true
@@ -112,46 +107,56 @@ emit-sure true s room g h = go (leb (length (encode g)) 8192) refl
     go true q = rw (q, h refl (leb-true (length (encode g)) 8192 q))
     go false q = rw (q, row-long s (encode g) (leb-false (length (encode g)) 8192 q))
 
--- the head and the words after it, in a work row
+-- words of which only the length is checked
+short-not : (ws : List ℕ) (room : ℕ) {no : ℕ} → no ≡ lengthRefusal (length ws) room → (no ≡ 0 → ⊥) → shortWords ws room ≡ refusal no
+unfolding lengthRefusal
+short-not ws room {no} e z = go (leb (length ws) 8192) (leb (length ws) room) (sym e)
+  where
+    go : (b c : Bool) → pick b (pick c 0 14) 7 ≡ no → pick b (pick c (answer ws) (refusal 14)) (refusal 7) ≡ refusal no
+    go true true q = absurd (z (sym q))
+    go true false q = ap refusal q
+    go false c q = ap refusal q
+
+-- the head and the words after it
 pub built-fits : {n a b c : ℕ} → a ≡ b → b ≡ c → n ≤ c → n ≤ a
 built-fits p q h = omega arith
 
-pub built : (work work′ work″ head body : List ℕ) (n : ℕ) → work′ ≡ store work 0 head → work″ ≡ store work′ (length head) body → n ≡ length head + length body → n ≤ length work → take n work″ ≡ head ++ body
-built work work′ work″ head body n e e′ k h =
-    let s : store work 0 (head ++ body) ≡ work″ = rw (store-append work 0 head body, zero-add, ← e) (sym e′) in
-    let l : length (head ++ body) ≡ n = length-append head body ∙ sym k in
-    rw (← s, stored work (head ++ body) (rw l h)) (take-at (head ++ body) (drop (length (head ++ body)) work) n l)
+pub stored-after : (out out′ out″ head body : List ℕ) → out′ ≡ store out 0 head → out″ ≡ store out′ (length head) body → out″ ≡ store out 0 (head ++ body)
+stored-after out out′ out″ head body e e′ = rw (store-append out 0 head body, zero-add, ← e) e′
 
-module _ (kind : Kind) (head : List ℕ) (p : Plan) (list lm row marks : List ℕ) (inside : InRow p (length list)) (room : ℕ) where
-  pub built-row : (work work′ work″ : List ℕ) (n : ℕ) → work′ ≡ store work 0 head → work″ ≡ store work′ (length head) (rewritten (planned p list lm) (items row marks)) → n ≡ length head + sizes p (items row marks)
-      → n ≤ length work → emitted false kind (take n work″) room ≡ replaced false kind head p list lm row marks room
-  unfolding replaced
-  built-row work work′ work″ n e e′ k h =
-      rw (built work work′ work″ head (rewritten (planned p list lm) (items row marks)) n e e′ (rw (planned-length p list lm inside) k) h)
+module _ (head : List ℕ) (p : Plan) (list lm row marks : List ℕ) (inside : InRow p (length list)) where
+  abbrev all : List ℕ
+  all = replacedWords head p list lm row marks
 
-  pub replaced-long : (sure : Bool) → 8192 < length head + sizes p (items row marks) → replaced sure kind head p list lm row marks room ≡ refusal 7
-  unfolding replaced
-  replaced-long sure h = emit-long kind (head ++ rewritten (planned p list lm) (items row marks)) sure room (rw (length-append, planned-length p list lm inside) h)
+  replaced-length : length all ≡ length head + sizes p (items row marks)
+  replaced-length = rw (length-append, planned-length p list lm inside)
 
-module _ (head : List ℕ) (p : Plan) (list lm row marks : List ℕ) (inside : InRow p (length list)) (n : ℕ) (k : n ≡ length head + sizes p (items row marks)) where
-  replaced-length : length (replacedWords head p list lm row marks) ≡ n
-  replaced-length = rw (length-append, planned-length p list lm inside) (sym k)
+  -- checked in a work row
+  module _ (kind : Kind) (room : ℕ) where
+    pub built-row : (work work′ : List ℕ) (n : ℕ) → work′ ≡ store work 0 all → n ≡ length head + sizes p (items row marks) → n ≤ length work
+        → emitted false kind (take n work′) room ≡ replaced false kind head p list lm row marks room
+    unfolding replaced
+    built-row work work′ n e k h =
+        let l : length all ≡ n = replaced-length ∙ sym k in
+        rw (e, stored work all (rw l h), take-at all (drop (length all) work) n l)
+
+    pub long-row : {no : ℕ} → no ≡ lengthRefusal (length head + sizes p (items row marks)) 8192 → (no ≡ 0 → ⊥) → replaced false kind head p list lm row marks room ≡ refusal 7
+    unfolding replaced
+    long-row e z = emit-long kind all room (rw replaced-length (refused-many (length head + sizes p (items row marks)) e z))
 
   -- stored in the output row
-  pub fit-not : (room : ℕ) → room < n → fitted (replacedWords head p list lm row marks) room ≡ refusal 14
-  fit-not room h = rw (replaced-length, lt-leb n room h)
+  pub sure-not : (room : ℕ) {no : ℕ} → no ≡ lengthRefusal (length head + sizes p (items row marks)) room → (no ≡ 0 → ⊥) → shortWords all room ≡ refusal no
+  sure-not room e z = short-not all room (rw replaced-length e) z
 
-  pub fit-done : (out out′ out″ : List ℕ) → out′ ≡ store out 0 head → out″ ≡ store out′ (length head) (rewritten (planned p list lm) (items row marks)) → n ≤ length out
-      → (Done n ≡ told (fitted (replacedWords head p list lm row marks) (length out))) × (out″ ≡ written (fitted (replacedWords head p list lm row marks) (length out)) out)
-  fit-done out out′ out″ e e′ h =
-      let ws = replacedWords head p list lm row marks in
-      let l : length ws ≤ length out = rw replaced-length h in
-      let s : store out 0 ws ≡ out″ = rw (store-append out 0 head (rewritten (planned p list lm) (items row marks)), zero-add, ← e) (sym e′) in
-      rw (le-leb (length ws) (length out) l) (ap Done (sym replaced-length), sym s ∙ stored out ws l)
+  pub sure-done : (out out′ : List ℕ) {no : ℕ} → no ≡ lengthRefusal (length head + sizes p (items row marks)) (length out) → no ≡ 0 → (n : ℕ) → n ≡ length head + sizes p (items row marks) → out′ ≡ store out 0 all
+      → (Done n ≡ told (shortWords all (length out))) × (out′ ≡ written (shortWords all (length out)) out)
+  sure-done out out′ e z n k w =
+      let (a, b) = not-refused (length all) (length out) (rw replaced-length e) z in
+      rw (le-leb (length all) 8192 a, le-leb (length all) (length out) b) (ap Done (k ∙ sym replaced-length), w ∙ stored out all b)
 
-  pub fit-replaced : (kind : Kind) (room : ℕ) → n ≤ 8192 → {sure : Bool} → sure ≡ true → fitted (replacedWords head p list lm row marks) room ≡ replaced sure kind head p list lm row marks room
-  unfolding replaced
-  fit-replaced kind room h y = rw y (emit-short kind (replacedWords head p list lm row marks) room (rw replaced-length h))
+pub short-sure : (kind : Kind) (head : List ℕ) (p : Plan) (list lm row marks : List ℕ) (room : ℕ) (sure : Bool) → sure ≡ true → shortWords (replacedWords head p list lm row marks) room ≡ replaced sure kind head p list lm row marks room
+unfolding replaced emitted
+short-sure kind head p list lm row marks room sure y = rw y
 
 -- the words of a row from n on, as a part
 pub rest-part : (l : List ℕ) (n : ℕ) → take (length l - n) (drop n l) ≡ drop n l

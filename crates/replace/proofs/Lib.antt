@@ -1,4 +1,5 @@
 pub mod PieceLaws
+pub mod LengthLaws
 pub mod MarkLaws
 pub mod EntryLaws
 pub mod BuildLaws

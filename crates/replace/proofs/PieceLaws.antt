@@ -71,48 +71,47 @@ used-first p h =
 pub used-few : (p : Plan) → Tabled p → length (take (p .table .n) (p .table .words)) ≤ 32
 used-few p h = rw (used-first p h) (h .few)
 
--- where a piece lies, and how many words it has
-module _ (p : Plan) (n : ℕ) (inside : InRow p n) where
-  free-fits : (k i : ℕ) (b : Bool) → leb (p .table .n) i ≡ b → Fits (pick b Same (Part (getD (p .table .starts) i 0) (getD (p .table .ends) i 0) k (p .down))) n
-  unfolding Fits InRow
-  free-fits k i true e = tt
-  free-fits k i false e = inside i (leb-false (p .table .n) i e)
+-- what holds of the item itself, of each index and of each part of the table holds of every piece
+module _ (p : Plan) (P : Piece → Type 0) (same : P Same) (index : (v : ℕ) → P (Index v))
+    (inside : (i u d : ℕ) → i < p .table .n → P (Part (getD (p .table .starts) i 0) (getD (p .table .ends) i 0) u d)) where
+  free-all : (k i : ℕ) (b : Bool) → leb (p .table .n) i ≡ b → P (pick b Same (Part (getD (p .table .starts) i 0) (getD (p .table .ends) i 0) k (p .down)))
+  free-all k i true e = same
+  free-all k i false e = inside i k (p .down) (leb-false (p .table .n) i e)
 
-  place-fits : (k v i : ℕ) (b : Bool) → i < p .table .n
-      → Fits (pick b (Index v) (Part (getD (p .table .starts) i 0) (getD (p .table .ends) i 0) k (p .down))) n
-  unfolding Fits InRow
-  place-fits k v i true h = tt
-  place-fits k v i false h = inside i h
+  place-all : (k v i : ℕ) (b : Bool) → i < p .table .n → P (pick b (Index v) (Part (getD (p .table .starts) i 0) (getD (p .table .ends) i 0) k (p .down)))
+  place-all k v i true h = index v
+  place-all k v i false h = inside i k (p .down) h
 
-  fill-fits : (k v : ℕ) (a b : Bool) → leb (p .table .n) (v - (k - p .table .n)) ≡ b
-      → Fits (pick a Same (pick b (Index (v - p .gone)) (placePiece p k v (p .table .n - 1 - (v - (k - p .table .n)))))) n
-  unfolding Fits placePiece
-  fill-fits k v true b e = tt
-  fill-fits k v false true e = tt
-  fill-fits k v false false e =
+  fill-all : (k v : ℕ) (a b : Bool) → leb (p .table .n) (v - (k - p .table .n)) ≡ b
+      → P (pick a Same (pick b (Index (v - p .gone)) (placePiece p k v (p .table .n - 1 - (v - (k - p .table .n))))))
+  unfolding placePiece
+  fill-all k v true b e = same
+  fill-all k v false true e = index _
+  fill-all k v false false e =
       let l = leb-false (p .table .n) (v - (k - p .table .n)) e in
-      place-fits _ _ (p .table .n - 1 - (v - (k - p .table .n))) (eqb (getD (p .table .words) (p .table .n - 1 - (v - (k - p .table .n))) 0) 0) (omega arith)
+      place-all _ _ (p .table .n - 1 - (v - (k - p .table .n))) (eqb (getD (p .table .words) (p .table .n - 1 - (v - (k - p .table .n))) 0) 0) (omega arith)
 
-  pick-fits : (b : Bool) (x y : Piece) → Fits x n → Fits y n → Fits (pick b x y) n
-  pick-fits true x y h k = h
-  pick-fits false x y h k = k
+  pick-all : (b : Bool) (x y : Piece) → P x → P y → P (pick b x y)
+  pick-all true x y h k = h
+  pick-all false x y h k = k
 
-  same-fits : Fits Same n
-  unfolding Fits
-  same-fits = tt
-
-  pub piece-fits : (x : Item) → Fits (pieceOf p x) n
+  pub piece-all : (x : Item) → P (pieceOf p x)
   unfolding pieceOf freePiece fillPiece
-  piece-fits (Plain w) = same-fits
-  piece-fits (Ident k t v) =
-      pick-fits (p .fills) _ _ (pick-fits (eqb t 2) _ _ (fill-fits k v (ltb v (k - p .table .n)) (leb (p .table .n) (v - (k - p .table .n))) refl) same-fits)
-      (pick-fits (eqb t 1) _ _ (free-fits k (spot v (take (p .table .n) (p .table .words))) _ refl) same-fits)
+  piece-all (Plain w) = same
+  piece-all (Ident k t v) =
+      pick-all (p .fills) _ _ (pick-all (eqb t 2) _ _ (fill-all k v (ltb v (k - p .table .n)) (leb (p .table .n) (v - (k - p .table .n))) refl) same)
+      (pick-all (eqb t 1) _ _ (free-all k (spot v (take (p .table .n) (p .table .words))) _ refl) same)
+
+-- where a piece lies, and how many words it has
+pub piece-fits : (p : Plan) (n : ℕ) → InRow p n → (x : Item) → Fits (pieceOf p x) n
+unfolding Fits InRow
+piece-fits p n inside x = piece-all p (λ c. Fits c n) tt (λ v. tt) (λ i u d h. inside i h) x
 
 pub part-length : (s e : ℕ) (l : List ℕ) → s ≤ e → e ≤ length l → length (part s e l) ≡ e - s
 unfolding part
 part-length s e l h k = length-take-le (e - s) (drop s l) (rw length-drop (omega arith))
 
-words-length : (x : Item) → length (wordsOf x) ≡ sizeOf x
+pub words-length : (x : Item) → length (wordsOf x) ≡ sizeOf x
 unfolding wordsOf sizeOf
 words-length (Plain w) = refl
 words-length (Ident k t v) = refl
@@ -171,9 +170,9 @@ module _ (row marks : List ℕ) (i : ℕ) (high : length row ≤ i) where
   unfolding rewritten items store
   store-stop g out p = rw (gone row i high)
 
-  pub sizes-stop : (p : Plan) → sizes p (items (drop i row) (drop i marks)) ≡ 0
+  pub sizes-stop : (p : Plan) (k : ℕ) → k + sizes p (items (drop i row) (drop i marks)) ≡ k
   unfolding sizes items
-  sizes-stop p = rw (gone row i high)
+  sizes-stop p k = rw (gone row i high, add-zero)
 
 -- a piece by its case
 pub same-size : {c : Piece} (x : Item) → c ≡ Same → 0 < pieceSize c x
@@ -234,7 +233,7 @@ module _ (p : Plan) (x : Item) {c : Piece} (is : c ≡ pieceOf p x) {n : ℕ} (s
     needed-over h l = rw (sizes-step row marks i low at) (capped-over k _ h (omega arith))
 
 pub needed-end : (p : Plan) (row marks : List ℕ) (i k : ℕ) → length row ≤ i → k ≤ 8192 → capped (k + sizes p (items (drop i row) (drop i marks))) ≡ k
-needed-end p row marks i k l h = rw (sizes-stop row marks i l p, add-zero) (capped-same k h)
+needed-end p row marks i k l h = rw (sizes-stop row marks i l p k) (capped-same k h)
 
 pub pick-yes : {A : Type 0} {b : Bool} (x y : A) → b ≡ true → pick b x y ≡ x
 pick-yes x y e = rw e

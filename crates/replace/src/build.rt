@@ -1,6 +1,8 @@
-// The words that a plan makes of a form: counted, built, checked as a form where they may be none, and answered.
+// The words that a plan makes of a form: counted where they may be too many, built, checked as a form where they may be none, and answered.
 use crate::pieces::Plan;
 use crate::pieces::Rule;
+use crate::pieces::longest_part;
+use crate::pieces::words_between;
 use crate::pieces::words_needed;
 use crate::pieces::write_pieces;
 use form::answer::Answer;
@@ -8,11 +10,12 @@ use form::answer::Kind;
 use form::answer::Limit;
 ghost use mathlib.Core.Path.{_≡_};
 ghost use mathlib.Core.Bool.{false};
-ghost use Prim.Native.Nat.{_+_, _≤_};
+ghost use Prim.Native.Nat.{_+_, _*_, _≤_, min};
+ghost use lib.Dec.{leb};
 ghost use lib.ListN.{length, drop};
 ghost use Rattle.form.specs.Answer.{told, written};
 ghost use Rattle.subst.specs.Internal.Items.{items, store};
-ghost use Rattle.replace.specs.Internal.Pieces.{sizes, planFor, Ready, fitted, emitted, replacedWords, replaced};
+ghost use Rattle.replace.specs.Internal.Pieces.{sizes, half, lengthRefusal, planFor, Tabled, Ready, shortWords, emitted, replacedWords, replaced};
 
 // The words, stored at the start of the output row.
 pub(crate) fn copy(words: &[u32], out: &mut [u32])
@@ -41,127 +44,62 @@ fn emit(kind: Kind, words: &[u32], out: &mut [u32]) -> Answer
     Answer::Done(words.len())
 }
 
-// The head and what stands for the items from `from` on, built in the first n words of a work row.
-fn replace_in(
-    kind: Kind,
-    head: &[u32],
-    rule: Rule,
-    words: &[u32],
-    starts: &[usize],
-    ends: &[usize],
-    list: &[u32],
-    list_marks: &[u32],
-    row: &[u32],
-    marks: &[u32],
-    from: usize,
-    n: usize,
-    work: &mut [u32],
-    out: &mut [u32],
-) -> Answer
-    requires { ⌜ Ready (planFor rule (now words) (now starts) (now ends)) (now list) (now «list_marks») ⌝ }
-    requires { ⌜ n ≡ length (now head) + sizes (planFor rule (now words) (now starts) (now ends)) (items (drop from (now row)) (drop from (now marks))) ⌝ }
-    requires { ⌜ n ≤ length (now work) ⌝ }
-    ensures { λ r. ⌜ r ≡ told (replaced false kind (now (head .entry)) (planFor rule (now (words .entry)) (now (starts .entry)) (now (ends .entry))) (now (list .entry)) (now («list_marks» .entry)) (drop from (now (row .entry))) (drop from (now (marks .entry))) (length (now (out .entry)))) ⌝ }
-    ensures { λ _. ⌜ now (out .exit) ≡ written (replaced false kind (now (head .entry)) (planFor rule (now (words .entry)) (now (starts .entry)) (now (ends .entry))) (now (list .entry)) (now («list_marks» .entry)) (drop from (now (row .entry))) (drop from (now (marks .entry))) (length (now (out .entry)))) (now (out .entry)) ⌝ }
+fn smaller(a: usize, b: usize) -> usize
+    ensures { λ r. ⌜ r ≡ min a b ⌝ }
 {
-    copy(head, work);
-    write_pieces(
-        rule,
-        words,
-        starts,
-        ends,
-        list,
-        list_marks,
-        row,
-        marks,
-        from,
-        work,
-        head.len(),
-    );
-    emit(kind, &work[..n], out)
+    if b < a {
+        return b;
+    }
+    a
 }
 
-// The same in a work row of its own, which is as short as n allows.
-fn replace_checked(
-    kind: Kind,
-    head: &[u32],
-    rule: Rule,
-    words: &[u32],
-    starts: &[usize],
-    ends: &[usize],
-    list: &[u32],
-    list_marks: &[u32],
-    row: &[u32],
-    marks: &[u32],
-    from: usize,
-    n: usize,
-    out: &mut [u32],
-) -> Answer
-    requires { ⌜ Ready (planFor rule (now words) (now starts) (now ends)) (now list) (now «list_marks») ⌝ }
-    requires { ⌜ n ≡ length (now head) + sizes (planFor rule (now words) (now starts) (now ends)) (items (drop from (now row)) (drop from (now marks))) ⌝ }
-    requires { ⌜ n ≤ 8192 ⌝ }
-    ensures { λ r. ⌜ r ≡ told (replaced false kind (now (head .entry)) (planFor rule (now (words .entry)) (now (starts .entry)) (now (ends .entry))) (now (list .entry)) (now («list_marks» .entry)) (drop from (now (row .entry))) (drop from (now (marks .entry))) (length (now (out .entry)))) ⌝ }
-    ensures { λ _. ⌜ now (out .exit) ≡ written (replaced false kind (now (head .entry)) (planFor rule (now (words .entry)) (now (starts .entry)) (now (ends .entry))) (now (list .entry)) (now («list_marks» .entry)) (drop from (now (row .entry))) (drop from (now (marks .entry))) (length (now (out .entry)))) (now (out .entry)) ⌝ }
+// Whether a head and what stands for so many words, at most half of the longest part for each, fit in a row and in a form.
+fn always_fit(head: usize, words: usize, longest: usize, room: usize) -> bool
+    requires { ⌜ 2 ≤ longest ⌝ }
+    ensures { λ r. ⌜ r ≡ leb (head + words * half longest) (min room 8192) ⌝ }
 {
-    if n <= 64 {
-        let mut work = [0u32; 64];
-        return replace_in(
-            kind,
-            head,
-            rule,
-            words,
-            starts,
-            ends,
-            list,
-            list_marks,
-            row,
-            marks,
-            from,
-            n,
-            &mut work,
-            out,
-        );
+    let most = smaller(room, Limit::WORDS);
+    if most < head {
+        return false;
     }
-    if n <= 512 {
-        let mut work = [0u32; 512];
-        return replace_in(
-            kind,
-            head,
-            rule,
-            words,
-            starts,
-            ends,
-            list,
-            list_marks,
-            row,
-            marks,
-            from,
-            n,
-            &mut work,
-            out,
-        );
-    }
-    let mut work = [0u32; 8192];
-    replace_in(
-        kind,
-        head,
-        rule,
-        words,
-        starts,
-        ends,
-        list,
-        list_marks,
-        row,
-        marks,
-        from,
-        n,
-        &mut work,
-        out,
-    )
+    words <= (most - head) / (longest - longest / 2)
 }
 
-// The head and what stands for the items from `from` on, n words in all, stored in the output row: 14 where it is shorter.
-fn write_replaced(
+// The refusal of a head and what stands for the items from `from` on, in a row of so many words: 7, 14, or 0 for none. They are counted
+// only where they may be too many.
+fn length_refusal(
+    head: usize,
+    rule: Rule,
+    words: &[u32],
+    starts: &[usize],
+    ends: &[usize],
+    row: &[u32],
+    marks: &[u32],
+    from: usize,
+    room: usize,
+) -> u32
+    requires { ⌜ Tabled (planFor rule (now words) (now starts) (now ends)) ⌝ }
+    ensures { λ r. ⌜ r ≡ lengthRefusal (head + sizes (planFor rule (now (words .entry)) (now (starts .entry)) (now (ends .entry))) (items (drop from (now (row .entry))) (drop from (now (marks .entry))))) room ⌝ }
+{
+    let longest = longest_part(starts, ends, rule.n);
+    if always_fit(head, words_between(from, row.len()), longest, room) {
+        return 0;
+    }
+    let body = words_needed(rule, words, starts, ends, row, marks, from);
+    if Limit::WORDS < body {
+        return 7;
+    }
+    if Limit::WORDS - body < head {
+        return 7;
+    }
+    if room < head + body {
+        return 14;
+    }
+    0
+}
+
+// The head and what stands for the items from `from` on, stored at the start of a row: how many words they are.
+fn write_words(
     head: &[u32],
     rule: Rule,
     words: &[u32],
@@ -172,17 +110,13 @@ fn write_replaced(
     row: &[u32],
     marks: &[u32],
     from: usize,
-    n: usize,
     out: &mut [u32],
-) -> Answer
+) -> usize
     requires { ⌜ Ready (planFor rule (now words) (now starts) (now ends)) (now list) (now «list_marks») ⌝ }
-    requires { ⌜ n ≡ length (now head) + sizes (planFor rule (now words) (now starts) (now ends)) (items (drop from (now row)) (drop from (now marks))) ⌝ }
-    ensures { λ r. ⌜ r ≡ told (fitted (replacedWords (now (head .entry)) (planFor rule (now (words .entry)) (now (starts .entry)) (now (ends .entry))) (now (list .entry)) (now («list_marks» .entry)) (drop from (now (row .entry))) (drop from (now (marks .entry)))) (length (now (out .entry)))) ⌝ }
-    ensures { λ _. ⌜ now (out .exit) ≡ written (fitted (replacedWords (now (head .entry)) (planFor rule (now (words .entry)) (now (starts .entry)) (now (ends .entry))) (now (list .entry)) (now («list_marks» .entry)) (drop from (now (row .entry))) (drop from (now (marks .entry)))) (length (now (out .entry)))) (now (out .entry)) ⌝ }
+    requires { ⌜ length (now head) + sizes (planFor rule (now words) (now starts) (now ends)) (items (drop from (now row)) (drop from (now marks))) ≤ length (now out) ⌝ }
+    ensures { λ r. ⌜ r ≡ length (now (head .entry)) + sizes (planFor rule (now (words .entry)) (now (starts .entry)) (now (ends .entry))) (items (drop from (now (row .entry))) (drop from (now (marks .entry)))) ⌝ }
+    ensures { λ _. ⌜ now (out .exit) ≡ store (now (out .entry)) 0 (replacedWords (now (head .entry)) (planFor rule (now (words .entry)) (now (starts .entry)) (now (ends .entry))) (now (list .entry)) (now («list_marks» .entry)) (drop from (now (row .entry))) (drop from (now (marks .entry)))) ⌝ }
 {
-    if out.len() < n {
-        return Answer::No(14);
-    }
     copy(head, out);
     write_pieces(
         rule,
@@ -196,8 +130,104 @@ fn write_replaced(
         from,
         out,
         head.len(),
+    )
+}
+
+// The same as an answer, where it is sure to be a form: only its length is checked.
+fn replace_sure(
+    head: &[u32],
+    rule: Rule,
+    words: &[u32],
+    starts: &[usize],
+    ends: &[usize],
+    list: &[u32],
+    list_marks: &[u32],
+    row: &[u32],
+    marks: &[u32],
+    from: usize,
+    out: &mut [u32],
+) -> Answer
+    requires { ⌜ Ready (planFor rule (now words) (now starts) (now ends)) (now list) (now «list_marks») ⌝ }
+    ensures { λ r. ⌜ r ≡ told (shortWords (replacedWords (now (head .entry)) (planFor rule (now (words .entry)) (now (starts .entry)) (now (ends .entry))) (now (list .entry)) (now («list_marks» .entry)) (drop from (now (row .entry))) (drop from (now (marks .entry)))) (length (now (out .entry)))) ⌝ }
+    ensures { λ _. ⌜ now (out .exit) ≡ written (shortWords (replacedWords (now (head .entry)) (planFor rule (now (words .entry)) (now (starts .entry)) (now (ends .entry))) (now (list .entry)) (now («list_marks» .entry)) (drop from (now (row .entry))) (drop from (now (marks .entry)))) (length (now (out .entry)))) (now (out .entry)) ⌝ }
+{
+    let no = length_refusal(
+        head.len(),
+        rule,
+        words,
+        starts,
+        ends,
+        row,
+        marks,
+        from,
+        out.len(),
     );
-    Answer::Done(n)
+    if no != 0 {
+        return Answer::No(no);
+    }
+    Answer::Done(write_words(
+        head,
+        rule,
+        words,
+        starts,
+        ends,
+        list,
+        list_marks,
+        row,
+        marks,
+        from,
+        out,
+    ))
+}
+
+// The same as an answer, checked as a form of the kind.
+fn replace_checked(
+    kind: Kind,
+    head: &[u32],
+    rule: Rule,
+    words: &[u32],
+    starts: &[usize],
+    ends: &[usize],
+    list: &[u32],
+    list_marks: &[u32],
+    row: &[u32],
+    marks: &[u32],
+    from: usize,
+    out: &mut [u32],
+) -> Answer
+    requires { ⌜ Ready (planFor rule (now words) (now starts) (now ends)) (now list) (now «list_marks») ⌝ }
+    ensures { λ r. ⌜ r ≡ told (replaced false kind (now (head .entry)) (planFor rule (now (words .entry)) (now (starts .entry)) (now (ends .entry))) (now (list .entry)) (now («list_marks» .entry)) (drop from (now (row .entry))) (drop from (now (marks .entry))) (length (now (out .entry)))) ⌝ }
+    ensures { λ _. ⌜ now (out .exit) ≡ written (replaced false kind (now (head .entry)) (planFor rule (now (words .entry)) (now (starts .entry)) (now (ends .entry))) (now (list .entry)) (now («list_marks» .entry)) (drop from (now (row .entry))) (drop from (now (marks .entry))) (length (now (out .entry)))) (now (out .entry)) ⌝ }
+{
+    let no = length_refusal(
+        head.len(),
+        rule,
+        words,
+        starts,
+        ends,
+        row,
+        marks,
+        from,
+        Limit::WORDS,
+    );
+    if no != 0 {
+        return Answer::No(7);
+    }
+    let mut work = [0u32; Limit::WORDS];
+    let n = write_words(
+        head,
+        rule,
+        words,
+        starts,
+        ends,
+        list,
+        list_marks,
+        row,
+        marks,
+        from,
+        &mut work,
+    );
+    emit(kind, &work[..n], out)
 }
 
 // The head and what stands for the items from `from` on, as a form of the kind. Where it is sure to be one, only its length is checked.
@@ -227,16 +257,8 @@ pub(crate) fn replace(
     let words = table.words;
     let starts = table.starts;
     let ends = table.ends;
-    let body = words_needed(rule, &words, &starts, &ends, row, marks, from);
-    if Limit::WORDS < body {
-        return Answer::No(7);
-    }
-    if Limit::WORDS - body < head.len() {
-        return Answer::No(7);
-    }
-    let n = head.len() + body;
     if sure {
-        return write_replaced(
+        return replace_sure(
             head,
             rule,
             &words,
@@ -247,7 +269,6 @@ pub(crate) fn replace(
             row,
             marks,
             from,
-            n,
             out,
         );
     }
@@ -263,7 +284,6 @@ pub(crate) fn replace(
         row,
         marks,
         from,
-        n,
         out,
     )
 }

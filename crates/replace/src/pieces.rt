@@ -7,10 +7,10 @@ use subst::items::size_of;
 use subst::shift::move_item;
 ghost use mathlib.Core.Path.{_≡_};
 ghost use mathlib.Core.List.{[], _∷_};
-ghost use Prim.Native.Nat.{_+_, _-_, _≤_};
+ghost use Prim.Native.Nat.{_+_, _-_, _≤_, max};
 ghost use lib.ListN.{length, drop};
 ghost use Rattle.subst.specs.Internal.Items.{items, rewritten, movedWords, store};
-ghost use Rattle.replace.specs.Internal.Pieces.{pieceWords, pieceSize, spot, filledWords, freePiece, fillPiece, pieceOf, planned, sizes, capped, planFor, Tabled, Ready, Fits};
+ghost use Rattle.replace.specs.Internal.Pieces.{pieceWords, pieceSize, spot, filledWords, freePiece, fillPiece, pieceOf, planned, sizes, capped, longest, planFor, Tabled, Ready, Fits};
 
 // The item itself; an index; or the list row's words from a start to an end, their dangling indices moved up and down.
 pub enum Piece {
@@ -134,19 +134,48 @@ fn piece_of(rule: Rule, words: &[u32], starts: &[usize], ends: &[usize], it: Ite
     Piece::Same
 }
 
+// The number of words from a start to an end; 0 where the end is before the start.
+pub(crate) fn words_between(start: usize, end: usize) -> usize
+    ensures { λ r. ⌜ r ≡ end - start ⌝ }
+{
+    if end < start {
+        return 0;
+    }
+    end - start
+}
+
 fn piece_size(piece: Piece, it: Item) -> usize
     ensures { λ r. ⌜ r ≡ pieceSize piece it ⌝ }
 {
     match piece {
         Piece::Same => size_of(it),
         Piece::Index(v) => 2,
-        Piece::Part(s, e, u, d) => {
-            if e < s {
-                return 0;
-            }
-            e - s
-        }
+        Piece::Part(s, e, u, d) => words_between(s, e),
     }
+}
+
+fn larger(a: usize, b: usize) -> usize
+    ensures { λ r. ⌜ r ≡ max a b ⌝ }
+{
+    if a < b {
+        return b;
+    }
+    a
+}
+
+// The length of the longest of the first n parts; 2 where none is longer.
+pub(crate) fn longest_part(starts: &[usize], ends: &[usize], n: usize) -> usize
+    requires { ⌜ n ≤ length (now starts) ⌝ }
+    requires { ⌜ n ≤ length (now ends) ⌝ }
+    ensures { λ r. ⌜ r ≡ longest (now (starts .entry)) (now (ends .entry)) n ⌝ }
+{
+    let mut size = 2;
+    let mut i = 0;
+    while i < n {
+        size = larger(size, words_between(starts[i], ends[i]));
+        i += 1;
+    }
+    size
 }
 
 // How many words stand for the items from `from` on; 8,193 for any number above 8,192.
@@ -217,7 +246,7 @@ fn write_piece(list: &[u32], list_marks: &[u32], piece: Piece, it: Item, out: &m
     }
 }
 
-// What stands for the items from `from` on, stored at `at`.
+// What stands for the items from `from` on, stored at `at`: where it ends.
 pub(crate) fn write_pieces(
     rule: Rule,
     words: &[u32],
@@ -230,9 +259,10 @@ pub(crate) fn write_pieces(
     from: usize,
     out: &mut [u32],
     at: usize,
-)
+) -> usize
     requires { ⌜ Ready (planFor rule (now words) (now starts) (now ends)) (now list) (now «list_marks») ⌝ }
     requires { ⌜ at + sizes (planFor rule (now words) (now starts) (now ends)) (items (drop from (now row)) (drop from (now marks))) ≤ length (now out) ⌝ }
+    ensures { λ r. ⌜ r ≡ at + sizes (planFor rule (now (words .entry)) (now (starts .entry)) (now (ends .entry))) (items (drop from (now (row .entry))) (drop from (now (marks .entry)))) ⌝ }
     ensures { λ _. ⌜ now (out .exit) ≡ store (now (out .entry)) at (rewritten (planned (planFor rule (now (words .entry)) (now (starts .entry)) (now (ends .entry))) (now (list .entry)) (now («list_marks» .entry))) (items (drop from (now (row .entry))) (drop from (now (marks .entry))))) ⌝ }
 {
     let mut i = from;
@@ -250,4 +280,5 @@ pub(crate) fn write_pieces(
         p += piece_size(piece, it);
         i += 2;
     }
+    p
 }

@@ -3,7 +3,7 @@
 use mathlib.Core.Path.{_≡_}
 use mathlib.Core.Bool.{Bool, true, false, not, _&&_}
 use mathlib.Core.List.{List, [], _∷_, _++_}
-use Prim.Native.Nat.{ℕ, zero, suc, _+_, _-_, _≤_, _<_}
+use Prim.Native.Nat.{ℕ, zero, suc, _+_, _-_, _/_, _≤_, _<_, max}
 use lib.Dec.{leb, ltb, eqb}
 use lib.ListN.{length, getD, take, drop, replicate}
 use Rattle.tree.specs.Form.{pick}
@@ -83,6 +83,19 @@ sizes p (x ∷ xs) = pieceSize (pieceOf p x) x + sizes p xs
 unfoldable pub capped : ℕ → ℕ
 capped n = pick (leb n 8192) n 8193
 
+-- the length of the longest of the first n parts; 2 where none is longer
+unfoldable pub longest : List ℕ → List ℕ → ℕ → ℕ
+longest starts ends zero = 2
+longest starts ends (suc n) = max (longest starts ends n) (getD ends n 0 - getD starts n 0)
+
+-- half of a number, rounded up
+unfoldable pub half : ℕ → ℕ
+half n = n - n / 2
+
+-- the refusal of n words in a row of so many: 7 where a form never has so many, 14 where the row is shorter; 0 for none
+unfoldable pub lengthRefusal : ℕ → ℕ → ℕ
+lengthRefusal n room = pick (leb n 8192) (pick (leb n room) 0 14) 7
+
 -- the plan of a rule and the rows of its table
 abbrev pub planFor : Rule → List ℕ → List ℕ → List ℕ → Plan
 planFor r ws ss es = record { table = record { words = ws; starts = ss; ends = es; n = r .n }; fills = r .fills; gone = r .gone; down = r .down }
@@ -116,6 +129,10 @@ isFound missing = false
 -- words that are answered where there is room for them
 abbrev pub fitted : List ℕ → ℕ → Outcome
 fitted ws room = needs 14 (leb (length ws) room) (answer ws)
+
+-- and where they are not too many for a form
+abbrev pub shortWords : List ℕ → ℕ → Outcome
+shortWords ws room = needs 7 (leb (length ws) 8192) (fitted ws room)
 
 -- first checked as a form; only their number is, where they are sure to be one
 unfoldable pub emitted : Bool → Kind → List ℕ → ℕ → Outcome

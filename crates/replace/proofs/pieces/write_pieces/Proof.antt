@@ -7,7 +7,7 @@ use lib.ListN.{length, drop}
 use Rattle.subst.specs.Internal.Items.{items, rewritten, store}
 use Rattle.replace.specs.Internal.Pieces.{planned, sizes, planFor}
 use Rattle.subst.proofs.ItemLaws.{size-in}
-use Rattle.replace.proofs.PieceLaws.{piece-fits, ident-step, ident-size, plain-step, plain-size, plain-same, plain-words, store-next, store-stop, planned-size, sizes-step}
+use Rattle.replace.proofs.PieceLaws.{piece-fits, ident-step, ident-size, plain-step, plain-size, plain-same, plain-words, store-next, store-stop, planned-size, sizes-step, sizes-stop}
 use Rattle.replace.proofs.pieces.write_pieces.Statement.{statement}
 use Rattle.replace.proofs.pieces.write_pieces.Tie as tie
 use Rattle.replace.proofs.pieces.write_pieces.Reads as reads
@@ -19,13 +19,13 @@ use Rattle.subst.proofs.items.item_at.Reads as item-at-reads
 use Rattle.subst.proofs.items.put_item.Reads as put-item-reads
 
 abbrev Inv-loop : tie.InvT-loop
-Inv-loop rule words starts ends list list-marks row marks from out₀ at i₀ p₀ out i p = (store out₀ at (rewritten (planned (planFor rule words starts ends) list list-marks) (items (drop «from» row) (drop «from» marks))) ≡ store out p (rewritten (planned (planFor rule words starts ends) list list-marks) (items (drop i row) (drop i marks)))) × (p + sizes (planFor rule words starts ends) (items (drop i row) (drop i marks)) ≤ length out) × (length out ≡ length out₀)
+Inv-loop rule words starts ends list list-marks row marks from out₀ at i₀ p₀ out i p = (store out₀ at (rewritten (planned (planFor rule words starts ends) list list-marks) (items (drop «from» row) (drop «from» marks))) ≡ store out p (rewritten (planned (planFor rule words starts ends) list list-marks) (items (drop i row) (drop i marks)))) × (p + sizes (planFor rule words starts ends) (items (drop i row) (drop i marks)) ≤ length out) × (length out ≡ length out₀) × (at + sizes (planFor rule words starts ends) (items (drop «from» row) (drop «from» marks)) ≡ p + sizes (planFor rule words starts ends) (items (drop i row) (drop i marks)))
 
 abbrev μ-loop : tie.MeasureT-loop
 μ-loop rule words starts ends list list-marks row marks from out₀ at i₀ p₀ out i p = length row - i
 
 loop-holds : tie.Need-loop-holds Inv-loop μ-loop
-loop-holds c = (refl, c .before .before .before .before .before .before .before .before .pre .1, refl)
+loop-holds c = (refl, c .before .before .before .before .before .before .before .before .pre .1, refl, refl)
 
 item-at-requires : tie.Need-item-at-requires Inv-loop μ-loop
 item-at-requires c κs = search needs
@@ -49,7 +49,7 @@ loop-less : tie.Need-loop-less Inv-loop μ-loop
 loop-less c = let s = size-in _ (c .before .before .before .before .before .before .before .before .before .before .before .before .before .before .before .before .before .args .marks .now) _ (c .before .before .before .before .before .before .before .loop-test .taken) (c .before .before .before .before .before .before .item-at .ensures) in let e = plain-step (c .before .before .before .before .enum-told .given .1) in omega arith
 
 loop-again : tie.Need-loop-again Inv-loop μ-loop
-loop-again c = let b4 = c .before .before .before .before in let b7 = b4 .before .before .before in let b17 = b7 .before .before .before .before .before .before .before .before .before .before in (b7 .before .loop .inv .0 ∙ (store-next (b17 .args .row .now) (b17 .args .marks .now) _ (b7 .loop-test .taken) (b4 .before .before .item-at .ensures) (planned (planFor (b17 .args .rule) (b17 .args .words .now) (b17 .args .starts .now) (b17 .args .ends .now)) (b17 .args .list .now) (b17 .args .list-marks .now)) _ _ _ (b7 .before .loop .p + 1) (rw (plain-words (b4 .enum-told .given .1) (planFor (b17 .args .rule) (b17 .args .words .now) (b17 .args .starts .now) (b17 .args .ends .now)) (b17 .args .list .now) (b17 .args .list-marks .now)) at (c .before .before .put-item .ensures)) (ap (λ (n : ℕ). b7 .before .loop .p + n) (planned-size (planFor (b17 .args .rule) (b17 .args .words .now) (b17 .args .starts .now) (b17 .args .ends .now)) _ (plain-same (b4 .enum-told .given .1) (planFor (b17 .args .rule) (b17 .args .words .now) (b17 .args .starts .now) (b17 .args .ends .now))) (plain-size (b4 .enum-told .given .1)) _ _ (b17 .pre .0 .in-row))) ∙ rw (plain-step (b4 .enum-told .given .1))), let z = rw (plain-step (b4 .enum-told .given .1)) at (sizes-step (planFor (b17 .args .rule) (b17 .args .words .now) (b17 .args .starts .now) (b17 .args .ends .now)) _ (plain-same (b4 .enum-told .given .1) (planFor (b17 .args .rule) (b17 .args .words .now) (b17 .args .starts .now) (b17 .args .ends .now))) (plain-size (b4 .enum-told .given .1)) (b17 .args .row .now) (b17 .args .marks .now) _ (b7 .loop-test .taken) (b4 .before .before .item-at .ensures)) in let k = c .before .before .put-item .kept .0 in omega arith, c .before .before .put-item .kept .0 ∙ b7 .before .loop .inv .2)
+loop-again c = let b4 = c .before .before .before .before in let b7 = b4 .before .before .before in let b17 = b7 .before .before .before .before .before .before .before .before .before .before in let z = rw (plain-step (b4 .enum-told .given .1)) at (sizes-step (planFor (b17 .args .rule) (b17 .args .words .now) (b17 .args .starts .now) (b17 .args .ends .now)) _ (plain-same (b4 .enum-told .given .1) (planFor (b17 .args .rule) (b17 .args .words .now) (b17 .args .starts .now) (b17 .args .ends .now))) (plain-size (b4 .enum-told .given .1)) (b17 .args .row .now) (b17 .args .marks .now) _ (b7 .loop-test .taken) (b4 .before .before .item-at .ensures)) in (b7 .before .loop .inv .0 ∙ (store-next (b17 .args .row .now) (b17 .args .marks .now) _ (b7 .loop-test .taken) (b4 .before .before .item-at .ensures) (planned (planFor (b17 .args .rule) (b17 .args .words .now) (b17 .args .starts .now) (b17 .args .ends .now)) (b17 .args .list .now) (b17 .args .list-marks .now)) _ _ _ (b7 .before .loop .p + 1) (rw (plain-words (b4 .enum-told .given .1) (planFor (b17 .args .rule) (b17 .args .words .now) (b17 .args .starts .now) (b17 .args .ends .now)) (b17 .args .list .now) (b17 .args .list-marks .now)) at (c .before .before .put-item .ensures)) (ap (λ (n : ℕ). b7 .before .loop .p + n) (planned-size (planFor (b17 .args .rule) (b17 .args .words .now) (b17 .args .starts .now) (b17 .args .ends .now)) _ (plain-same (b4 .enum-told .given .1) (planFor (b17 .args .rule) (b17 .args .words .now) (b17 .args .starts .now) (b17 .args .ends .now))) (plain-size (b4 .enum-told .given .1)) _ _ (b17 .pre .0 .in-row))) ∙ rw (plain-step (b4 .enum-told .given .1))), let k = c .before .before .put-item .kept .0 in omega arith, c .before .before .put-item .kept .0 ∙ b7 .before .loop .inv .2, omega arith)
 
 piece-of-requires : tie.Need-piece-of-requires Inv-loop μ-loop
 piece-of-requires c κs = c .before .before .before .before .before .before .before .before .before .before .before .before .before .before .pre .0 .tabled
@@ -70,13 +70,13 @@ loop-less-2 : tie.Need-loop-less-2 Inv-loop μ-loop
 loop-less-2 c = let b7 = c .before .before .before .before .before .before .before in let b10 = b7 .before .before .before in let b20 = b10 .before .before .before .before .before .before .before .before .before .before in let s = size-in _ (b20 .args .marks .now) _ (b10 .loop-test .taken) (b7 .before .before .item-at .ensures) in let e = ident-step (b7 .it .given .1) in omega arith
 
 loop-again-2 : tie.Need-loop-again-2 Inv-loop μ-loop
-loop-again-2 c = let b3 = c .before .before .before in let b7 = b3 .before .before .before .before in let b10 = b7 .before .before .before in let b20 = b10 .before .before .before .before .before .before .before .before .before .before in (b10 .before .loop .inv .0 ∙ (store-next (b20 .args .row .now) (b20 .args .marks .now) _ (b10 .loop-test .taken) (sym (b7 .it .given .1) ∙ b7 .before .before .item-at .ensures) (planned (planFor (b20 .args .rule) (b20 .args .words .now) (b20 .args .starts .now) (b20 .args .ends .now)) (b20 .args .list .now) (b20 .args .list-marks .now)) _ _ _ (b10 .before .loop .p + c .piece-size .result) (rw (b3 .before .before .piece-of .ensures) at (b3 .write-piece .ensures)) (ap (λ (n : ℕ). b10 .before .loop .p + n) (planned-size (planFor (b20 .args .rule) (b20 .args .words .now) (b20 .args .starts .now) (b20 .args .ends .now)) _ (b3 .before .before .piece-of .ensures) (c .piece-size .ensures) _ _ (b20 .pre .0 .in-row))) ∙ rw ident-size), let z = rw ident-size at (sizes-step (planFor (b20 .args .rule) (b20 .args .words .now) (b20 .args .starts .now) (b20 .args .ends .now)) _ (b3 .before .before .piece-of .ensures) (c .piece-size .ensures) (b20 .args .row .now) (b20 .args .marks .now) _ (b10 .loop-test .taken) (sym (b7 .it .given .1) ∙ b7 .before .before .item-at .ensures)) in let k = b3 .write-piece .kept .1 .1 .1 .1 .0 in omega arith, b3 .write-piece .kept .1 .1 .1 .1 .0 ∙ b10 .before .loop .inv .2)
+loop-again-2 c = let b3 = c .before .before .before in let b7 = b3 .before .before .before .before in let b10 = b7 .before .before .before in let b20 = b10 .before .before .before .before .before .before .before .before .before .before in let z = rw ident-size at (sizes-step (planFor (b20 .args .rule) (b20 .args .words .now) (b20 .args .starts .now) (b20 .args .ends .now)) _ (b3 .before .before .piece-of .ensures) (c .piece-size .ensures) (b20 .args .row .now) (b20 .args .marks .now) _ (b10 .loop-test .taken) (sym (b7 .it .given .1) ∙ b7 .before .before .item-at .ensures)) in (b10 .before .loop .inv .0 ∙ (store-next (b20 .args .row .now) (b20 .args .marks .now) _ (b10 .loop-test .taken) (sym (b7 .it .given .1) ∙ b7 .before .before .item-at .ensures) (planned (planFor (b20 .args .rule) (b20 .args .words .now) (b20 .args .starts .now) (b20 .args .ends .now)) (b20 .args .list .now) (b20 .args .list-marks .now)) _ _ _ (b10 .before .loop .p + c .piece-size .result) (rw (b3 .before .before .piece-of .ensures) at (b3 .write-piece .ensures)) (ap (λ (n : ℕ). b10 .before .loop .p + n) (planned-size (planFor (b20 .args .rule) (b20 .args .words .now) (b20 .args .starts .now) (b20 .args .ends .now)) _ (b3 .before .before .piece-of .ensures) (c .piece-size .ensures) _ _ (b20 .pre .0 .in-row))) ∙ rw ident-size), let k = b3 .write-piece .kept .1 .1 .1 .1 .0 in omega arith, b3 .write-piece .kept .1 .1 .1 .1 .0 ∙ b10 .before .loop .inv .2, omega arith)
 
 same-length : tie.Need-same-length Inv-loop μ-loop
 same-length c = c .before .loop .inv .2
 
 returns : tie.Need-returns Inv-loop μ-loop
-returns c = sym (c .before .loop .inv .0 ∙ store-stop _ _ _ (c .loop-test .left) _ _ _)
+returns c = (sym (c .before .loop .inv .3 ∙ sizes-stop _ _ _ (c .loop-test .left) _ _), sym (c .before .loop .inv .0 ∙ store-stop _ _ _ (c .loop-test .left) _ _ _))
 
 pub write-pieces-spec : {M : Type 1} → statement M
 write-pieces-spec =

@@ -1,0 +1,60 @@
+-- `replace::build::length_refusal` meets its contract. Assumes nothing.
+use mathlib.Core.Path.{sym, _∙_}
+use native.Mathlib.Omega.{arith}
+use Rattle.replace.specs.Internal.Pieces.{planFor}
+use Rattle.replace.proofs.LengthLaws.{longest-two, always-short, refusal-none, refusal-many, refusal-room}
+use Rattle.replace.proofs.PieceLaws.{capped-low, capped-high}
+use borrow.Author.Needs.{needs}
+use Rattle.replace.proofs.build.length_refusal.Statement.{statement}
+use Rattle.replace.proofs.build.length_refusal.Tie as tie
+use Rattle.replace.proofs.build.length_refusal.Reads as reads
+use Rattle.replace.proofs.build.length_refusal.Lts as lts
+use Rattle.replace.proofs.build.always_fit.Reads as always-fit-reads
+use Rattle.replace.proofs.pieces.longest_part.Reads as longest-part-reads
+use Rattle.replace.proofs.pieces.words_between.Reads as words-between-reads
+use Rattle.replace.proofs.pieces.words_needed.Reads as words-needed-reads
+
+longest-part-requires : tie.Need-longest-part-requires
+longest-part-requires c κs = search needs
+
+words-between-requires : tie.Need-words-between-requires
+words-between-requires c κs = search needs
+
+always-fit-requires : tie.Need-always-fit-requires
+always-fit-requires c κs = rw (c .before .longest-part .ensures) (longest-two _ _ _)
+
+returns : tie.Need-returns
+returns c = always-short (planFor (c .before .before .before .before .before .before .before .before .before .args .rule) (c .before .before .before .before .before .before .before .before .before .args .words .now) (c .before .before .before .before .before .before .before .before .before .args .starts .now) (c .before .before .before .before .before .before .before .before .before .args .ends .now)) (c .before .before .before .before .before .before .before .before .before .args .row .now) (c .before .before .before .before .before .before .before .before .before .args .marks .now) (c .before .before .before .before .before .before .before .before .before .args .from) (c .before .before .before .before .before .before .before .before .before .args .head) (c .before .before .before .before .before .before .before .before .before .args .room) _ _ (c .before .before .words-between .ensures) (c .before .before .before .longest-part .ensures) (sym (c .before .always-fit .ensures) ∙ c .if1 .taken)
+
+words-needed-requires : tie.Need-words-needed-requires
+words-needed-requires c κs = search needs
+
+returns-2 : tie.Need-returns-2
+returns-2 c = let h = capped-high _ _ (c .before .words-needed .ensures) (c .if2 .taken) in refusal-many _ _ (omega arith)
+
+returns-3 : tie.Need-returns-3
+returns-3 c = let e = capped-low _ _ (c .before .before .words-needed .ensures) (c .before .if2 .left) in refusal-many _ _ (omega arith)
+
+add-if4 : tie.Need-add-if4
+add-if4 c = search needs
+
+returns-4 : tie.Need-returns-4
+returns-4 c = let e = capped-low _ _ (c .before .before .before .words-needed .ensures) (c .before .before .if2 .left) in refusal-room _ _ (omega arith) (omega arith)
+
+returns-5 : tie.Need-returns-5
+returns-5 c = let e = capped-low _ _ (c .before .before .before .words-needed .ensures) (c .before .before .if2 .left) in refusal-none _ _ (omega arith) (omega arith)
+
+pub length-refusal-spec : {M : Type 1} → statement M
+length-refusal-spec =
+    tie.close
+    (tie.spec
+    longest-part-requires
+    words-between-requires
+    always-fit-requires
+    returns
+    words-needed-requires
+    returns-2
+    returns-3
+    add-if4
+    returns-4
+    returns-5)
