@@ -1,29 +1,35 @@
 -- Some declarations filled by small expressions, and the front put round the rest: the result is within the limits. Assumes nothing.
 use mathlib.Core.Path.{_≡_, refl, ap, sym, _∙_}
-use mathlib.Core.Bool.{Bool, true, false, _||_}
+use mathlib.Core.Bool.{Bool, true, false, _&&_, _||_}
 use mathlib.Core.List.{List, [], _∷_, _++_, map}
-use Prim.Native.Nat.{ℕ, suc, _≤_}
+use Prim.Native.Nat.{ℕ, zero, suc, _-_, _≤_, _<_}
 use native.Mathlib.Omega.{arith}
-use borrow.Author.Tests.{eqb-true}
-use lib.Dec.{eqb}
-use lib.ListN.{length, getD, take, drop, length-append}
+use borrow.Author.Tests.{leb-true, eqb-true}
+use lib.Dec.{eqb, leb}
+use lib.ListN.{length, getD, take, drop, replicate, length-append, length-set, length-replicate}
 use Rattle.tree.specs.Form.{Form, none, more, between, encode}
-use Rattle.tree.specs.Tag.{pred}
+use Rattle.tree.specs.Tag.{expr, pred}
 use Rattle.form.specs.Decode.{rowForm}
-use Rattle.form.specs.Answer.{isOne}
-use Rattle.form.specs.Lists.{Place}
+use Rattle.form.specs.Answer.{isOne, finish}
+use Rattle.form.specs.Lists.{Place, kept, filled}
+use Rattle.form.specs.declared.lists.Table.{Table}
 use Rattle.form.proofs.DecodeLaws.{Ok}
 use Rattle.form.proofs.RowLaws.{row-encode}
 use Rattle.subst.specs.Walk.{walk, put, subst}
+use Rattle.subst.specs.Internal.Items.{items}
 use Rattle.subst.proofs.WalkLaws.{and-left, and-right}
+use Rattle.subst.proofs.RowLaws.{itemsOf, marksOf}
 use Rattle.replace.specs.Fill.{quantified, quantify, keptNames, fillFor, fill}
-use Rattle.replace.proofs.OkLaws.{ok-deep, areNames}
+use Rattle.replace.specs.Internal.Pieces.{part, headWords, areNames}
+use Rattle.replace.proofs.BuildLaws.{emit-sure}
+use Rattle.replace.proofs.OkLaws.{ok-deep}
 use Rattle.replace.proofs.QuantLaws.{Quant, quant-tag}
 use Rattle.replace.proofs.PruneTree.{names-kept, node-names, quantify-ok}
-use Rattle.replace.proofs.InsideLaws.{SmallPlaces, quant-body, names-take, names-drop, partial-body}
-use Rattle.one_point.specs.Partial.{front, lowerPlace, joinWith, putRound, instantiatePartial}
-use Rattle.one_point.specs.Internal.Rest.{joins, innerNames}
-use Rattle.one_point.proofs.PartialLaws.{lower-places, join-same, Heads, ok-heads, inner-are, filled-quant, same-tag}
+use Rattle.replace.proofs.InsideLaws.{Small, SmallPlaces, small-append, quant-body, names-take, names-drop, partial-body}
+use Rattle.one_point.specs.Partial.{noPlaces, setPlace, front, lowerPlace, joinWith, putRound, instantiatePartial}
+use Rattle.one_point.specs.Internal.Rest.{joins, innerNames, partialHead, partialRow}
+use Rattle.one_point.specs.Replacement.{above}
+use Rattle.one_point.proofs.PartialLaws.{lower-places, join-same, Heads, ok-heads, inner-are, filled-quant, same-tag, places-are, front-is, from-front, point-stays, point-words}
 
 names-join : (a b : List ℕ) → areNames a ≡ true → areNames b ≡ true → areNames (a ++ b) ≡ true
 names-join [] b h g = g
@@ -84,3 +90,41 @@ module _ (t : ℕ) (which : (eqb t 851 || eqb t 852) ≡ true) (ns : List ℕ) (
 
   pub point-fits : length (headNames t ns ps g (front ps) (length (drop (front ps) ns))) ≤ 32 → length (encode (instantiatePartial t ns ps g)) ≤ 8192 → isOne (rowForm pred (encode (instantiatePartial t ns ps g))) ≡ true
   point-fits l s = ap isOne (row-encode (point-inside l) s)
+
+-- one place filled by a small expression
+kept-small : (n : ℕ) → SmallPlaces (replicate n kept)
+kept-small zero = tt
+kept-small (suc n) = (tt, kept-small n)
+
+one-small : (n i : ℕ) (e : Form) → i < n → Small e → SmallPlaces (setPlace n i e (noPlaces n))
+one-small n i e l h = rw (places-are n i e l) (small-append (replicate (n - suc i) kept) (filled e ∷ replicate i kept) (kept-small (n - suc i)) (h, kept-small i))
+
+head-few : (t : ℕ) (ws : List ℕ) → length (headWords t ws) ≤ 34 → length ws ≤ 32
+unfolding headWords
+head-few t [] h = omega arith
+head-few t (k ∷ ks) h = omega arith
+
+-- one point: of the declarations ns the one of index i is filled by e
+module _ (t : ℕ) (which : (eqb t 851 || eqb t 852) ≡ true) (ns : List ℕ) (i : ℕ) (e : Form) (low : i < length ns) (most : length ns ≤ 32) (tb : Table) (list lm : List ℕ) (number : tb .n ≡ suc i)
+    (words : take (tb .n) (tb .words) ≡ 1 ∷ replicate i 0)
+    (there : items (part (getD (tb .starts) 0 0) (getD (tb .ends) 0 0) list) (part (getD (tb .starts) 0 0) (getD (tb .ends) 0 0) lm) ≡ itemsOf 0 e) {d : ℕ} (ok-e : Ok d expr e) (over : above i e ≡ true)
+    (g : Form) (ok : Ok 63 pred g) (marks after : List ℕ) (marked : marks ≡ marksOf (tb .n) g ++ after) (names : areNames ns ≡ true) where
+  abbrev ps : List Place
+  ps = setPlace (length ns) i e (noPlaces (length ns))
+
+  names-few : length (partialHead t (take (length ns - suc i) ns) (drop (length ns - suc i) ns) tb (encode g)) ≤ 34 → length (headNames t ns ps g (front ps) (length (drop (front ps) ns))) ≤ 32
+  names-few h =
+      rw (front-is (length ns) i e low, from-front (length ns) i e low, ← point-stays t which ns i e low most tb list lm number words there ok-e over g ok marks after marked)
+      (head-few t _ h)
+
+  pub point-row : (sure : Bool) → (sure ≡ true → Small e × Ok 51 pred g) → (room : ℕ)
+      → partialRow sure t (take (length ns - suc i) ns) (drop (length ns - suc i) ns) tb list lm (encode g) marks room ≡ finish pred room (instantiatePartial t ns ps g)
+  point-row sure h room =
+      let hd = partialHead t (take (length ns - suc i) ns) (drop (length ns - suc i) ns) tb (encode g) in
+      rw (point-words t which ns i e low most tb list lm number words there ok-e over g ok marks after marked)
+      (emit-sure (leb (length hd) 34 && sure) pred room (instantiatePartial t ns ps g) (λ y l. within (leb-true (length hd) 34 (and-left (leb (length hd) 34) sure y)) (h (and-right (leb (length hd) 34) sure y)) l))
+    where
+      within : length (partialHead t (take (length ns - suc i) ns) (drop (length ns - suc i) ns) tb (encode g)) ≤ 34 → Small e × Ok 51 pred g → length (encode (instantiatePartial t ns ps g)) ≤ 8192
+          → isOne (rowForm pred (encode (instantiatePartial t ns ps g))) ≡ true
+      within a b l =
+          point-fits t which ns names most ps (length-set (noPlaces (length ns)) (length ns - suc i) (filled e) ∙ length-replicate (length ns) kept) (one-small (length ns) i e low (b .0)) g (b .1) (names-few a) l

@@ -12,7 +12,6 @@ use lib.Seq.{drop-at, take-at}
 use Rattle.tree.specs.Form.{Form, node, Forms, none, more, pick, encode}
 use Rattle.tree.specs.Tag.{expr, pred}
 use Rattle.form.specs.Lists.{Place, kept, filled}
-use Rattle.form.specs.Answer.{finish}
 use Rattle.form.specs.Internal.Reads.{mark}
 use Rattle.form.specs.declared.lists.Table.{Table}
 use Rattle.form.proofs.DecodeLaws.{Ok, ok-node}
@@ -24,14 +23,13 @@ use Rattle.subst.proofs.RowLaws.{itemsOf, zeros, marksOf, items-encode, marks-l
 use Rattle.replace.specs.Fill.{quantifier, other, quantified, quantify, keptNames, fillFor, fill}
 use Rattle.replace.specs.Internal.Pieces.{part, planned, headWords}
 use Rattle.replace.proofs.EntryLaws.{PlaceAt}
-use Rattle.replace.proofs.BuildLaws.{emit-form}
 use Rattle.replace.proofs.FillTree.{wordFor, lowPlace, low-words, Above, fill-tree-lower}
 use Rattle.replace.proofs.NameLaws.{kept-names, encode-quantify}
 use Rattle.replace.proofs.QuantLaws.{Quant, quant-by-tag, quant-tag, quant-names, quant-items-in}
 use Rattle.replace.proofs.OkLaws.{ok-deep}
 use Rattle.one_point.specs.Replacement.{above}
 use Rattle.one_point.specs.Partial.{noPlaces, setPlace, front, lowerPlace, joinWith, putRound, instantiatePartial}
-use Rattle.one_point.specs.Internal.Rest.{restPlan, restKept, joins, innerEnd, innerNames, partialWords, partialRow}
+use Rattle.one_point.specs.Internal.Rest.{restPlan, restKept, joins, innerEnd, innerNames, partialWords}
 use Rattle.one_point.proofs.SidesLaws.{part-words}
 
 -- the marks that a reader makes in a row of zeros, under u declarations
@@ -153,7 +151,7 @@ module _ (t : ℕ) (which : (eqb t 851 || eqb t 852) ≡ true) (rest : List ℕ)
       let m = y .most in
       rw (marked, quant-items-in g y (length (y .decls)) (tb .n) after refl) (filling (length (y .decls)) {d = 63} {f = y .body} (omega arith) (y .ok))
 
-  stays : restKept tb rest ≡ keptNames lowered rest
+  pub stays : restKept tb rest ≡ keptNames lowered rest
   stays =
       let w : take (tb .n) (tb .words) ≡ map wordFor lowered = words ∙ (sym (low-words (lower (tb .n)) ps) ∙ ap (λ z. map wordFor z) (sym lowered-are)) in
       rw w (rw append-nil at (kept-names lowered rest [] (length-map ps (lowerPlace (length rest)) ∙ fits)))
@@ -248,11 +246,11 @@ module _ (t : ℕ) (which : (eqb t 851 || eqb t 852) ≡ true) (ns : List ℕ) (
   unfolding instantiatePartial
   point-is = rw (front-is (length ns) i e low, from-front (length ns) i e low)
 
+  pub point-stays : restKept tb (drop (length ns - suc i) ns) ≡ keptNames (map (lowerPlace (length (drop (length ns - suc i) ns))) (filled e ∷ replicate i kept)) (drop (length ns - suc i) ns)
+  point-stays =
+      stays t which (drop j ns) tb list lm ps (words ∙ ap (λ z. 1 ∷ z) (sym (map-replicate wordFor i kept))) (number ∙ sym ps-length) ps-fit (omega arith) ps-placed ps-higher g ok marks after marked
+
   pub point-words : partialWords t (take (length ns - suc i) ns) (drop (length ns - suc i) ns) tb list lm (encode g) marks ≡ encode (instantiatePartial t ns (setPlace (length ns) i e (noPlaces (length ns))) g)
   point-words =
       partial-words t which (drop j ns) tb list lm ps (words ∙ ap (λ z. 1 ∷ z) (sym (map-replicate wordFor i kept))) (number ∙ sym ps-length) ps-fit (omega arith) ps-placed ps-higher g ok marks after marked (take j ns)
       ∙ ap encode (sym point-is)
-
-  pub point-row : (room : ℕ) → partialRow t (take (length ns - suc i) ns) (drop (length ns - suc i) ns) tb list lm (encode g) marks room
-      ≡ finish pred room (instantiatePartial t ns (setPlace (length ns) i e (noPlaces (length ns))) g)
-  point-row room = rw point-words (emit-form pred room _)

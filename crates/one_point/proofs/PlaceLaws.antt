@@ -1,32 +1,37 @@
 -- One point after the scan: the place that is filled, the rest of the body, and the whole call. Assumes nothing.
 use mathlib.Core.Path.{_≡_, refl, ap, sym, _∙_}
-use mathlib.Core.Bool.{true}
+use mathlib.Core.Bool.{Bool, true}
 use mathlib.Core.List.{List, [], _∷_, _++_, append-nil}
 use Prim.Native.Nat.{ℕ, zero, suc, _+_, _-_, _≤_, _<_}
 use native.Mathlib.Nat.{zero-add}
 use native.Mathlib.Omega.{arith}
 use borrow.Author.Tests.{eq-eqb, ne-eqb, lt-ltb}
-use lib.ListN.{length, getD, take, drop, set, replicate}
+use lib.ListN.{length, getD, take, drop, set, replicate, length-replicate}
 use lib.Seq.{drop-length}
 use Rattle.tree.specs.Form.{Form, encode}
 use Rattle.tree.specs.Tag.{expr, pred}
 use Rattle.form.specs.Decode.{Got, got, decode}
 use Rattle.form.specs.Answer.{finish}
-use Rattle.form.specs.Internal.Reads.{mark, Told}
+use Rattle.form.specs.Internal.Reads.{mark, Told, decodeIn}
 use Rattle.form.specs.declared.head.Step.{Step}
-use Rattle.form.specs.declared.head.Step.the-variants.{Bad}
-use Rattle.form.proofs.DecodeLaws.{clash, Ok, decode-sound}
+use Rattle.form.specs.declared.head.Step.the-variants.{End, Bad}
+use Rattle.form.proofs.DecodeLaws.{clash, Ok, decode-encode, decode-sound}
+use Rattle.form.proofs.ReaderLaws.{told-end}
 use Rattle.subst.specs.Internal.Items.{items}
 use Rattle.subst.proofs.RowLaws.{itemsOf, marksOf}
-use Rattle.replace.specs.Internal.Pieces.{part as part-of, declaredIn}
+use Rattle.replace.specs.Internal.Pieces.{part as part-of, declaredIn, smallPart}
 use Rattle.replace.proofs.QuantLaws.{Quant, quant-by-tag, quant-long}
 use Rattle.replace.proofs.OkLaws.{ok-deep}
+use Rattle.replace.proofs.InsideLaws.{Small}
+use Rattle.replace.proofs.SmallLaws.{small-form}
 use Rattle.one_point.specs.Internal.Rest.{partialRow}
 use Rattle.one_point.specs.Internal.Reduce.{isQuantifier, quantifierIn, Inner, oneTable, Resting, placedForm, placedOutcome, Placing, Cleared, Marking}
 use Rattle.one_point.specs.declared.one_point_inference.Quantifier.the-variants.{Of, None}
+use Rattle.one_point.proofs.SidesLaws.{told-plain}
 use Rattle.one_point.proofs.PartsLaws.{some-words}
 use Rattle.one_point.proofs.PlacesLaws.{place-from}
-use Rattle.one_point.proofs.PartialLaws.{mark-front, first-filled, part-items, point-row}
+use Rattle.one_point.proofs.PartialLaws.{mark-front, first-filled, part-items}
+use Rattle.one_point.proofs.InsidePoint.{point-row}
 
 -- the head of a row as the code finds it
 module _ (row : List ℕ) (n : ℕ) (is : n ≡ declaredIn row) where
@@ -105,6 +110,30 @@ marking-of part pm pm′ f h is m l = record { enough = let e = h .enough in ome
         let k : g ≡ f = cc in
         m ∙ (ap (λ (z : List ℕ). mark f 0 0 z) (h .zeros ∙ ap (λ (n : ℕ). replicate n 0) (sym l)) ∙ ap (λ (z : Form). mark z 0 0 (replicate (length pm′) 0)) (sym k))
 
+-- a new row of marks
+pub fresh-cleared : (row : List ℕ) (n : ℕ) → length row ≤ n → Cleared row (replicate n 0)
+fresh-cleared row n h = record { zeros = ap (λ (k : ℕ). replicate k 0) (sym (length-replicate n 0)); enough = rw length-replicate h }
+
+-- a rest that is read as a predicate at most 51 deep
+module _ (u : ℕ) (few : u ≤ 65535) (row : List ℕ) (f : Form) (is : decode 63 pred row ≡ got f []) (a b : List ℕ) (r : Step) (q : ℕ) (t : Told 0 u (decodeIn 51 u pred row) a b r) (e : r ≡ End q) where
+  pub shallow-rest : Ok 51 pred f × (b ≡ mark f 0 u a)
+  shallow-rest =
+      let (g, x, d, l, m) = told-end 0 u (decode 51 pred row) a b r q (told-plain 0 51 u pred row a b r (omega arith) few t) e in
+      go g x d m
+    where
+      go : (g : Form) (x : List ℕ) → decode 51 pred row ≡ got g x → b ≡ mark g 0 u a → Ok 51 pred f × (b ≡ mark f 0 u a)
+      go g x d m =
+          let (w, o) = decode-sound 51 pred row g x d in
+          let c : got g x ≡ got f [] = sym (decode-encode (ok-deep o 63 (omega arith)) x) ∙ (ap (decode 63 pred) (sym w) ∙ is) in
+          let z : g ≡ f = cc in
+          (rw z at o, rw z at m)
+
+-- a replacement that is small
+pub part-small : (part : List ℕ) (f : Form) → decode 63 expr part ≡ got f [] → (b : Bool) → b ≡ smallPart part → b ≡ true → Small f
+part-small part f is b e y =
+    let (w, o) = whole-expr part f is in
+    small-form f (ok-deep o 64 (omega arith)) (ap smallPart (sym w) ∙ (sym e ∙ y))
+
 -- the target's place filled in the rest
 module _ (t : ℕ) (ns : List ℕ) (i : ℕ) (part rest : List ℕ) (h : Placing t ns i part rest) where
   place-within : (p : ℕ) → p ≡ length ns - 1 - i → p < length ns
@@ -118,9 +147,9 @@ module _ (t : ℕ) (ns : List ℕ) (i : ℕ) (part rest : List ℕ) (h : Placing
   outcome-is room = rw (h .is-part, h .is-rest)
 
   module _ (pm : List ℕ) (k : Marking part pm) (marks marks′ : List ℕ) (c : Cleared rest marks) (is : marks′ ≡ mark (h .form) 0 (i + 1) marks) where
-    pub placed-row : (p : ℕ) → p ≡ length ns - 1 - i → (room : ℕ)
-        → partialRow t (take p ns) (drop p ns) (oneTable (length ns - p) (length part)) part pm rest marks′ room ≡ placedOutcome t ns i part rest room
-    placed-row p e room =
+    pub placed-row : (sure : Bool) → (sure ≡ true → Small (h .by) × Ok 51 pred (h .form)) → (p : ℕ) → p ≡ length ns - 1 - i → (room : ℕ)
+        → partialRow sure t (take p ns) (drop p ns) (oneTable (length ns - p) (length part)) part pm rest marks′ room ≡ placedOutcome t ns i part rest room
+    placed-row sure inside p e room =
         let w = whole-pred rest (h .form) (h .is-rest) in
         let v = whole-expr part (h .by) (h .is-part) in
         let a : p ≡ length ns - suc i = e ∙ sym (place-from (length ns) i) in
@@ -133,9 +162,9 @@ module _ (t : ℕ) (ns : List ℕ) (i : ℕ) (part rest : List ℕ) (h : Placing
         let there : items (part-of 0 (length part) part) (part-of 0 (length part) pm) ≡ itemsOf 0 (h .by)
         = part-items (h .by) part pm 0 (length part) (length pm) (ap length (v .0) ∙ sym (zero-add (length (encode (h .by))))) (row-all part (encode (h .by)) (v .0)) (k .enough) (k .are (h .by) (h .is-part)) in
         rw (a, b) (
-        ap (λ (r : List ℕ). partialRow t (take (length ns - suc i) ns) (drop (length ns - suc i) ns) (oneTable (suc i) (length part)) part pm r marks′ room) (w .0)
+        ap (λ (r : List ℕ). partialRow sure t (take (length ns - suc i) ns) (drop (length ns - suc i) ns) (oneTable (suc i) (length part)) part pm r marks′ room) (w .0)
         ∙ (
-        point-row t (h .which) ns i (h .by) (h .target) (h .few) (oneTable (suc i) (length part)) part pm refl (first-filled 32 i (omega arith)) there (v .1) (h .up) (h .form) (w .1) marks′ (replicate (length marks - length (encode (h .form))) 0) m room
+        point-row t (h .which) ns i (h .by) (h .target) (h .few) (oneTable (suc i) (length part)) part pm refl (first-filled 32 i (omega arith)) there (v .1) (h .up) (h .form) (w .1) marks′ (replicate (length marks - length (encode (h .form))) 0) m (h .names) sure inside room
         ∙ sym (outcome-is room)
         )
         )

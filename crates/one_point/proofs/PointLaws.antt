@@ -9,7 +9,7 @@ use borrow.Author.Tests.{le-leb, lt-leb, eqb-true, eqb-false}
 use lib.Dec.{eqb}
 use lib.ListN.{length, getD, take, drop, length-take}
 use lib.Seq.{take-at, drop-at, drop-drop}
-use Rattle.tree.specs.Form.{Form, pick, encode}
+use Rattle.tree.specs.Form.{Form, none as no-more, more, pick, encode}
 use Rattle.tree.specs.Tag.{Sort, expr, pred}
 use Rattle.form.specs.Decode.{got, decode}
 use Rattle.form.specs.Answer.{Outcome, refusal, told, checkOutcome}
@@ -22,6 +22,7 @@ use Rattle.replace.specs.Fill.{quantified, quantifier}
 use Rattle.replace.specs.Internal.Pieces.{declaredIn}
 use Rattle.replace.proofs.BuildLaws.{rest-part}
 use Rattle.replace.proofs.QuantLaws.{Quant, is-quant, not-quant, quant-count, quant-tag, quant-names, quant-long}
+use Rattle.replace.proofs.PruneTree.{node-names}
 use Rattle.one_point.specs.Replacement.{Taken, taken, nothing}
 use Rattle.one_point.specs.Scan.{Scan, scanned, scan}
 use Rattle.one_point.specs.Point.{polarity, restOf, reduce, reduceQuantified, onePoint, ofResult, pointOutcome}
@@ -184,6 +185,7 @@ module _ (t : ℕ) (ns body : List ℕ) (wl : ℕ) (h : Reducing t ns body wl) w
               which = h .which;
               target = took-ok .0 .1;
               few = h .few;
+              names = h .names;
               by = k .by;
               is-part = part-is;
               up = took-ok .0 .2;
@@ -293,6 +295,7 @@ module _ (row : List ℕ) (wl room : ℕ) where
               record {
                 which = rw tag-is (quant .which);
                 few = rw names-are m;
+                names = rw names-are (node-names (quant .tag) (quant .decls) (more (quant .body) no-more) (quant .which) (rw (quant .form) at (x .ok)));
                 form = quant .body;
                 is = whole (take (length row - (2 + n)) (drop (2 + n) row)) (quant .body) body-is-row (quant .ok);
                 short = omega arith;

@@ -5,7 +5,7 @@ use mathlib.Core.List.{List, [], _∷_, _++_}
 use Prim.Native.Nat.{ℕ, zero, suc, _+_, _-_, _≤_, _<_}
 use native.Mathlib.Omega.{arith}
 use borrow.Author.Tests.{eq-eqb, ne-eqb, eqb-true}
-use lib.Dec.{eqb}
+use lib.Dec.{eqb, leb}
 use lib.ListN.{length, getD, take, drop, set, replicate, length-drop, length-take, getD-replicate}
 use lib.Seq.{length-take-le}
 use Rattle.tree.specs.Form.{pick}
@@ -147,15 +147,15 @@ module _ (ns : List ℕ) (p : ℕ) (within : p < length ns) (few : length ns ≤
     one-ready : Ready (downPlan (oneTable (length ns - p) (length part)) (length ns - p)) part pm
     one-ready = record { tabled = record { few = omega arith; words = refl; starts = refl; ends = refl }; in-row = one-inside; marked = marked }
 
-    pub rest-put : (t : ℕ) (hd : List ℕ) (tb : Table) → tb ≡ oneTable (length ns - p) (length part) → (from start : ℕ) → start ≡ innerStart from → (row marks : List ℕ) (room : ℕ)
+    pub rest-put : (sure sure′ : Bool) (t : ℕ) (hd : List ℕ) (k : ℕ) → length hd ≡ k → sure′ ≡ (leb k 34 && sure) → (tb : Table) → tb ≡ oneTable (length ns - p) (length part) → (from start : ℕ) → start ≡ innerStart from → (row marks : List ℕ) (room : ℕ)
         → from ≡ innerEnd t (take p ns) (take (length ns - (p + 1)) (drop (p + 1) ns)) row
         → hd ≡ headWords t (take p ns ++ (take (length ns - (p + 1)) (drop (p + 1) ns) ++ take (from - start) (drop start row)))
-        → placedRow false hd tb (length ns - p) part pm (drop from row) (drop from marks) room
-        ≡ partialRow t (take p ns) (drop p ns) (oneTable (length ns - p) (length part)) part pm row marks room
+        → placedRow sure′ hd tb (length ns - p) part pm (drop from row) (drop from marks) room
+        ≡ partialRow sure t (take p ns) (drop p ns) (oneTable (length ns - p) (length part)) part pm row marks room
     unfolding placedRow replaced partialWords
-    rest-put t hd tb b from start i row marks room e h =
+    rest-put sure sure′ t hd k l y tb b from start i row marks room e h =
         let s = take (length ns - (p + 1)) (drop (p + 1) ns) in
-        rw (b, ready-is (oneTable (length ns - p) (length part)) part pm (length ns - p) one-ready, rest-stays (length part), h, i, inner-words t row (take p ns) s from e, e)
+        rw (y, ← l, b, ready-is (oneTable (length ns - p) (length part)) part pm (length ns - p) one-ready, rest-stays (length part), h, i, inner-words t row (take p ns) s from e, e)
 
 -- the head's words fit in 72
 pub head-room : (t : ℕ) (ns : List ℕ) (p : ℕ) → p < length ns → length ns ≤ 32 → (row : List ℕ) → Inner t row → (from start : ℕ)

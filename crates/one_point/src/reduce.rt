@@ -6,6 +6,8 @@ use form::answer::Answer;
 use form::head::Step;
 use form::reader::expr_at;
 use form::reader::pred_at;
+use replace::small::Margin;
+use replace::small::is_small;
 use tree::tag::Tag;
 ghost use mathlib.Core.Path.{_≡_};
 ghost use mathlib.Core.List.{[], _∷_};
@@ -15,7 +17,29 @@ ghost use Rattle.tree.specs.Form.{pick};
 ghost use Rattle.form.specs.Answer.{told, written};
 ghost use Rattle.one_point.specs.Internal.Reduce.{Placing, Marking, Cleared, placedOutcome, emptyWord, Reducing, bodyOutcome};
 
-// The target's place filled in the rest of a body, with marks for the rest and with the replacement's marks.
+// The target's place filled in the rest of a body, with the replacement's marks.
+fn place_deep(
+    tag: u32,
+    names: &[u32],
+    target: u32,
+    part: &[u32],
+    part_marks: &[u32],
+    rest: &[u32],
+    out: &mut [u32],
+) -> Answer
+    requires { ⌜ Placing tag (now names) target (now part) (now rest) × Marking (now part) (now «part_marks») ⌝ }
+    ensures { λ r. ⌜ r ≡ told (placedOutcome tag (now (names .entry)) target (now (part .entry)) (now (rest .entry)) (length (now (out .entry)))) ⌝ }
+    ensures { λ _. ⌜ now (out .exit) ≡ written (placedOutcome tag (now (names .entry)) target (now (part .entry)) (now (rest .entry)) (length (now (out .entry)))) (now (out .entry)) ⌝ }
+{
+    let mut marks = [0u32; 16384];
+    let Step::End(end) = pred_at(rest, &mut marks, 0, 63, target + 1) else {
+        return Answer::No(2);
+    };
+    let p = names.len() - 1 - (target as usize);
+    put_rest(tag, names, p, false, part, part_marks, rest, &marks, out)
+}
+
+// The same, with marks for the rest, which is read first as a predicate at most 51 deep.
 fn place_in(
     tag: u32,
     names: &[u32],
@@ -30,11 +54,12 @@ fn place_in(
     ensures { λ r. ⌜ r ≡ told (placedOutcome tag (now (names .entry)) target (now (part .entry)) (now (rest .entry)) (length (now (out .entry)))) ⌝ }
     ensures { λ _. ⌜ now (out .exit) ≡ written (placedOutcome tag (now (names .entry)) target (now (part .entry)) (now (rest .entry)) (length (now (out .entry)))) (now (out .entry)) ⌝ }
 {
-    let Step::End(end) = pred_at(rest, marks, 0, 63, target + 1) else {
-        return Answer::No(2);
+    let Step::End(end) = pred_at(rest, marks, 0, Margin::ROW - 1, target + 1) else {
+        return place_deep(tag, names, target, part, part_marks, rest, out);
     };
     let p = names.len() - 1 - (target as usize);
-    put_rest(tag, names, p, part, part_marks, rest, marks, out)
+    let sure = is_small(part);
+    put_rest(tag, names, p, sure, part, part_marks, rest, marks, out)
 }
 
 // The same, with marks for the rest of its own.

@@ -4,8 +4,10 @@ use form::answer::Answer;
 use form::lists::Table;
 use replace::places::fill_places;
 ghost use mathlib.Core.Path.{_≡_};
+ghost use mathlib.Core.Bool.{_&&_};
 ghost use mathlib.Core.List.{_++_};
 ghost use Prim.Native.Nat.{_+_, _-_, _≤_};
+ghost use lib.Dec.{leb};
 ghost use lib.ListN.{length, take, drop};
 ghost use Rattle.form.specs.Answer.{told, written};
 ghost use Rattle.replace.specs.Internal.Pieces.{headWords};
@@ -78,11 +80,23 @@ fn one_table(n: usize, end: usize) -> Table
     }
 }
 
-// The declarations from place p on: the first replaced by the expression, the others kept.
+// Whether what is sure to be a form under at most 32 declarations is so under a head of h words.
+fn is_sure_under(h: usize, sure: bool) -> bool
+    ensures { λ r. ⌜ r ≡ (leb h 34 && sure) ⌝ }
+{
+    if 34 < h {
+        return false;
+    }
+    sure
+}
+
+// The declarations from place p on: the first replaced by the expression, the others kept. The result is checked as a form where it is
+// not sure to be one.
 pub(crate) fn put_rest(
     tag: u32,
     names: &[u32],
     p: usize,
+    sure: bool,
     part: &[u32],
     part_marks: &[u32],
     body: &[u32],
@@ -90,8 +104,8 @@ pub(crate) fn put_rest(
     out: &mut [u32],
 ) -> Answer
     requires { ⌜ Resting tag (now names) p (now part) (now «part_marks») (now body) ⌝ }
-    ensures { λ r. ⌜ r ≡ told (partialRow tag (take p (now (names .entry))) (drop p (now (names .entry))) (oneTable (length (now (names .entry)) - p) (length (now (part .entry)))) (now (part .entry)) (now («part_marks» .entry)) (now (body .entry)) (now (marks .entry)) (length (now (out .entry)))) ⌝ }
-    ensures { λ _. ⌜ now (out .exit) ≡ written (partialRow tag (take p (now (names .entry))) (drop p (now (names .entry))) (oneTable (length (now (names .entry)) - p) (length (now (part .entry)))) (now (part .entry)) (now («part_marks» .entry)) (now (body .entry)) (now (marks .entry)) (length (now (out .entry)))) (now (out .entry)) ⌝ }
+    ensures { λ r. ⌜ r ≡ told (partialRow sure tag (take p (now (names .entry))) (drop p (now (names .entry))) (oneTable (length (now (names .entry)) - p) (length (now (part .entry)))) (now (part .entry)) (now («part_marks» .entry)) (now (body .entry)) (now (marks .entry)) (length (now (out .entry)))) ⌝ }
+    ensures { λ _. ⌜ now (out .exit) ≡ written (partialRow sure tag (take p (now (names .entry))) (drop p (now (names .entry))) (oneTable (length (now (names .entry)) - p) (length (now (part .entry)))) (now (part .entry)) (now («part_marks» .entry)) (now (body .entry)) (now (marks .entry)) (length (now (out .entry)))) (now (out .entry)) ⌝ }
 {
     let n = names.len() - p;
     let from = inner_end(tag, &names[..p], &names[p + 1..], body);
@@ -107,7 +121,7 @@ pub(crate) fn put_rest(
         &head[..h],
         one_table(n, part.len()),
         n as u32,
-        false,
+        is_sure_under(h, sure),
         part,
         part_marks,
         body,

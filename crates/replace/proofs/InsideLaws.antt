@@ -24,8 +24,8 @@ use Rattle.subst.proofs.ShiftLaws.{between-high}
 use Rattle.subst.proofs.TreeLaws.{up-up}
 use Rattle.replace.specs.Fill.{keptCount, keptNames, fillIndex, fillFor, fill}
 use Rattle.replace.specs.Free.{orName, seek, freeFor, substitute}
-use Rattle.replace.specs.Internal.Pieces.{smallWords as small}
-use Rattle.replace.proofs.OkLaws.{ok-deep, areNames}
+use Rattle.replace.specs.Internal.Pieces.{smallWords as small, areNames}
+use Rattle.replace.proofs.OkLaws.{ok-deep}
 use Rattle.replace.proofs.FillTree.{count-both, kept-reverse, lowPlace}
 use Rattle.replace.proofs.QuantLaws.{Quant, tag-heading}
 use Rattle.replace.proofs.PruneTree.{few-names, names-kept, node-names, quantify-ok}
@@ -163,7 +163,7 @@ pub free-fits : (es : List Entry) → SmallPlaces (map placeOf es) → {s : Sort
 free-fits es h ok l = ap isOne (row-encode (free-inside es h ok) l)
 
 -- fill
-small-append : (ps qs : List Place) → SmallPlaces ps → SmallPlaces qs → SmallPlaces (ps ++ qs)
+pub small-append : (ps qs : List Place) → SmallPlaces ps → SmallPlaces qs → SmallPlaces (ps ++ qs)
 small-append [] qs h g = g
 small-append (p ∷ ps) qs h g = (h .0, small-append ps qs (h .1) g)
 

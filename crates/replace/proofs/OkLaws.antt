@@ -12,6 +12,7 @@ use Rattle.form.proofs.DecodeLaws.{clash, Ok, ok-free, ok-bound, ok-node, OkAll
 use Rattle.subst.specs.Walk.{Binding, inside, outside, binding, Outer, named, dangling, walkIndex, walk, walkAll, collectIndex, collect, each, eachAll}
 use Rattle.subst.proofs.WalkLaws.{and-left, and-right}
 use Rattle.subst.proofs.LimitLaws.{fineLeaf}
+use Rattle.replace.specs.Internal.Pieces.{areNames}
 
 -- a form within one depth is within a greater one
 mutual
@@ -53,10 +54,6 @@ module _ (act : ℕ → Outer → Form) (a : ℕ → Outer → Leaf) (e : (k : �
     ok-walkAll (ok-more {f = f} {fs = fs} h w) k g = ok-more (ok-walk h k (and-left (each fine k f) (eachAll fine k fs) g)) (ok-walkAll w k (and-right (each fine k f) (eachAll fine k fs) g))
 
 -- names of declarations
-abbrev pub areNames : List ℕ → Bool
-areNames [] = true
-areNames (n ∷ ns) = between 0 65535 n && areNames ns
-
 name-good : (b c : Bool) (w : ℕ) (h : Head) (o ds : List ℕ) (p e : ℕ) (r : List ℕ) → only b (addName w h) ≡ head o ds p e r
     → ((o′ ds′ : List ℕ) (p′ e′ : ℕ) (r′ : List ℕ) → h ≡ head o′ ds′ p′ e′ r′ → c ≡ true) → (b && c) ≡ true
 name-good true c w (head o′ ds′ p′ e′ r′) o ds p e r q k = k o′ ds′ p′ e′ r′ refl

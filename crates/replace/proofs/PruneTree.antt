@@ -20,8 +20,8 @@ use Rattle.subst.proofs.WalkLaws.{and-left, and-right, always, each-agree, each
 use Rattle.subst.proofs.LimitLaws.{small, ok-small, fineLeaf, walk-length}
 use Rattle.replace.specs.Fill.{keptCount, keptNames, fillIndex, fillFor, fill, quantify, ofQuantified, quantified}
 use Rattle.replace.specs.Prune.{isNot, unused, usedPlaces, prune, pruneOutcome}
-use Rattle.replace.specs.Internal.Pieces.{declaredIn}
-use Rattle.replace.proofs.OkLaws.{ok-deep, ok-walk, areNames, names-good, names-made}
+use Rattle.replace.specs.Internal.Pieces.{declaredIn, areNames}
+use Rattle.replace.proofs.OkLaws.{ok-deep, ok-walk, names-good, names-made}
 use Rattle.replace.proofs.FillTree.{kept-reverse}
 use Rattle.replace.proofs.QuantLaws.{Quant, is-quant, not-quant, tag-own, tag-node}
 

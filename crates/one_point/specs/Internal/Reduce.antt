@@ -11,7 +11,7 @@ use Rattle.form.specs.Decode.{Got, got, no-form, decode}
 use Rattle.form.specs.Answer.{Outcome, refusal, finish}
 use Rattle.form.specs.Internal.Reads.{mark}
 use Rattle.form.specs.declared.lists.Table.{Table}
-use Rattle.replace.specs.Internal.Pieces.{declaredIn}
+use Rattle.replace.specs.Internal.Pieces.{declaredIn, areNames}
 use Rattle.one_point.specs.Replacement.{above}
 use Rattle.one_point.specs.Scan.{scan}
 use Rattle.one_point.specs.Partial.{noPlaces, setPlace, instantiatePartial}
@@ -62,6 +62,7 @@ pub record Placing (t : ℕ) (ns : List ℕ) (i : ℕ) (part rest : List ℕ) : 
   pub which : isQuantifier t ≡ true
   pub target : i < length ns
   pub few : length ns ≤ 32
+  pub names : areNames ns ≡ true
   pub by : Form
   pub is-part : decode 63 expr part ≡ got by []
   pub up : above i by ≡ true
@@ -93,6 +94,7 @@ bodyOutcome t ns body room = reducedIn t ns room (decode 63 pred body)
 pub record Reducing (t : ℕ) (ns body : List ℕ) (work : ℕ) : Type 0 where
   pub which : isQuantifier t ≡ true
   pub few : length ns ≤ 32
+  pub names : areNames ns ≡ true
   pub form : Form
   pub is : decode 63 pred body ≡ got form []
   pub short : length body ≤ 8192

@@ -1,10 +1,10 @@
 -- A rest of declarations filled by the places of a table, and the front put round it, on words. The parts of the list row are moved down by
 -- the declarations of the rest.
-use mathlib.Core.Bool.{Bool, true, false, not, _&&_}
+use mathlib.Core.Bool.{Bool, true, not, _&&_}
 use mathlib.Core.List.{List, [], _++_}
 use Prim.Native.Nat.{ℕ, _+_}
-use lib.Dec.{eqb}
-use lib.ListN.{getD, take, drop}
+use lib.Dec.{eqb, leb}
+use lib.ListN.{length, getD, take, drop}
 use Rattle.tree.specs.Form.{pick}
 use Rattle.form.specs.Answer.{Outcome}
 use Rattle.form.specs.declared.answer.Kind.the-variants.{Predicate}
@@ -33,11 +33,15 @@ unfoldable pub innerNames : ℕ → List ℕ → List ℕ → List ℕ → List 
 innerNames t front stay row = pick (joins t front stay row) (take (getD row 1 0) (drop 2 row)) []
 
 -- the head of the whole, and the words of the rest
+abbrev pub partialHead : ℕ → List ℕ → List ℕ → Table → List ℕ → List ℕ
+partialHead t front rest tb row = let stay = restKept tb rest in headWords t (front ++ (stay ++ innerNames t front stay row))
+
 unfoldable pub partialWords : ℕ → List ℕ → List ℕ → Table → List ℕ → List ℕ → List ℕ → List ℕ → List ℕ
 partialWords t front rest tb list lm row marks =
-    let stay = restKept tb rest in
-    let from = innerEnd t front stay row in
-    headWords t (front ++ (stay ++ innerNames t front stay row)) ++ rewritten (planned (restPlan tb) list lm) (items (drop from row) (drop from marks))
+    let from = innerEnd t front (restKept tb rest) row in
+    partialHead t front rest tb row ++ rewritten (planned (restPlan tb) list lm) (items (drop from row) (drop from marks))
 
-abbrev pub partialRow : ℕ → List ℕ → List ℕ → Table → List ℕ → List ℕ → List ℕ → List ℕ → ℕ → Outcome
-partialRow t front rest tb list lm row marks room = emitted false Predicate (partialWords t front rest tb list lm row marks) room
+-- sure to be a form only under a head of at most 32 names
+abbrev pub partialRow : Bool → ℕ → List ℕ → List ℕ → Table → List ℕ → List ℕ → List ℕ → List ℕ → ℕ → Outcome
+partialRow sure t front rest tb list lm row marks room =
+    emitted (leb (length (partialHead t front rest tb row)) 34 && sure) Predicate (partialWords t front rest tb list lm row marks) room

@@ -6,7 +6,7 @@ use mathlib.Core.List.{List, [], _∷_, _++_}
 use Prim.Native.Nat.{ℕ, zero, suc, _+_, _-_, _/_, _≤_, _<_, max}
 use lib.Dec.{leb, ltb, eqb}
 use lib.ListN.{length, getD, take, drop, replicate}
-use Rattle.tree.specs.Form.{pick}
+use Rattle.tree.specs.Form.{pick, between}
 use Rattle.tree.specs.Tag.{expr, pred}
 use Rattle.form.specs.Decode.{decode, whole, Found, found, missing, asSort, formOf}
 use Rattle.form.specs.Answer.{Outcome, answer, needs, isOne}
@@ -197,6 +197,11 @@ keptWords (suc w ∷ ws) (n ∷ ns) = keptWords ws ns
 unfoldable pub headWords : ℕ → List ℕ → List ℕ
 headWords t [] = []
 headWords t (k ∷ ks) = t ∷ suc (length ks) ∷ k ∷ ks
+
+-- names of declarations
+abbrev pub areNames : List ℕ → Bool
+areNames [] = true
+areNames (n ∷ ns) = between 0 65535 n && areNames ns
 
 -- how many declarations a row has that begins with a quantifier; 0 for any other
 unfoldable pub declaredIn : List ℕ → ℕ

@@ -15,7 +15,7 @@ sub-n : tie.Need-sub-n
 sub-n c = search needs
 
 slice-aggregate-inner-end : tie.Need-slice-aggregate-inner-end
-slice-aggregate-inner-end c = sym (length-take-le _ _ (let w = c .before .before .before .before .before .before .before .pre .within in let h : c .before .before .before .before .before .before .before .args .p ≤ length (c .before .before .before .before .before .before .before .args .names .now) = omega arith in h))
+slice-aggregate-inner-end c = let b7 = c .before .before .before .before .before .before .before in sym (length-take-le _ _ (let w = b7 .pre .within in let h : b7 .args .p ≤ length (b7 .args .names .now) = omega arith in h))
 
 add-inner-end : tie.Need-add-inner-end
 add-inner-end c = search needs
@@ -98,6 +98,9 @@ one-table-requires c κs = search needs
 cast-fill-places : tie.Need-cast-fill-places
 cast-fill-places c = search needs
 
+is-sure-under-requires : tie.Need-is-sure-under-requires
+is-sure-under-requires c κs = search needs
+
 fill-places-requires : tie.Need-fill-places-requires
 fill-places-requires c κs = search needs
 
@@ -105,9 +108,7 @@ same-length : tie.Need-same-length
 same-length c = search needs
 
 returns : tie.Need-returns
-returns c =
-    let b4 = c .before .before .before .before in let b7 = b4 .before .before .before in let b10 = b7 .before .before .before in let b13 = b10 .before .before .before in let b22 = b13 .before .before .before .before .before .before .before .before .before in
-    passed _ _ _ _ _ (rest-put (b22 .args .names .now) (b22 .args .p) (b22 .pre .within) (b22 .pre .few) (b22 .args .part .now) (b22 .args .part-marks .now) (b22 .pre .marked) (b22 .args .tag) _ (b4 .one-table .result) (b4 .one-table .ensures) (b13 .inner-end .result) (b10 .inner-start .result) (b10 .inner-start .ensures) (b22 .args .body .now) _ _ (b13 .inner-end .ensures) (b7 .write-head .ensures .1)) (c .before .before .fill-places .ensures)
+returns c = let b5 = c .before .before .before .before .before in let b8 = b5 .before .before .before in let b11 = b8 .before .before .before in let b14 = b11 .before .before .before in let b23 = b14 .before .before .before .before .before .before .before .before .before in passed _ _ _ _ _ (rest-put (b23 .args .names .now) (b23 .args .p) (b23 .pre .within) (b23 .pre .few) (b23 .args .part .now) (b23 .args .part-marks .now) (b23 .pre .marked) _ _ (b23 .args .tag) _ (b8 .write-head .result) (length-take-le _ _ (built-fits (b8 .write-head .kept .1 .1 .1 .1 .0) refl (b8 .write-head .ensures .0))) (c .before .before .before .before .is-sure-under .ensures) (b5 .one-table .result) (b5 .one-table .ensures) (b14 .inner-end .result) (b11 .inner-start .result) (b11 .inner-start .ensures) (b23 .args .body .now) _ _ (b14 .inner-end .ensures) (b8 .write-head .ensures .1)) (c .before .before .fill-places .ensures)
 
 pub put-rest-spec : {M : Type 1} → statement M
 put-rest-spec =
@@ -138,6 +139,7 @@ put-rest-spec =
     slice-aggregate-fill-places
     one-table-requires
     cast-fill-places
+    is-sure-under-requires
     fill-places-requires
     same-length
     returns)

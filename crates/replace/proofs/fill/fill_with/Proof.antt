@@ -51,13 +51,13 @@ add-replace : tie.Need-add-replace
 add-replace c = search needs
 
 replace-requires : tie.Need-replace-requires
-replace-requires c κs = ready-gone _ _ _ _ (c .before .before .before .before .before .before .before .filled-from .ensures) (c .before .before .before .before .before .before .before .before .before .before .before .before .before .before .before .pre .0)
+replace-requires c κs = let b15 = c .before .before .before .before .before .before .before .before .before .before .before .before .before .before .before in ready-gone _ _ _ _ (c .before .before .before .before .before .before .before .filled-from .ensures) (b15 .pre .0)
 
 same-length : tie.Need-same-length
 same-length c = search needs
 
 returns : tie.Need-returns
-returns c = passed _ _ _ _ _ (filled-same _ _ _ _ _ _ _ _ _ _ (c .before .before .before .before .before .is-sure .ensures) (c .before .before .before .before .before .before .before .write-head .ensures .1) (c .before .before .before .before .before .before .before .before .before .before .filled-from .ensures)) (c .before .before .replace .ensures)
+returns c = let b10 = c .before .before .before .before .before .before .before .before .before .before in passed _ _ _ _ _ (filled-same _ _ _ _ _ _ _ _ _ _ (c .before .before .before .before .before .is-sure .ensures) (c .before .before .before .before .before .before .before .write-head .ensures .1) (b10 .filled-from .ensures)) (c .before .before .replace .ensures)
 
 pub fill-with-spec : {M : Type 1} → statement M
 fill-with-spec =

@@ -32,13 +32,13 @@ part-replace-end : tie.Need-part-replace-end
 part-replace-end c = search needs
 
 replace-requires : tie.Need-replace-requires
-replace-requires c κs = let h : Ready (freePlan (c .before .before .before .before .before .before .before .before .before .args .table)) (c .before .before .before .before .before .before .before .before .before .args .list .now) (take (length (c .before .before .before .before .before .before .before .before .before .args .work .now) - 8192) (drop 8192 (c .before .before .before .before .before .before .before .before .before .args .work .now))) = rw (rest-part (c .before .before .before .before .before .before .before .before .before .args .work .now) 8192) (c .before .before .before .before .before .before .before .before .before .pre .1) in h
+replace-requires c κs = let b9 = c .before .before .before .before .before .before .before .before .before in let h : Ready (freePlan (b9 .args .table)) (b9 .args .list .now) (take (length (b9 .args .work .now) - 8192) (drop 8192 (b9 .args .work .now))) = rw (rest-part (b9 .args .work .now) 8192) (b9 .pre .1) in h
 
 same-length : tie.Need-same-length
 same-length c = search needs
 
 returns : tie.Need-returns
-returns c = passed _ _ _ _ _ (same-replaced _ _ _ _ _ _ _ _ _ _ _ _ (c .before .before .before .before .before .before .before .is-sure .ensures) (c .before .before .before .before .before .before .kind-of .ensures) (rest-part (c .before .before .before .before .before .before .before .before .before .before .before .before .args .work .now) 8192)) (c .before .before .replace .ensures)
+returns c = let b12 = c .before .before .before .before .before .before .before .before .before .before .before .before in passed _ _ _ _ _ (same-replaced _ _ _ _ _ _ _ _ _ _ _ _ (c .before .before .before .before .before .before .before .is-sure .ensures) (c .before .before .before .before .before .before .kind-of .ensures) (rest-part (b12 .args .work .now) 8192)) (c .before .before .replace .ensures)
 
 pub substitute-marked-spec : {M : Type 1} → statement M
 substitute-marked-spec =

@@ -22,7 +22,7 @@ same-length : tie.Need-same-length
 same-length c = search needs
 
 returns : tie.Need-returns
-returns c = taken-shallow _ _ (c .before .before .before .before .before .before .before .before .before .before .before .pre .1) (sym (c .before .before .before .mark-shallow .ensures .0) ∙ c .if1 .taken) _ _ _ (c .before .before .before .before .before .before .before .before .before .before .before .pre .0) (c .before .before .before .before .before .before .before .clear .ensures) (c .before .before .before .mark-shallow .ensures .1)
+returns c = let b11 = c .before .before .before .before .before .before .before .before .before .before .before in taken-shallow _ _ (b11 .pre .1) (sym (c .before .before .before .mark-shallow .ensures .0) ∙ c .if1 .taken) _ _ _ (b11 .pre .0) (c .before .before .before .before .before .before .before .clear .ensures) (c .before .before .before .mark-shallow .ensures .1)
 
 clear-requires-2 : tie.Need-clear-requires-2
 clear-requires-2 c κs = search needs
@@ -40,13 +40,13 @@ same-length-2 : tie.Need-same-length-2
 same-length-2 c = search needs
 
 returns-2 : tie.Need-returns-2
-returns-2 c = (refused-row _ _ (c .before .before .before .before .before .before .before .before .before .before .before .before .before .before .before .before .before .before .before .before .before .pre .1) (sym (c .before .before .before .before .before .before .before .before .before .before .before .before .before .mark-shallow .ensures .0) ∙ c .before .before .before .before .before .before .before .before .before .before .if1 .left) _ _ (c .before .before .before .before .mark .ensures .0) (c .enum-told .given .1), marked-front _ _ _ _ _ (omega arith) (c .before .before .before .before .before .before .before .before .clear2 .ensures) (c .before .before .before .before .mark .ensures .1))
+returns-2 c = let b4 = c .before .before .before .before in let b8 = b4 .before .before .before .before in let b10 = b8 .before .before in let b13 = b10 .before .before .before in let b21 = b13 .before .before .before .before .before .before .before .before in (refused-row _ _ (b21 .pre .1) (sym (b13 .mark-shallow .ensures .0) ∙ b10 .if1 .left) _ _ (b4 .mark .ensures .0) (c .enum-told .given .1), marked-front _ _ _ _ _ (omega arith) (b8 .clear2 .ensures) (b4 .mark .ensures .1))
 
 same-length-3 : tie.Need-same-length-3
 same-length-3 c = search needs
 
 returns-3 : tie.Need-returns-3
-returns-3 c = (taken-deep _ _ (c .before .before .before .before .before .before .before .before .before .before .before .before .before .before .before .before .before .before .before .before .before .before .pre .1) (sym (c .before .before .before .before .before .before .before .before .before .before .before .before .before .before .mark-shallow .ensures .0) ∙ c .before .before .before .before .before .before .before .before .before .before .before .if1 .left) _ _ (c .before .before .before .before .before .mark .ensures .0) (c .before .n .given .1), marked-front _ _ _ _ _ (omega arith) (c .before .before .before .before .before .before .before .before .before .clear2 .ensures) (c .before .before .before .before .before .mark .ensures .1))
+returns-3 c = let b5 = c .before .before .before .before .before in let b9 = b5 .before .before .before .before in let b11 = b9 .before .before in let b14 = b11 .before .before .before in let b22 = b14 .before .before .before .before .before .before .before .before in (taken-deep _ _ (b22 .pre .1) (sym (b14 .mark-shallow .ensures .0) ∙ b11 .if1 .left) _ _ (b5 .mark .ensures .0) (c .before .n .given .1), marked-front _ _ _ _ _ (omega arith) (b9 .clear2 .ensures) (b5 .mark .ensures .1))
 
 pub mark-row-spec : {M : Type 1} → statement M
 mark-row-spec =

@@ -25,7 +25,7 @@ slice-aggregate-are-small-2 : tie.Need-slice-aggregate-are-small-2
 slice-aggregate-are-small-2 c = search needs
 
 are-small-requires : tie.Need-are-small-requires
-are-small-requires c κs = let a : length (c .before .before .before .before .before .before .before .args .table .starts) ≡ 32 = search needs in let b : length (c .before .before .before .before .before .before .before .args .table .ends) ≡ 32 = search needs in let h = c .before .before .before .before .if2 .left in let x : c .before .before .before .before .before .before .before .args .table .n ≤ length (c .before .before .before .before .before .before .before .args .table .starts) = omega arith in let y : c .before .before .before .before .before .before .before .args .table .n ≤ length (c .before .before .before .before .before .before .before .args .table .ends) = omega arith in (x, y)
+are-small-requires c κs = let b7 = c .before .before .before .before .before .before .before in let a : length (b7 .args .table .starts) ≡ 32 = search needs in let b : length (b7 .args .table .ends) ≡ 32 = search needs in let h = c .before .before .before .before .if2 .left in let x : b7 .args .table .n ≤ length (b7 .args .table .starts) = omega arith in let y : b7 .args .table .n ≤ length (b7 .args .table .ends) = omega arith in (x, y)
 
 returns-3 : tie.Need-returns-3
 returns-3 c = c .are-small .ensures ∙ sure-parts _ _ _ (not-no _ (c .before .before .before .before .before .before .if1 .left)) (c .before .before .before .before .before .if2 .left)
