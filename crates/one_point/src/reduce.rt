@@ -84,6 +84,10 @@ fn place_rest(
         let mut marks = [0u32; 512];
         return place_in(tag, names, target, part, part_marks, rest, &mut marks, out);
     }
+    if rest.len() <= 2048 {
+        let mut marks = [0u32; 2048];
+        return place_in(tag, names, target, part, part_marks, rest, &mut marks, out);
+    }
     let mut marks = [0u32; 16384];
     place_in(tag, names, target, part, part_marks, rest, &mut marks, out)
 }
