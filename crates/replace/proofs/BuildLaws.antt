@@ -117,6 +117,16 @@ short-not ws room {no} e z = go (leb (length ws) 8192) (leb (length ws) room) (s
     go true false q = ap refusal q
     go false c q = ap refusal q
 
+module _ (ws : List ℕ) where
+  pub short-many : (room : ℕ) → 8192 < length ws → shortWords ws room ≡ refusal 7
+  short-many room h = rw (lt-leb (length ws) 8192 h)
+
+  pub short-room : (room : ℕ) → length ws ≤ 8192 → room < length ws → shortWords ws room ≡ refusal 14
+  short-room room h l = rw (le-leb (length ws) 8192 h, lt-leb (length ws) room l)
+
+  pub short-done : (out out′ : List ℕ) → length ws ≤ 8192 → length ws ≤ length out → out′ ≡ store out 0 ws → (Done (length ws) ≡ told (shortWords ws (length out))) × (out′ ≡ written (shortWords ws (length out)) out)
+  short-done out out′ h l w = rw (le-leb (length ws) 8192 h, le-leb (length ws) (length out) l, w) (refl, stored out ws l)
+
 -- the head and the words after it
 pub built-fits : {n a b c : ℕ} → a ≡ b → b ≡ c → n ≤ c → n ≤ a
 built-fits p q h = omega arith
@@ -143,6 +153,11 @@ module _ (head : List ℕ) (p : Plan) (list lm row marks : List ℕ) (inside : I
     pub long-row : {no : ℕ} → no ≡ lengthRefusal (length head + sizes p (items row marks)) 8192 → (no ≡ 0 → ⊥) → replaced false kind head p list lm row marks room ≡ refusal 7
     unfolding replaced
     long-row e z = emit-long kind all room (rw replaced-length (refused-many (length head + sizes p (items row marks)) e z))
+
+  pub short-built : (room : ℕ) (work work′ : List ℕ) (n : ℕ) → work′ ≡ store work 0 all → n ≡ length head + sizes p (items row marks) → n ≤ length work → shortWords (take n work′) room ≡ shortWords all room
+  short-built room work work′ n e k h =
+      let l : length all ≡ n = replaced-length ∙ sym k in
+      rw (e, stored work all (rw l h), take-at all (drop (length all) work) n l)
 
   -- stored in the output row
   pub sure-not : (room : ℕ) {no : ℕ} → no ≡ lengthRefusal (length head + sizes p (items row marks)) room → (no ≡ 0 → ⊥) → shortWords all room ≡ refusal no

@@ -7,12 +7,6 @@ use Rattle.replace.proofs.PieceLaws.{capped-low, capped-high}
 use borrow.Author.Needs.{needs}
 use Rattle.replace.proofs.build.length_refusal.Statement.{statement}
 use Rattle.replace.proofs.build.length_refusal.Tie as tie
-use Rattle.replace.proofs.build.length_refusal.Reads as reads
-use Rattle.replace.proofs.build.length_refusal.Lts as lts
-use Rattle.replace.proofs.build.always_fit.Reads as always-fit-reads
-use Rattle.replace.proofs.pieces.longest_part.Reads as longest-part-reads
-use Rattle.replace.proofs.pieces.words_between.Reads as words-between-reads
-use Rattle.replace.proofs.pieces.words_needed.Reads as words-needed-reads
 
 longest-part-requires : tie.Need-longest-part-requires
 longest-part-requires c κs = search needs
@@ -20,11 +14,14 @@ longest-part-requires c κs = search needs
 words-between-requires : tie.Need-words-between-requires
 words-between-requires c κs = search needs
 
+smaller-requires : tie.Need-smaller-requires
+smaller-requires c κs = search needs
+
 always-fit-requires : tie.Need-always-fit-requires
-always-fit-requires c κs = rw (c .before .longest-part .ensures) (longest-two _ _ _)
+always-fit-requires c κs = rw (c .before .before .longest-part .ensures) (longest-two _ _ _)
 
 returns : tie.Need-returns
-returns c = always-short (planFor (c .before .before .before .before .before .before .before .before .before .args .rule) (c .before .before .before .before .before .before .before .before .before .args .words .now) (c .before .before .before .before .before .before .before .before .before .args .starts .now) (c .before .before .before .before .before .before .before .before .before .args .ends .now)) (c .before .before .before .before .before .before .before .before .before .args .row .now) (c .before .before .before .before .before .before .before .before .before .args .marks .now) (c .before .before .before .before .before .before .before .before .before .args .from) (c .before .before .before .before .before .before .before .before .before .args .head) (c .before .before .before .before .before .before .before .before .before .args .room) _ _ (c .before .before .words-between .ensures) (c .before .before .before .longest-part .ensures) (sym (c .before .always-fit .ensures) ∙ c .if1 .taken)
+returns c = always-short (planFor (c .before .before .before .before .before .before .before .before .before .before .args .rule) (c .before .before .before .before .before .before .before .before .before .before .args .words .now) (c .before .before .before .before .before .before .before .before .before .before .args .starts .now) (c .before .before .before .before .before .before .before .before .before .before .args .ends .now)) (c .before .before .before .before .before .before .before .before .before .before .args .row .now) (c .before .before .before .before .before .before .before .before .before .before .args .marks .now) (c .before .before .before .before .before .before .before .before .before .before .args .from) (c .before .before .before .before .before .before .before .before .before .before .args .head) (c .before .before .before .before .before .before .before .before .before .before .args .room) _ _ (c .before .before .before .words-between .ensures) (c .before .before .before .before .longest-part .ensures) (rw (c .before .before .smaller .ensures) at (sym (c .before .always-fit .ensures) ∙ c .if1 .taken))
 
 words-needed-requires : tie.Need-words-needed-requires
 words-needed-requires c κs = search needs
@@ -50,6 +47,7 @@ length-refusal-spec =
     (tie.spec
     longest-part-requires
     words-between-requires
+    smaller-requires
     always-fit-requires
     returns
     words-needed-requires

@@ -1,33 +1,44 @@
 -- `replace::build::replace_sure` meets its contract. Assumes nothing.
-use mathlib.Core.Path.{refl}
-use lib.ListN.{drop}
-use Rattle.subst.proofs.CheckedLaws.{refused}
+use mathlib.Core.Path.{sym, _∙_}
 use Rattle.replace.specs.Internal.Pieces.{planFor}
-use Rattle.replace.proofs.LengthLaws.{not-refused}
-use Rattle.replace.proofs.BuildLaws.{sure-not, sure-done}
+use Rattle.replace.proofs.LengthLaws.{work-short}
 use borrow.Author.Needs.{needs}
 use Rattle.replace.proofs.build.replace_sure.Statement.{statement}
 use Rattle.replace.proofs.build.replace_sure.Tie as tie
-use Rattle.replace.proofs.build.replace_sure.Reads as reads
-use Rattle.replace.proofs.build.replace_sure.Lts as lts
-use Rattle.replace.proofs.build.length_refusal.Reads as length-refusal-reads
-use Rattle.replace.proofs.build.write_words.Reads as write-words-reads
 
-length-refusal-requires : tie.Need-length-refusal-requires
-length-refusal-requires c κs = c .before .before .before .before .before .before .before .before .before .pre .tabled
+words-between-requires : tie.Need-words-between-requires
+words-between-requires c κs = search needs
 
-returns : tie.Need-returns
-returns c = refused _ _ _ _ (sure-not (c .before .before .before .before .before .before .before .before .before .before .before .args .head .now) (planFor (c .before .before .before .before .before .before .before .before .before .before .before .args .rule) (c .before .before .before .before .before .before .before .before .before .before .before .args .words .now) (c .before .before .before .before .before .before .before .before .before .before .before .args .starts .now) (c .before .before .before .before .before .before .before .before .before .before .before .args .ends .now)) (c .before .before .before .before .before .before .before .before .before .before .before .args .list .now) (c .before .before .before .before .before .before .before .before .before .before .before .args .list-marks .now) (drop (c .before .before .before .before .before .before .before .before .before .before .before .args .from) (c .before .before .before .before .before .before .before .before .before .before .before .args .row .now)) (drop (c .before .before .before .before .before .before .before .before .before .before .before .args .from) (c .before .before .before .before .before .before .before .before .before .before .before .args .marks .now)) (c .before .before .before .before .before .before .before .before .before .before .before .pre .in-row) _ (c .before .length-refusal .ensures) (c .if1 .taken)) refl
+fit-work-requires : tie.Need-fit-work-requires
+fit-work-requires c κs = search needs
 
-write-words-requires : tie.Need-write-words-requires
-write-words-requires c κs = (c .before .before .before .before .before .before .before .before .before .before .before .before .pre, not-refused _ _ (c .before .before .length-refusal .ensures) (c .before .if1 .left) .1)
+replace-built-requires : tie.Need-replace-built-requires
+replace-built-requires c κs = (c .before .before .before .before .before .before .before .before .before .before .before .before .before .pre, work-short (planFor (c .before .before .before .before .before .before .before .before .before .before .before .before .before .args .rule) (c .before .before .before .before .before .before .before .before .before .before .before .before .before .args .words .now) (c .before .before .before .before .before .before .before .before .before .before .before .before .before .args .starts .now) (c .before .before .before .before .before .before .before .before .before .before .before .before .before .args .ends .now)) (c .before .before .before .before .before .before .before .before .before .before .before .before .before .args .row .now) (c .before .before .before .before .before .before .before .before .before .before .before .before .before .args .marks .now) (c .before .before .before .before .before .before .before .before .before .before .before .before .before .args .from) _ _ _ (c .before .before .before .words-between .ensures) (sym (c .before .before .fit-work .ensures) ∙ c .before .if1 .taken))
 
 same-length : tie.Need-same-length
 same-length c = search needs
 
+returns : tie.Need-returns
+returns c = search needs
+
+replace-counted-requires : tie.Need-replace-counted-requires
+replace-counted-requires c κs = search needs
+
+same-length-2 : tie.Need-same-length-2
+same-length-2 c = search needs
+
 returns-2 : tie.Need-returns-2
-returns-2 c = sure-done (c .before .before .before .before .before .before .before .before .before .before .before .before .before .before .before .args .head .now) (planFor (c .before .before .before .before .before .before .before .before .before .before .before .before .before .before .before .args .rule) (c .before .before .before .before .before .before .before .before .before .before .before .before .before .before .before .args .words .now) (c .before .before .before .before .before .before .before .before .before .before .before .before .before .before .before .args .starts .now) (c .before .before .before .before .before .before .before .before .before .before .before .before .before .before .before .args .ends .now)) (c .before .before .before .before .before .before .before .before .before .before .before .before .before .before .before .args .list .now) (c .before .before .before .before .before .before .before .before .before .before .before .before .before .before .before .args .list-marks .now) (drop (c .before .before .before .before .before .before .before .before .before .before .before .before .before .before .before .args .from) (c .before .before .before .before .before .before .before .before .before .before .before .before .before .before .before .args .row .now)) (drop (c .before .before .before .before .before .before .before .before .before .before .before .before .before .before .before .args .from) (c .before .before .before .before .before .before .before .before .before .before .before .before .before .before .before .args .marks .now)) (c .before .before .before .before .before .before .before .before .before .before .before .before .before .before .before .pre .in-row) _ _ (c .before .before .before .before .before .length-refusal .ensures) (c .before .before .before .before .if1 .left) _ (c .before .before .write-words .ensures .0) (c .before .before .write-words .ensures .1)
+returns-2 c = search needs
 
 pub replace-sure-spec : {M : Type 1} → statement M
 replace-sure-spec =
-    tie.close (tie.spec length-refusal-requires returns write-words-requires same-length returns-2)
+    tie.close
+    (tie.spec
+    words-between-requires
+    fit-work-requires
+    replace-built-requires
+    same-length
+    returns
+    replace-counted-requires
+    same-length-2
+    returns-2)
