@@ -77,7 +77,7 @@ fn are_small(starts: &[usize], ends: &[usize], list: &[u32], n: usize) -> bool
     true
 }
 
-// Whether a form that is at most 52 deep, or may not be, is sure to stay one when the parts of the table are put into it.
+// Whether a form is sure to stay one when the parts of the table are put into it: it is at most 52 deep, and the parts are small.
 pub(crate) fn is_sure(shallow: bool, table: Table, list: &[u32]) -> bool
     ensures { λ r. ⌜ r ≡ isSure shallow table (now (list .entry)) ⌝ }
 {
