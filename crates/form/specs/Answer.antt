@@ -22,33 +22,27 @@ pub data Outcome : Type 0 where
 
 -- as the code answers it, and the output row afterwards: a refusal leaves it as it was, an answer the words past its length
 abbrev pub told : Outcome → Answer
-told (answer ws) = Done (length ws)
-told (refusal n) = No n
+told = elim [ answer ws ↦ Done (length ws) | refusal n ↦ No n ]
 
 abbrev pub written : Outcome → List ℕ → List ℕ
-written (answer ws) out = ws ++ drop (length ws) out
-written (refusal n) out = out
+written x out = elim x [ answer ws ↦ ws ++ drop (length ws) out | refusal n ↦ out ]
 
 -- document 01's number and length for each case of the code's answer
 abbrev pub number : Answer → ℕ
-number (Done n) = 0
-number (No k) = k
+number = elim [ Done n ↦ 0 | No k ↦ k ]
 
 abbrev pub lengthOf : Answer → ℕ
-lengthOf (Done n) = n
-lengthOf (No k) = 0
+lengthOf = elim [ Done n ↦ n | No k ↦ 0 ]
 
 -- a row's 1 and 2, then what follows
 abbrev pub within : List ℕ → Outcome → Outcome
 within row o = pick (leb (length row) 8192) o (refusal 1)
 
 abbrev pub ofFound : (Sort → Form → Outcome) → Found → Outcome
-ofFound go (found s f) = go s f
-ofFound go missing = refusal 2
+ofFound go = elim [ found s f ↦ go s f | missing ↦ refusal 2 ]
 
 abbrev pub ofList : (List Entry → Outcome) → Option (List Entry) → Outcome
-ofList go (some es) = go es
-ofList go absent = refusal 2
+ofList go = elim [ some es ↦ go es | absent ↦ refusal 2 ]
 
 abbrev pub withForm : Kind → List ℕ → (Sort → Form → Outcome) → Outcome
 withForm kind row go = within row (ofFound go (formOf kind row))
@@ -65,8 +59,7 @@ needs n b o = pick b o (refusal n)
 
 -- the result: 7 where its row is outside the limits, 14 where the output row is shorter
 abbrev pub isOne : Whole → Bool
-isOne (one f) = true
-isOne not-one = false
+isOne = elim [ one f ↦ true | not-one ↦ false ]
 
 unfoldable pub finish : Sort → ℕ → Form → Outcome
 finish s room g = needs 7 (isOne (rowForm s (encode g))) (needs 14 (leb (length (encode g)) room) (answer (encode g)))

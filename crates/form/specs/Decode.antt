@@ -15,16 +15,13 @@ pub data Head : Type 0 where
   bad : Head
 
 abbrev pub addWord : ℕ → Head → Head
-addWord w (head o ds p e r) = head (w ∷ o) ds p e r
-addWord w bad = bad
+addWord w = elim [ head o ds p e r ↦ head (w ∷ o) ds p e r | bad ↦ bad ]
 
 abbrev pub addName : ℕ → Head → Head
-addName w (head o ds p e r) = head o (w ∷ ds) p e r
-addName w bad = bad
+addName w = elim [ head o ds p e r ↦ head o (w ∷ ds) p e r | bad ↦ bad ]
 
 abbrev pub only : Bool → Head → Head
-only true h = h
-only false h = bad
+only x h = elim x [ true ↦ h | false ↦ bad ]
 
 abbrev pub names : ℕ → ℕ → ℕ → List ℕ → Head
 names zero p e ws = head [] [] p e ws
@@ -47,8 +44,7 @@ pub data Gots : Type 0 where
   no-forms : Gots
 
 abbrev pub first : List ℕ → ℕ
-first [] = 0
-first (w ∷ ws) = w
+first = elim [ [] ↦ 0 | w ∷ ws ↦ w ]
 
 abbrev pub leafAt : ℕ → ℕ → Leaf
 leafAt t n = pick (eqb t 1) (free n) (bound n)
@@ -63,24 +59,20 @@ abbrev pub make : ℕ → List ℕ → List ℕ → Forms → Form
 make t o ds ks = pick (isLeaf t) (leaf (leafAt t (first o))) (node t o ds ks)
 
 abbrev pub addForm : Form → Gots → Gots
-addForm f (gots fs r) = gots (more f fs) r
-addForm f no-forms = no-forms
+addForm f = elim [ gots fs r ↦ gots (more f fs) r | no-forms ↦ no-forms ]
 
 abbrev pub close : ℕ → List ℕ → List ℕ → Gots → Got
-close t o ds (gots ks r) = got (make t o ds ks) r
-close t o ds no-forms = no-form
+close t o ds = elim [ gots ks r ↦ got (make t o ds ks) r | no-forms ↦ no-form ]
 
 abbrev pub chain : Got → (List ℕ → Gots) → Gots
-chain (got f r) k = addForm f (k r)
-chain no-form k = no-forms
+chain x k = elim x [ got f r ↦ addForm f (k r) | no-form ↦ no-forms ]
 
 unfoldable pub decodeAll : (Sort → List ℕ → Got) → List Sort → List ℕ → Gots
 decodeAll rec [] ws = gots none ws
 decodeAll rec (s ∷ ss) ws = chain (rec s ws) (λ r. decodeAll rec ss r)
 
 abbrev pub branch : (Sort → List ℕ → Got) → ℕ → Head → Got
-branch rec t (head o ds p e r) = close t o ds (decodeAll rec (sorts p e) r)
-branch rec t bad = no-form
+branch rec t = elim [ head o ds p e r ↦ close t o ds (decodeAll rec (sorts p e) r) | bad ↦ no-form ]
 
 -- the form of the sort at the front of the row, at most so deep (a leaf is 1)
 unfoldable pub decode : ℕ → Sort → List ℕ → Got
@@ -107,12 +99,10 @@ pub data Found : Type 0 where
   missing : Found
 
 abbrev pub asSort : Sort → Whole → Found
-asSort s (one f) = found s f
-asSort s not-one = missing
+asSort s = elim [ one f ↦ found s f | not-one ↦ missing ]
 
 abbrev pub either : Found → Found → Found
-either (found s f) o = found s f
-either missing o = o
+either x o = elim x [ found s f ↦ found s f | missing ↦ o ]
 
 unfoldable pub formOf : Kind → List ℕ → Found
 formOf Expression row = asSort expr (rowForm expr row)

@@ -27,8 +27,7 @@ placeOf (entry w p) = p
 
 -- an entry at the front of the words, and the words after it
 abbrev pub withExpr : ℕ → Got → Option (Entry × List ℕ)
-withExpr w (got f r) = some (entry w (filled f), r)
-withExpr w no-form = absent
+withExpr w = elim [ got f r ↦ some (entry w (filled f), r) | no-form ↦ absent ]
 
 abbrev pub placeEntry : ℕ → List ℕ → Option (Entry × List ℕ)
 placeEntry zero ws = some (entry 0 kept, ws)
@@ -41,12 +40,10 @@ entryOf Pairs (w ∷ ws) = withExpr w (decode 64 expr ws)
 entryOf Places (w ∷ ws) = placeEntry w ws
 
 abbrev pub addEntry : Entry → Option (List Entry) → Option (List Entry)
-addEntry e (some es) = some (e ∷ es)
-addEntry e absent = absent
+addEntry e = elim [ some es ↦ some (e ∷ es) | absent ↦ absent ]
 
 abbrev pub andThen : Option (Entry × List ℕ) → (List ℕ → Option (List Entry)) → Option (List Entry)
-andThen (some x) k = addEntry (x .0) (k (x .1))
-andThen absent k = absent
+andThen x k = elim x [ some x ↦ addEntry (x .0) (k (x .1)) | absent ↦ absent ]
 
 -- entries one after another to the end of the words; an entry has a word, so the row's length bounds their number
 unfoldable pub entries : ListKind → ℕ → List ℕ → Option (List Entry)
@@ -60,8 +57,7 @@ listOf kind row = entries kind (length row) row
 
 -- the row of a list
 abbrev pub placeWords : Place → List ℕ
-placeWords kept = []
-placeWords (filled f) = encode f
+placeWords = elim [ kept ↦ [] | filled f ↦ encode f ]
 
 unfoldable pub entryWords : Entry → List ℕ
 entryWords (entry w p) = w ∷ placeWords p

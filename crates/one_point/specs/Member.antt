@@ -21,8 +21,7 @@ pub data Offers : Type 0 where
   offers : List Place → Forms → Offers
 
 abbrev pub isFree : Place → Bool
-isFree kept = true
-isFree (filled e) = false
+isFree = elim [ kept ↦ true | filled e ↦ false ]
 
 abbrev pub leave : Form → Offers → Offers
 leave f (offers ps fs) = offers ps (more f fs)
@@ -41,8 +40,7 @@ offerAll n (p ∷ rest) ps = offerNext n (equal (p .0) (p .1)) ps (accept n (p .
 
 -- guard and unaccepted parts joined, the guard first; the guard alone if there are none
 abbrev pub withGuard : Form → Forms → Form
-withGuard g none = g
-withGuard g (more f fs) = node 351 (count (more g (more f fs)) ∷ []) [] (more g (more f fs))
+withGuard g = elim [ none ↦ g | more f fs ↦ node 351 (count (more g (more f fs)) ∷ []) [] (more g (more f fs)) ]
 
 abbrev pub anyFilled : List Place → Bool
 anyFilled ps = not (eqb (front ps) (length ps))

@@ -22,8 +22,7 @@ front (kept ∷ ps) = suc (front ps)
 front (filled e ∷ ps) = 0
 
 abbrev pub lowerPlace : ℕ → Place → Place
-lowerPlace n kept = kept
-lowerPlace n (filled e) = filled (lower n e)
+lowerPlace n = elim [ kept ↦ kept | filled e ↦ filled (lower n e) ]
 
 -- round a quantified predicate with the same operator the declarations join into one quantifier
 abbrev pub joinWith : ℕ → List ℕ → Form → Quantified → Form
@@ -31,8 +30,7 @@ joinWith t ns g other = quantify t ns g
 joinWith t ns g (quantifier u ds f) = pick (eqb u t) (quantify t (ns ++ ds) f) (quantify t ns g)
 
 unfoldable pub putRound : ℕ → List ℕ → Form → Form
-putRound t [] g = g
-putRound t (n ∷ ns) g = joinWith t (n ∷ ns) g (quantified g)
+putRound t x g = elim x [ [] ↦ g | n ∷ ns ↦ joinWith t (n ∷ ns) g (quantified g) ]
 
 unfoldable pub instantiatePartial : ℕ → List ℕ → List Place → Form → Form
 instantiatePartial t ns ps f =

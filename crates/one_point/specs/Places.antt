@@ -22,12 +22,10 @@ newOf n = pick (leb n 32) (says (emptyFor n) 0) (says (emptyFor 0) 5)
 
 -- where a side of the equality l = r stands in its row
 abbrev pub startOf : Form → Side → ℕ
-startOf l left = 1
-startOf l right = 1 + length (encode l)
+startOf l = elim [ left ↦ 1 | right ↦ 1 + length (encode l) ]
 
 abbrev pub endOf : Form → Form → Side → ℕ
-endOf l r left = 1 + length (encode l)
-endOf l r right = 1 + length (encode l) + length (encode r)
+endOf l r = elim [ left ↦ 1 + length (encode l) | right ↦ 1 + length (encode l) + length (encode r) ]
 
 -- declaration j of n is index n - 1 - j, so the target i has place n - 1 - i
 abbrev pub place : Replacements → ℕ → ℕ
@@ -50,8 +48,7 @@ offerForm p (node t o ds (more l (more r none))) = pick (eqb t 101) (offerSides 
 offerForm p (node t o ds (more l (more r (more f fs)))) = says p 10
 
 abbrev pub offerFound : Replacements → Found → Offered
-offerFound p (found s f) = pick (leb (p .n) 32) (offerForm p f) (says p 5)
-offerFound p missing = says p 2
+offerFound p = elim [ found s f ↦ pick (leb (p .n) 32) (offerForm p f) (says p 5) | missing ↦ says p 2 ]
 
 -- in order 1, 2, 5, 10, 11, 12, 13
 unfoldable pub offerAnswer : Replacements → List ℕ → Offered

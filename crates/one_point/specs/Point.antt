@@ -31,16 +31,14 @@ reduce t ns (scanned (taken i e) g) =
 
 -- the reduced form, if an equality is taken
 abbrev pub reduceQuantified : Quantified → Option Form
-reduceQuantified (quantifier t ns f) = reduce t ns (scan (length ns) (polarity t) f)
-reduceQuantified other = absent
+reduceQuantified = elim [ quantifier t ns f ↦ reduce t ns (scan (length ns) (polarity t) f) | other ↦ absent ]
 
 unfoldable pub onePoint : Form → Option Form
 onePoint f = reduceQuantified (quantified f)
 
 -- 9 where there is nothing to rewrite
 abbrev pub ofResult : ℕ → Option Form → Outcome
-ofResult room (some g) = finish pred room g
-ofResult room absent = refusal 9
+ofResult room = elim [ some g ↦ finish pred room g | absent ↦ refusal 9 ]
 
 unfoldable pub pointOutcome : List ℕ → ℕ → ℕ → Outcome
 pointOutcome row work room = withWork work (withForm Predicate row (λ s f. ofResult room (onePoint f)))

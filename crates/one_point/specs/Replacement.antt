@@ -11,8 +11,7 @@ pub data Side : Type 0 where
   left right : Side
 
 abbrev pub sideOf : Form → Form → Side → Form
-sideOf l r left = l
-sideOf l r right = r
+sideOf l r = elim [ left ↦ l | right ↦ r ]
 
 -- the target's index, and the side that replaces it
 pub data Offer : Type 0 where
@@ -47,8 +46,7 @@ abbrev pub allowed : ℕ → ℕ → Form → Taken
 allowed n i e = pick (ltb i n) (pick (above i e) (taken i e) nothing) nothing
 
 abbrev pub ofOffer : ℕ → Form → Form → Offer → Taken
-ofOffer n l r (offer i s) = allowed n i (sideOf l r s)
-ofOffer n l r no-offer = nothing
+ofOffer n l r = elim [ offer i s ↦ allowed n i (sideOf l r s) | no-offer ↦ nothing ]
 
 -- accepted for n declarations with all places free
 unfoldable pub accept : ℕ → Form → Form → Taken

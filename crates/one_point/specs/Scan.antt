@@ -41,16 +41,13 @@ implies (some l) absent = some (negate l)
 implies (some l) (some r) = some (node 251 [] [] (more l (more r none)))
 
 abbrev pub firstOf : List (Option Form) → Option Form
-firstOf [] = absent
-firstOf (g ∷ gs) = g
+firstOf = elim [ [] ↦ absent | g ∷ gs ↦ g ]
 
 abbrev pub implied : List (Option Form) → Option Form
-implied [] = absent
-implied (l ∷ gs) = implies l (firstOf gs)
+implied = elim [ [] ↦ absent | l ∷ gs ↦ implies l (firstOf gs) ]
 
 abbrev pub negated : Option Form → Option Form
-negated absent = absent
-negated (some f) = some (negate f)
+negated = elim [ absent ↦ absent | some f ↦ some (negate f) ]
 
 -- what the scan does at a node: under true it enters 351 and takes 101, under false it enters 352 and 251; 8 turns it round
 pub data Role : Type 0 where
@@ -73,11 +70,7 @@ abbrev pub role : ℕ → List ℕ → Forms → Bool → Role
 role t ds ks b = pick (isNil ds && suits (roleOf t b) ks) (roleOf t b) other
 
 abbrev pub firstPolarity : Role → Bool → Bool
-firstPolarity junction b = b
-firstPolarity implication b = not b
-firstPolarity negation b = not b
-firstPolarity equality b = b
-firstPolarity other b = b
+firstPolarity x b = elim x [ junction ↦ b | implication ↦ not b | negation ↦ not b | equality ↦ b | other ↦ b ]
 
 -- the parts of an equality, offered in order
 abbrev pub copied : List (Form × Form) → List (Option Form)

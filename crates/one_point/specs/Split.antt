@@ -12,8 +12,7 @@ isTwo (more l (more r none)) = true
 isTwo (more l (more r (more f fs))) = false
 
 abbrev pub isNil : List ℕ → Bool
-isNil [] = true
-isNil (d ∷ ds) = false
+isNil = elim [ [] ↦ true | d ∷ ds ↦ false ]
 
 abbrev pub isPair : ℕ → List ℕ → Forms → Bool
 isPair t ds ks = eqb t 201 && (isNil ds && isTwo ks)

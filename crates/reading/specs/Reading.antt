@@ -21,8 +21,7 @@ pub record Reading : Type 0 where
   pub predicate : ℕ → List ℕ → List ℕ → List ℤ → Bool
 
 abbrev pub bit : Bool → ℤ
-bit true = pos 1
-bit false = pos 0
+bit = elim [ true ↦ pos 1 | false ↦ pos 0 ]
 
 abbrev pub truth : ℤ → Bool
 truth (pos zero) = false
@@ -65,12 +64,10 @@ meaning t =
     (pick (between 7 11 t || between 101 112 t) other-predicate other-expression) t
 
 abbrev pub first : List ℤ → ℤ
-first [] = pos 0
-first (v ∷ vs) = v
+first = elim [ [] ↦ pos 0 | v ∷ vs ↦ v ]
 
 abbrev pub second : List ℤ → ℤ
-second [] = pos 0
-second (v ∷ vs) = first vs
+second = elim [ [] ↦ pos 0 | v ∷ vs ↦ first vs ]
 
 abbrev pub every : List Bool → Bool
 every [] = true
@@ -82,8 +79,7 @@ some (b ∷ bs) = b || some bs
 
 -- the children's values where nothing is declared: of the one empty choice
 abbrev pub only : List (List ℤ) → List ℤ
-only [] = []
-only (vs ∷ vss) = vs
+only = elim [ [] ↦ [] | vs ∷ vss ↦ vs ]
 
 abbrev pub truths : List ℤ → List Bool
 truths vs = map truth vs
@@ -116,8 +112,7 @@ abbrev pub Env : Type 0
 Env = ℕ → ℤ
 
 abbrev pub cons : ℤ → Env → Env
-cons v ρ zero = v
-cons v ρ (suc i) = ρ i
+cons v ρ = elim [ zero ↦ v | suc i ↦ ρ i ]
 
 abbrev pub flat : {A : Type 0} → (ℤ → List A) → List ℤ → List A
 flat g [] = []

@@ -25,8 +25,7 @@ quantified (node t o ds (more f (more g gs))) = other
 
 -- put round a body; with no declaration, the body alone
 abbrev pub quantify : ℕ → List ℕ → Form → Form
-quantify t [] f = f
-quantify t (n ∷ ns) f = node t (suc (length ns) ∷ []) (n ∷ ns) (more f none)
+quantify t x f = elim x [ [] ↦ f | n ∷ ns ↦ node t (suc (length ns) ∷ []) (n ∷ ns) (more f none) ]
 
 abbrev pub keptCount : List Place → ℕ
 keptCount [] = 0
@@ -48,15 +47,13 @@ fillIndex m c (kept ∷ ps) (suc j) = fillIndex m (suc c) ps j
 fillIndex m c (filled e ∷ ps) (suc j) = fillIndex m c ps j
 
 abbrev pub fillFor : List Place → Outer → Form
-fillFor ps (named n) = leaf (free n)
-fillFor ps (dangling j) = fillIndex (keptCount ps) 0 (reverse ps) j
+fillFor ps = elim [ named n ↦ leaf (free n) | dangling j ↦ fillIndex (keptCount ps) 0 (reverse ps) j ]
 
 unfoldable pub fill : ℕ → List ℕ → List Place → Form → Form
 fill t ns ps f = quantify t (keptNames ps ns) (subst (fillFor ps) f)
 
 abbrev pub ofQuantified : (ℕ → List ℕ → Form → Outcome) → ℕ → Quantified → Outcome
-ofQuantified go n (quantifier t ns f) = go t ns f
-ofQuantified go n other = refusal n
+ofQuantified go n = elim [ quantifier t ns f ↦ go t ns f | other ↦ refusal n ]
 
 unfoldable pub fillOutcome : List ℕ → List ℕ → ℕ → ℕ → Outcome
 fillOutcome list row work room =

@@ -10,8 +10,7 @@ use Rattle.form.specs.declared.lists.ListKind.the-variants.{Pairs}
 use Rattle.subst.specs.Walk.{Outer, named, dangling, subst}
 
 abbrev pub orName : ℕ → Place → Form
-orName m kept = leaf (free m)
-orName m (filled e) = e
+orName m = elim [ kept ↦ leaf (free m) | filled e ↦ e ]
 
 -- the list is searched from its front
 abbrev pub seek : List Entry → ℕ → Form
@@ -19,8 +18,7 @@ seek [] m = leaf (free m)
 seek (entry n p ∷ es) m = pick (eqb n m) (orName m p) (seek es m)
 
 abbrev pub freeFor : List Entry → Outer → Form
-freeFor es (named m) = seek es m
-freeFor es (dangling j) = leaf (bound j)
+freeFor es = elim [ named m ↦ seek es m | dangling j ↦ leaf (bound j) ]
 
 unfoldable pub substitute : List Entry → Form → Form
 substitute es f = subst (freeFor es) f

@@ -13,8 +13,7 @@ use Rattle.subst.specs.Walk.{Outer, named, dangling, each}
 use Rattle.replace.specs.Fill.{keptCount, fill, ofQuantified, quantified}
 
 abbrev pub isNot : ℕ → ℕ → Outer → Bool
-isNot i k (named m) = true
-isNot i k (dangling j) = not (eqb i j)
+isNot i k = elim [ named m ↦ true | dangling j ↦ not (eqb i j) ]
 
 abbrev pub unused : ℕ → Form → Bool
 unused i f = each (isNot i) 0 f

@@ -14,8 +14,7 @@ bindName [] m = leaf (free m)
 bindName (n ∷ ns) m = pick (eqb n m) (leaf (bound (length ns))) (bindName ns m)
 
 abbrev pub bindFor : List ℕ → Outer → Form
-bindFor ns (named m) = bindName ns m
-bindFor ns (dangling j) = leaf (bound (length ns + j))
+bindFor ns = elim [ named m ↦ bindName ns m | dangling j ↦ leaf (bound (length ns + j)) ]
 
 unfoldable pub bind : List ℕ → Form → Form
 bind ns f = subst (bindFor ns) f

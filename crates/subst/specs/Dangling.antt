@@ -10,8 +10,7 @@ use Rattle.form.specs.declared.answer.Kind.the-variants.{Either}
 use Rattle.subst.specs.Walk.{Outer, named, dangling, collect, each}
 
 abbrev pub indexOf : ℕ → Outer → List ℕ
-indexOf k (named m) = []
-indexOf k (dangling j) = j ∷ []
+indexOf k = elim [ named m ↦ [] | dangling j ↦ j ∷ [] ]
 
 abbrev pub insert : ℕ → List ℕ → List ℕ
 insert i [] = i ∷ []
@@ -26,8 +25,7 @@ danglingSet f = insertAll [] (collect [] _++_ indexOf 0 f)
 
 -- nothing dangles
 abbrev pub isNamed : ℕ → Outer → Bool
-isNamed k (named m) = true
-isNamed k (dangling j) = false
+isNamed k = elim [ named m ↦ true | dangling j ↦ false ]
 
 unfoldable pub closed : Form → Bool
 closed f = each isNamed 0 f

@@ -18,8 +18,7 @@ pub data Part : Type 0 where
   empty : Part
 
 abbrev pub ofCopy : Outcome → Part
-ofCopy (answer ws) = copy ws
-ofCopy (refusal n) = empty
+ofCopy = elim [ answer ws ↦ copy ws | refusal n ↦ empty ]
 
 abbrev pub liftFound : ℕ → ℕ → Found → Part
 liftFound depth room (found s f) = let c = ofCopy (finish s room (lift depth f)) in pick (eqb depth 0 || closed f) base c
@@ -30,18 +29,12 @@ unfoldable pub liftPart : List ℕ → ℕ → ℕ → Part
 liftPart row depth work = pick (leb (length row) 8192) (liftFound depth work (formOf Either row)) empty
 
 abbrev pub partWords : List ℕ → Part → List ℕ
-partWords row base = row
-partWords row (copy ws) = ws
-partWords row empty = []
+partWords row = elim [ base ↦ row | copy ws ↦ ws | empty ↦ [] ]
 
 -- where the part starts, given where the base and the work row do
 abbrev pub partAt : ℕ × ℕ → ℕ × ℕ → Part → ℕ × ℕ
-partAt row work base = row
-partAt row work (copy ws) = work
-partAt row work empty = row
+partAt row work = elim [ base ↦ row | copy ws ↦ work | empty ↦ row ]
 
 -- the work row afterwards, where it is told: a copy stands at its start
 abbrev pub workAfter : Part → List ℕ → List ℕ
-workAfter base work = work
-workAfter (copy ws) work = ws ++ drop (length ws) work
-workAfter empty work = work
+workAfter x work = elim x [ base ↦ work | copy ws ↦ ws ++ drop (length ws) work | empty ↦ work ]

@@ -12,12 +12,10 @@ use Rattle.subst.specs.Walk.{Outer, named, dangling, lift, subst, each}
 
 -- by n down: every dangling index is at least n
 abbrev pub reaches : ℕ → ℕ → Outer → Bool
-reaches n k (named m) = true
-reaches n k (dangling j) = leb n j
+reaches n k = elim [ named m ↦ true | dangling j ↦ leb n j ]
 
 abbrev pub fall : ℕ → Outer → Form
-fall n (named m) = leaf (free m)
-fall n (dangling j) = leaf (bound (j - n))
+fall n = elim [ named m ↦ leaf (free m) | dangling j ↦ leaf (bound (j - n)) ]
 
 abbrev pub lower : ℕ → Form → Form
 lower n f = subst (fall n) f
@@ -31,8 +29,7 @@ shift (pos n) f = shifted (lift n f)
 shift (negsuc n) f = pick (each (reaches (suc n)) 0 f) (shifted (lower (suc n) f)) captured
 
 abbrev pub ofShifted : Sort → ℕ → Shifted → Outcome
-ofShifted s room (shifted g) = finish s room g
-ofShifted s room captured = refusal 6
+ofShifted s room = elim [ shifted g ↦ finish s room g | captured ↦ refusal 6 ]
 
 unfoldable pub shiftOutcome : List ℕ → ℤ → ℕ → Outcome
 shiftOutcome row offset room = withForm Either row (λ s f. ofShifted s room (shift offset f))

@@ -20,12 +20,10 @@ pub data Outer : Type 0 where
   dangling : ℕ → Outer
 
 abbrev pub walkIndex : (ℕ → Outer → Form) → ℕ → ℕ → Binding → Form
-walkIndex act k i inside = leaf (bound i)
-walkIndex act k i (outside j) = act k (dangling j)
+walkIndex act k i = elim [ inside ↦ leaf (bound i) | outside j ↦ act k (dangling j) ]
 
 abbrev pub walkLeaf : (ℕ → Outer → Form) → ℕ → Leaf → Form
-walkLeaf act k (free n) = act k (named n)
-walkLeaf act k (bound i) = walkIndex act k i (binding k i)
+walkLeaf act k = elim [ free n ↦ act k (named n) | bound i ↦ walkIndex act k i (binding k i) ]
 
 unfoldable mutual
   pub walk : (ℕ → Outer → Form) → ℕ → Form → Form
@@ -38,8 +36,7 @@ unfoldable mutual
 
 -- shifted up by n; a substitution, each replacement lifted by the depth at which it comes to stand
 abbrev pub up : ℕ → ℕ → Outer → Form
-up n k (named m) = leaf (free m)
-up n k (dangling j) = leaf (bound (k + (j + n)))
+up n k = elim [ named m ↦ leaf (free m) | dangling j ↦ leaf (bound (k + (j + n))) ]
 
 abbrev pub lift : ℕ → Form → Form
 lift n f = walk (up n) 0 f
@@ -52,12 +49,10 @@ subst σ f = walk (put σ) 0 f
 
 -- what p says of each outer identifier at its depth, in row order, put together
 abbrev pub collectIndex : {A : Type 0} → A → (ℕ → Outer → A) → ℕ → Binding → A
-collectIndex e p k inside = e
-collectIndex e p k (outside j) = p k (dangling j)
+collectIndex e p k = elim [ inside ↦ e | outside j ↦ p k (dangling j) ]
 
 abbrev pub collectLeaf : {A : Type 0} → A → (ℕ → Outer → A) → ℕ → Leaf → A
-collectLeaf e p k (free n) = p k (named n)
-collectLeaf e p k (bound i) = collectIndex e p k (binding k i)
+collectLeaf e p k = elim [ free n ↦ p k (named n) | bound i ↦ collectIndex e p k (binding k i) ]
 
 unfoldable mutual
   pub collect : {A : Type 0} → A → (A → A → A) → (ℕ → Outer → A) → ℕ → Form → A

@@ -19,8 +19,7 @@ mutual
     more : Form → Forms → Forms
 
 abbrev pub leafWords : Leaf → List ℕ
-leafWords (free n) = 1 ∷ n ∷ []
-leafWords (bound i) = 2 ∷ i ∷ []
+leafWords = elim [ free n ↦ 1 ∷ n ∷ [] | bound i ↦ 2 ∷ i ∷ [] ]
 
 -- the row of a form: prefix order
 unfoldable mutual
@@ -37,8 +36,7 @@ count none = 0
 count (more f fs) = suc (count fs)
 
 abbrev pub pick {ℓ} : {A : Type ℓ} → Bool → A → A → A
-pick true a b = a
-pick false a b = b
+pick x a b = elim x [ true ↦ a | false ↦ b ]
 
 abbrev pub between : ℕ → ℕ → ℕ → Bool
 between lo hi w = leb lo w && leb w hi

@@ -78,8 +78,7 @@ predTags =
     ∷ []
 
 unfoldable pub shapeOf : Sort → ℕ → Shape
-shapeOf expr t = find exprTags t
-shapeOf pred t = find predTags t
+shapeOf x t = elim x [ expr ↦ find exprTags t | pred ↦ find predTags t ]
 
 unfoldable pub own : Sort → ℕ → Own
 own s t = ownOf (shapeOf s t)
