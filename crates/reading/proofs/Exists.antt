@@ -1,7 +1,7 @@
 -- Quantifiers by one question: is there a choice from the ranges? Both operators are this question, as it stands (852) or turned round (851),
 -- and putting declarations round a form asks it of them all. Assumes nothing.
 use mathlib.Core.Path.{_≡_, refl, ap, _∙_, sym, fun-ext}
-use mathlib.Core.List.{List, [], _∷_, _++_, map, map-append}
+use mathlib.Core.List.{List, [], _∷_, _++_, map, flatMap, map-append}
 use mathlib.Core.Bool.{Bool, true, false, not, _&&_, _||_, or-assoc, or-false, and-false, and-true, and-assoc, Bool·not-not}
 use Prim.Native.Nat.{ℕ, suc, _+_}
 use native.Mathlib.Nat.{zero-add}
@@ -14,7 +14,7 @@ use Rattle.tree.specs.Form.{Form, leaf, node, none, more, pick}
 use Rattle.form.proofs.DecodeLaws.{clash}
 use Rattle.replace.specs.Fill.{Quantified, quantifier, other, quantified, quantify}
 use Rattle.one_point.specs.Partial.{joinWith, putRound}
-use Rattle.reading.specs.Reading.{Reading, truth, same, meaning, valueOf, first, every, some, Env, cons, flat, over, value}
+use Rattle.reading.specs.Reading.{Reading, truth, same, child, valueOf, every, some, Env, cons, over, value}
 use Rattle.reading.specs.Premise.{has, push}
 use Rattle.reading.proofs.Same.{truth-bit, same-equal}
 
@@ -32,7 +32,8 @@ some-append : (a b : List Bool) → some (a ++ b) ≡ (some a || some b)
 some-append [] b = refl
 some-append (v ∷ a) b = rw (some-append a b, or-assoc)
 
-some-flat : (h : ℤ → List Bool) (k : ℤ → Bool) → ((v : ℤ) → some (h v) ≡ k v) → (vs : List ℤ) → some (flat h vs) ≡ exIn vs k
+some-flat : (h : ℤ → List Bool) (k : ℤ → Bool) → ((v : ℤ) → some (h v) ≡ k v) → (vs : List ℤ) → some (flatMap h vs) ≡ exIn vs k
+unfolding flatMap
 some-flat h k e [] = refl
 some-flat h k e (v ∷ vs) = rw (some-append, e v, some-flat h k e vs)
 
@@ -48,7 +49,8 @@ not-or : (a b : Bool) → (not a && not b) ≡ not (a || b)
 not-or true b = refl
 not-or false b = refl
 
-every-flat : (h : ℤ → List Bool) (k : ℤ → Bool) → ((v : ℤ) → every (h v) ≡ not (k v)) → (vs : List ℤ) → every (flat h vs) ≡ not (exIn vs k)
+every-flat : (h : ℤ → List Bool) (k : ℤ → Bool) → ((v : ℤ) → every (h v) ≡ not (k v)) → (vs : List ℤ) → every (flatMap h vs) ≡ not (exIn vs k)
+unfolding flatMap
 every-flat h k e [] = refl
 every-flat h k e (v ∷ vs) = rw (every-append, e v, every-flat h k e vs) (not-or (k v) (exIn vs k))
 
@@ -59,9 +61,10 @@ every-over r g (d ∷ ds) ρ =
 
 -- what is computed from each choice may be computed under it
 map-flat : {A B : Type 0} (f : A → B) (h : ℤ → List A) (k : ℤ → List B) → ((v : ℤ) → map f (h v) ≡ k v) → (vs : List ℤ)
-    → map f (flat h vs) ≡ flat k vs
+    → map f (flatMap h vs) ≡ flatMap k vs
+unfolding flatMap
 map-flat f h k e [] = refl
-map-flat f h k e (v ∷ vs) = map-append f (h v) (flat h vs) ∙ rw (e v, map-flat f h k e vs)
+map-flat f h k e (v ∷ vs) = map-append f (h v) (flatMap h vs) ∙ rw (e v, map-flat f h k e vs)
 
 map-over : {A B : Type 0} (f : A → B) (r : ℕ → List ℤ) (g : Env → A) (ds : List ℕ) (ρ : Env) → map f (over r ds ρ g) ≡ over r ds ρ (λ η. f (g η))
 map-over f r g [] ρ = refl
@@ -152,13 +155,13 @@ asks b R ρ ns g = turn b (exOver (R .range) ns ρ (λ θ. turn b (g θ)))
 
 pub node-truth : (b : Bool) (R : Reading) (ρ : Env) (o ns : List ℕ) (f : Form)
     → truth (value R ρ (node (tagOf b) o ns (more f none))) ≡ asks b R ρ ns (λ θ. truth (value R θ f))
-unfolding value valueOf meaning
+unfolding value valueOf
 node-truth true R ρ o ns f =
     truth-bit _
-    ∙ ap some (map-over (λ vs. truth (first vs)) (R .range) (λ η. value R η f ∷ []) ns ρ) ∙ some-over (R .range) (λ η. truth (value R η f)) ns ρ
+    ∙ ap some (map-over (λ vs. truth (child 0 vs)) (R .range) (λ η. value R η f ∷ []) ns ρ) ∙ some-over (R .range) (λ η. truth (value R η f)) ns ρ
 node-truth false R ρ o ns f =
     truth-bit _
-    ∙ ap every (map-over (λ vs. truth (first vs)) (R .range) (λ η. value R η f ∷ []) ns ρ) ∙ every-over (R .range) (λ η. truth (value R η f)) ns ρ
+    ∙ ap every (map-over (λ vs. truth (child 0 vs)) (R .range) (λ η. value R η f ∷ []) ns ρ) ∙ every-over (R .range) (λ η. truth (value R η f)) ns ρ
 
 pub quantify-truth : (b : Bool) (R : Reading) (ρ : Env) (ns : List ℕ) (f : Form)
     → truth (value R ρ (quantify (tagOf b) ns f)) ≡ asks b R ρ ns (λ θ. truth (value R θ f))

@@ -9,20 +9,14 @@ use lib.IntN.{ℤ}
 use Rattle.tree.specs.Form.{Form, leaf, node, Forms, none, more, pick}
 use Rattle.one_point.specs.Split.{isTwo, isNil, isPair, parts, partsAll}
 use Rattle.subst.proofs.WalkLaws.{and-left, and-right}
-use Rattle.reading.specs.Reading.{Reading, truth, same, Meaning, equality, meaning, valueOf, Env, value, values}
+use Rattle.reading.specs.Reading.{Reading, truth, same, valueOf, Env, value, values}
 use Rattle.reading.proofs.Same.{truth-bit, not-true, same-refl, same-equal, different}
 
 module _ (R : Reading) (θ : Env) where
-  -- a node that declares nothing
-  pub node-value : (t : ℕ) (o : List ℕ) (ks : Forms) (m : Meaning) → meaning t ≡ m
-      → value R θ (node t o [] ks) ≡ valueOf R m t o [] (values R θ ks ∷ [])
-  unfolding value
-  node-value t o ks m q = rw q
-
-  pub equal-value : (t : ℕ) (o : List ℕ) (l r : Form) → meaning t ≡ equality
+  pub equal-value : (t : ℕ) (o : List ℕ) (l r : Form) → t ≡ 101
       → truth (value R θ (node t o [] (more l (more r none)))) ≡ same (value R θ l) (value R θ r)
   unfolding valueOf value
-  equal-value t o l r q = rw (node-value t o (more l (more r none)) equality q, truth-bit)
+  equal-value t o l r q = rw q (truth-bit (same (value R θ l) (value R θ r)))
 
   -- all equalities of a list hold
   abbrev pub allSame : List (Form × Form) → Bool
@@ -51,7 +45,7 @@ module _ (R : Reading) (θ : Env) where
 
   pair-value : (t : ℕ) (o : List ℕ) (l r : Form) → eqb t 201 ≡ true
       → value R θ (node t o [] (more l (more r none))) ≡ R .pair (value R θ l) (value R θ r)
-  unfolding value valueOf meaning
+  unfolding value valueOf
   pair-value t o l r q =
       let z : t ≡ 201 = eqb-true t 201 q in
       rw z

@@ -21,8 +21,8 @@ use Rattle.one_point.specs.Scan.{Scan, scanned, scan}
 use Rattle.one_point.specs.Partial.{noPlaces, setPlace, putRound, instantiatePartial}
 use Rattle.one_point.specs.Point.{polarity, restOf, reduce, reduceQuantified, onePoint}
 use Rattle.one_point.proofs.PartialLaws.{front-is, rest-is}
-use Rattle.reading.specs.Reading.{Reading, truth, same, meaning, valueOf, Env, value, holds}
-use Rattle.reading.specs.Premise.{has, readInBody, inRange, takenIn, premiseOf, premise}
+use Rattle.reading.specs.Reading.{Reading, truth, same, valueOf, Env, value, holds}
+use Rattle.reading.specs.Premise.{has, readInBody, inRange, premiseOf, premise}
 use Rattle.reading.proofs.Exists.{exOver, every-over, tagOf, quantified-node}
 use Rattle.reading.proofs.ScanLaws.{tied, Good, leftTruth}
 use Rattle.reading.proofs.ScanTruth.{scan-tied}
@@ -51,7 +51,7 @@ module _ (t : ℕ) (ns : List ℕ) (i : ℕ) (e f : Form) (lt : i < length ns) w
       (ap (putRound t (take j ns)) (fill-after (getD ns j 0) (drop (suc j) ns) i (lower (suc i) e) after-length))
 
 rest-value : (R : Reading) (θ : Env) (n : ℕ) (b : Bool) (x : Option Form) → leftTruth R θ n b x ≡ truth (value R θ (restOf b x))
-unfolding value valueOf meaning
+unfolding value valueOf
 rest-value R θ n b (some f) = refl
 rest-value R θ n true absent = refl
 rest-value R θ n false absent = refl
@@ -99,18 +99,18 @@ module _ (R : Reading) where
   polarity-tag t false q h = eqb-true t 851 (sym (or-false (eqb t 851)) ∙ h)
 
   scan-keeps : (t : ℕ) (o ns : List ℕ) (body g : Form) → (eqb t 851 || eqb t 852) ≡ true → (s : Scan) → scan (length ns) (polarity t) body ≡ s
-      → reduce t ns s ≡ some g → premiseOf R (quantifier t ns body) (takenIn (quantifier t ns body)) ≡ true → holds R (node t o ns (more body none)) ≡ holds R g
+      → reduce t ns s ≡ some g → premiseOf R ns s ≡ true → holds R (node t o ns (more body none)) ≡ holds R g
   scan-keeps t o ns body g z (scanned nothing x) q r h = absurd (clash cc)
   scan-keeps t o ns body g z (scanned (taken i e) x) q r h =
       let k : instantiatePartial t ns (setPlace (length ns) i e (noPlaces (length ns))) (restOf (polarity t) x) ≡ g = cc in
-      reduce-keeps (polarity t) t o ns body i e x (polarity-tag t (polarity t) refl z) q (rw q at h) ∙ ap (holds R) k
+      reduce-keeps (polarity t) t o ns body i e x (polarity-tag t (polarity t) refl z) q h ∙ ap (holds R) k
 
-  quantified-keeps : (f g : Form) (q : Quantified) → quantified f ≡ q → reduceQuantified q ≡ some g → premiseOf R q (takenIn q) ≡ true
+  quantified-keeps : (f g : Form) (q : Quantified) → quantified f ≡ q → reduceQuantified q ≡ some g → premise R f ≡ true
       → holds R f ≡ holds R g
   quantified-keeps f g other e r h = absurd (clash cc)
   quantified-keeps f g (quantifier t ns body) e r h =
       let (o, p, z) = quantified-node f t ns body e in
-      ap (holds R) p ∙ scan-keeps t o ns body g z (scan (length ns) (polarity t) body) refl r h
+      ap (holds R) p ∙ scan-keeps t o ns body g z (scan (length ns) (polarity t) body) refl r (rw (e, premise) at h)
 
 pub point-keeps-truth : (R : Reading) (f g : Form) → onePoint f ≡ some g → premise R f ≡ true → holds R f ≡ holds R g
 unfolding onePoint

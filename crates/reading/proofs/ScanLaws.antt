@@ -1,7 +1,7 @@
 -- What the scan leaves of a body: where nothing is taken it has the body's truth; else the body is the equality taken, joined to what is left,
 -- by `and` where the polarity is true, by `or` with its negation where it is false. Assumes nothing.
 use mathlib.Core.Path.{_≡_, refl, ap, _∙_, sym}
-use mathlib.Core.List.{List, [], _∷_}
+use mathlib.Core.List.{List, [], _∷_, map}
 use mathlib.Core.Option.{Option, none as absent, some}
 use mathlib.Core.Bool.{Bool, true, false, not, _&&_, _||_, and-true, or-false, and-assoc, or-assoc, Bool·not-not}
 use Prim.Native.Nat.{ℕ}
@@ -12,10 +12,10 @@ use Rattle.tree.specs.Form.{free, bound, Form, leaf, node, Forms, none, more, p
 use Rattle.one_point.specs.Replacement.{left, right, offer, indexOf, offerOf, above, Taken, taken, nothing, allowed, ofOffer, accept}
 use Rattle.one_point.specs.Split.{parts, equal}
 use Rattle.one_point.specs.Scan.{Scan, scanned, Scans, scans, negate, present, joined, implies, firstOf, implied, negated, copied, offerPart, offerParts, copies, follow, with}
-use Rattle.reading.specs.Reading.{Reading, truth, truths, every, some as anyTrue, same, Meaning, conjunction, disjunction, meaning, valueOf, Env, value, values}
+use Rattle.reading.specs.Reading.{Reading, truth, every, some as anyTrue, same, valueOf, Env, value, values}
 use Rattle.reading.proofs.Same.{truth-bit, same-comm}
 use Rattle.reading.proofs.Exists.{turn}
-use Rattle.reading.proofs.PartsLaws.{node-value, equal-value, allSame, parts-value}
+use Rattle.reading.proofs.PartsLaws.{equal-value, allSame, parts-value}
 
 -- joined by `and` or by `or`; b itself is the unit
 abbrev pub both : Bool → Bool → Bool → Bool
@@ -94,25 +94,25 @@ module _ (R : Reading) (θ : Env) (n : ℕ) where
   TiedAll b v (scans x gs) = Ties b v x (leftAll b gs)
 
   -- a 351 under true, a 352 under false
-  abbrev pub junctionOf : Bool → Meaning
-  junctionOf true = conjunction
-  junctionOf false = disjunction
+  abbrev pub junctionOf : Bool → ℕ
+  junctionOf true = 351
+  junctionOf false = 352
 
-  every-all : (vs : List ℤ) → every (truths vs) ≡ all true vs
+  every-all : (vs : List ℤ) → every (map truth vs) ≡ all true vs
   every-all [] = refl
   every-all (v ∷ vs) = rw (every-all vs)
 
-  some-all : (vs : List ℤ) → anyTrue (truths vs) ≡ all false vs
+  some-all : (vs : List ℤ) → anyTrue (map truth vs) ≡ all false vs
   some-all [] = refl
   some-all (v ∷ vs) = rw (some-all vs)
 
-  pub junction-value : (b : Bool) (t : ℕ) (o : List ℕ) (ks : Forms) → meaning t ≡ junctionOf b
+  pub junction-value : (b : Bool) (t : ℕ) (o : List ℕ) (ks : Forms) → t ≡ junctionOf b
       → truth (value R θ (node t o [] ks)) ≡ all b (values R θ ks)
-  unfolding valueOf
-  junction-value true t o ks q = rw (node-value R θ t o ks conjunction q) (truth-bit (every (truths (values R θ ks))) ∙ every-all (values R θ ks))
-  junction-value false t o ks q = rw (node-value R θ t o ks disjunction q) (truth-bit (anyTrue (truths (values R θ ks))) ∙ some-all (values R θ ks))
+  unfolding value valueOf
+  junction-value true t o ks q = rw q (truth-bit (every (map truth (values R θ ks))) ∙ every-all (values R θ ks))
+  junction-value false t o ks q = rw q (truth-bit (anyTrue (map truth (values R θ ks))) ∙ some-all (values R θ ks))
 
-  joined-value : (b : Bool) (t : ℕ) (fs : Forms) → meaning t ≡ junctionOf b → leftTruth b (joined t fs) ≡ all b (values R θ fs)
+  joined-value : (b : Bool) (t : ℕ) (fs : Forms) → t ≡ junctionOf b → leftTruth b (joined t fs) ≡ all b (values R θ fs)
   unfolding value
   joined-value b t none q = refl
   joined-value b t (more f none) q = sym (both-unit b (truth (value R θ f)))
@@ -124,7 +124,7 @@ module _ (R : Reading) (θ : Env) (n : ℕ) where
   present-value b (absent ∷ gs) = present-value b gs ∙ sym (unit-both b (leftAll b gs))
   present-value b (some g ∷ gs) = rw (present-value b gs)
 
-  pub rejoin-tied : (b : Bool) (f : Form) (t : ℕ) (s : Scans) → meaning t ≡ junctionOf b → TiedAll b (truth (value R θ f)) s
+  pub rejoin-tied : (b : Bool) (f : Form) (t : ℕ) (s : Scans) → t ≡ junctionOf b → TiedAll b (truth (value R θ f)) s
       → Tied b f (with (λ gs. joined t (present gs)) s)
   rejoin-tied b f t (scans x gs) q h = rw (joined-value b t (present gs) q ∙ present-value b gs) h
 
@@ -143,14 +143,14 @@ module _ (R : Reading) (θ : Env) (n : ℕ) where
 
   -- under a not
   not-value : (o : List ℕ) (f : Form) (fs : Forms) → truth (value R θ (node 8 o [] (more f fs))) ≡ not (truth (value R θ f))
-  unfolding value valueOf meaning
+  unfolding value valueOf
   not-value o f fs = truth-bit (not (truth (value R θ f)))
 
   negate-node : (t : ℕ) (o : List ℕ) (f : Form) (fs : Forms) (z : Bool) → eqb t 8 ≡ z
       → truth (value R θ (pick z f (node 8 [] [] (more (node t o [] (more f fs)) none)))) ≡ not (truth (value R θ (node t o [] (more f fs))))
   negate-node t o f fs true q =
       let z : t ≡ 8 = eqb-true t 8 q in
-      rw (z, not-value o f fs, Bool·not-not)
+      rw (z, not-value o f fs, Bool·not-not (truth (value R θ f)))
   negate-node t o f fs false q = not-value [] (node t o [] (more f fs)) none
 
   negate-value : (f : Form) → truth (value R θ (negate f)) ≡ not (truth (value R θ f))
@@ -173,7 +173,7 @@ module _ (R : Reading) (θ : Env) (n : ℕ) where
   -- an implication, under false
   implies-value : (o : List ℕ) (l r : Form)
       → truth (value R θ (node 251 o [] (more l (more r none)))) ≡ (not (truth (value R θ l)) || truth (value R θ r))
-  unfolding value valueOf meaning
+  unfolding value valueOf
   implies-value o l r = truth-bit (not (truth (value R θ l)) || truth (value R θ r))
 
   implies-left : (x y : Option Form) → leftTruth false (implies x y) ≡ (not (leftTruth true x) || leftTruth false y)
@@ -235,7 +235,6 @@ module _ (R : Reading) (θ : Env) (n : ℕ) where
 
   -- the parts of an equality, under true
   part-value : (l r : Form) → truth (value R θ (equal l r)) ≡ same (value R θ l) (value R θ r)
-  unfolding meaning
   part-value l r = equal-value R θ 101 [] l r refl
 
   copied-value : (ps : List (Form × Form)) → leftAll true (copied ps) ≡ allSame R θ ps
@@ -255,7 +254,6 @@ module _ (R : Reading) (θ : Env) (n : ℕ) where
 
   pub equality-tied : (t : ℕ) (o : List ℕ) (l r : Form) → t ≡ 101
       → Tied true (node t o [] (more l (more r none))) (with (λ gs. joined 351 (present gs)) (offerParts n (parts l r)))
-  unfolding meaning
   equality-tied t o l r q =
       rejoin-tied true (node t o [] (more l (more r none))) 351 (offerParts n (parts l r)) refl
       (rw (q, equal-value R θ 101 o l r refl, ← parts-value R θ l r) (parts-tied (parts l r)))

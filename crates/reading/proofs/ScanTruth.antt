@@ -11,18 +11,13 @@ use Rattle.form.proofs.DecodeLaws.{clash}
 use Rattle.subst.proofs.WalkLaws.{and-left}
 use Rattle.one_point.specs.Split.{isTwo}
 use Rattle.one_point.specs.Scan.{Scan, joined, present, firstOf, implied, negated, Role, junction, implication, negation, equality, other, roleOf, suits, firstPolarity, sidesOf, offerParts, with, rebuild, scan, scanAll}
-use Rattle.reading.specs.Reading.{Reading, meaning, Env, value, values}
+use Rattle.reading.specs.Reading.{Reading, Env, value, values}
 use Rattle.reading.proofs.ScanLaws.{Tied, TiedAll, all, junctionOf, junction-value, rejoin-tied, follow-tied, negated-tied, implied-tied, equality-tied}
 
 -- the tags that have a role
-junction-tag : (b : Bool) (R : Reading) (θ : Env) (n t : ℕ) → (eqb t 351 && b || eqb t 352 && not b) ≡ true → meaning t ≡ junctionOf R θ n b
-unfolding meaning
-junction-tag true R θ n t q =
-    let z : t ≡ 351 = eqb-true t 351 (rw (and-true, and-false, or-false) at q) in
-    rw z
-junction-tag false R θ n t q =
-    let z : t ≡ 352 = eqb-true t 352 (rw (and-false, and-true) at q) in
-    rw z
+junction-tag : (b : Bool) (R : Reading) (θ : Env) (n t : ℕ) → (eqb t 351 && b || eqb t 352 && not b) ≡ true → t ≡ junctionOf R θ n b
+junction-tag true R θ n t q = eqb-true t 351 (rw (and-true, and-false, or-false) at q)
+junction-tag false R θ n t q = eqb-true t 352 (rw (and-false, and-true) at q)
 
 module _ (R : Reading) (θ : Env) (n : ℕ) where
   -- the children are tied with every polarity

@@ -1,6 +1,6 @@
 -- The value of a form that a walk has rewritten: the shift lemma and the substitution lemma, for every form and reading. Assumes nothing.
 use mathlib.Core.Path.{_≡_, refl, ap, _∙_, sym, fun-ext}
-use mathlib.Core.List.{List, [], _∷_}
+use mathlib.Core.List.{List, [], _∷_, flatMap}
 use Prim.Native.Nat.{ℕ, zero, suc, _+_}
 use native.Mathlib.Nat.{zero-add, add-comm}
 use native.Mathlib.Omega.{arith}
@@ -9,7 +9,7 @@ use lib.ListN.{length}
 use Rattle.tree.specs.Form.{Leaf, free, bound, Form, leaf, node, Forms, none, more}
 use Rattle.subst.specs.Walk.{Binding, inside, outside, binding, Outer, named, dangling, walkIndex, walkLeaf, walk, walkAll, up, lift, put, subst}
 use Rattle.subst.proofs.WalkLaws.{binding-add}
-use Rattle.reading.specs.Reading.{Reading, meaning, valueOf, Env, flat, over, leafValue, value, values}
+use Rattle.reading.specs.Reading.{Reading, valueOf, Env, over, value, values}
 use Rattle.reading.specs.Premise.{push}
 
 abbrev pub outerValue : Reading → Env → Outer → ℤ
@@ -21,7 +21,7 @@ pub over-same : {A : Type 0} (r : ℕ → List ℤ) (ds : List ℕ) (ρ η : Env
     → ((b : List ℤ) → length b ≡ length ds + length c → g (push b ρ) ≡ h (push b η)) → over r ds (push c ρ) g ≡ over r ds (push c η) h
 over-same r [] ρ η g h c e = rw (e c (sym (zero-add (length c))))
 over-same r (d ∷ ds) ρ η g h c e =
-    ap (λ f. flat f (r d)) (fun-ext (λ v. over-same r ds ρ η g h (v ∷ c) (λ b q. e b (omega arith))))
+    ap (λ f. flatMap f (r d)) (fun-ext (λ v. over-same r ds ρ η g h (v ∷ c) (λ b q. e b (omega arith))))
 
 -- the values of indices under the values c of declarations
 pub push-inside : (c : List ℤ) (i : ℕ) (ρ η : Env) → binding (length c) i ≡ inside → push c ρ i ≡ push c η i
@@ -45,7 +45,8 @@ module _ (R : Reading) (act : ℕ → Outer → Form) (ρ η : Env)
   keep-index c i inside q = push-inside c i η ρ q
   keep-index c i (outside j) q = right c (dangling j) ∙ sym (push-outside c i j ρ q)
 
-  keep-leaf : (c : List ℤ) (x : Leaf) → value R (push c η) (walkLeaf act (length c) x) ≡ leafValue R (push c ρ) x
+  keep-leaf : (c : List ℤ) (x : Leaf) → value R (push c η) (walkLeaf act (length c) x) ≡ value R (push c ρ) (leaf x)
+  unfolding value
   keep-leaf c (free n) = right c (named n)
   keep-leaf c (bound i) = keep-index c i (binding (length c) i) refl
 
@@ -55,7 +56,7 @@ module _ (R : Reading) (act : ℕ → Outer → Form) (ρ η : Env)
     pub keep : (f : Form) (c : List ℤ) (k : ℕ) → length c ≡ k → value R (push c η) (walk act k f) ≡ value R (push c ρ) f
     keep (leaf x) c k e = rw (← e) (keep-leaf c x)
     keep (node t o ds ks) c k e =
-        ap (λ z. valueOf R (meaning t) t o ds z)
+        ap (λ z. valueOf R t o ds z)
         (over-same (R .range) ds η ρ (λ θ. values R θ (walkAll act (length ds + k) ks)) (λ θ. values R θ ks) c
         (λ b q. keepAll ks b (length ds + k) (omega arith)))
 

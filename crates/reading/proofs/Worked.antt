@@ -1,7 +1,7 @@
 -- Worked readings: the premise can be met; without it the truth is lost; and joining unlike operators, as the Rust does, loses it although
 -- the premise is met. Each is computed. Assumes nothing.
 use mathlib.Core.Path.{_≡_, refl, ap, _∙_, sym}
-use mathlib.Core.List.{List, [], _∷_}
+use mathlib.Core.List.{List, [], _∷_, flatMap}
 use mathlib.Core.Option.{some}
 use mathlib.Core.Bool.{true, false}
 use Prim.Native.Nat.{ℕ, zero, suc, _+_}
@@ -16,7 +16,7 @@ use Rattle.one_point.specs.Split.{parts, equal}
 use Rattle.one_point.specs.Scan.{offerParts, scan}
 use Rattle.one_point.specs.Partial.{putRound, instantiatePartial}
 use Rattle.one_point.specs.Point.{onePoint}
-use Rattle.reading.specs.Reading.{Reading, meaning, valueOf, value, holds}
+use Rattle.reading.specs.Reading.{Reading, valueOf, value, holds}
 use Rattle.reading.specs.Premise.{premise}
 use Rattle.reading.proofs.PointTruth.{point-keeps-truth}
 
@@ -92,11 +92,11 @@ unfolding onePoint quantified scan offerParts accept parts instantiatePartial pu
 worked-taken = refl
 
 pub worked-premise : premise several worked ≡ true
-unfolding quantified scan offerParts accept parts collect value
+unfolding quantified scan offerParts accept parts collect value flatMap
 worked-premise = refl
 
 pub worked-true : holds several worked ≡ true
-unfolding value valueOf meaning
+unfolding value valueOf flatMap
 worked-true = refl
 
 pub worked-kept : holds several workedReduced ≡ true
@@ -117,7 +117,7 @@ unfolding onePoint quantified scan offerParts accept parts instantiatePartial pu
 outside-taken = refl
 
 pub outside-lost : (premise narrow outside ≡ false) × (holds narrow outside ≡ false) × (holds narrow outsideReduced ≡ true)
-unfolding quantified scan offerParts accept parts collect value valueOf meaning
+unfolding quantified scan offerParts accept parts collect value valueOf flatMap
 outside-lost = (refl, refl, refl)
 
 -- [851 2 4 5 [251 [101 [2 0] [2 1]] [852 1 9 [101 [1 7] [2 1]]]]] becomes [851 1 4 [852 1 9 [101 [1 7] [2 1]]]];
@@ -142,9 +142,9 @@ unfolding onePoint quantified scan offerParts accept parts instantiatePartial pu
 unlike-taken = refl
 
 pub unlike-premise : premise emptyNine unlike ≡ true
-unfolding quantified scan offerParts accept parts collect value
+unfolding quantified scan offerParts accept parts collect value flatMap
 unlike-premise = refl
 
 pub join-loses : (holds emptyNine unlike ≡ false) × (holds emptyNine nested ≡ false) × (holds emptyNine joined ≡ true)
-unfolding value valueOf meaning
+unfolding value valueOf flatMap
 join-loses = (refl, refl, refl)
