@@ -1,7 +1,7 @@
 -- What stands in the output row once the children of a not or of an implication are scanned. Assumes nothing.
 use mathlib.Core.Path.{_≡_, refl, ap, sym, _∙_}
 use mathlib.Core.Bool.{Bool, true, false, not}
-use mathlib.Core.Option.{Option, none as absent, some}
+use mathlib.Core.Option.{Option, none as absent, some, Option·map}
 use mathlib.Core.List.{List, [], append-nil}
 use Prim.Native.Nat.{ℕ, suc, _+_, _≤_}
 use native.Mathlib.Omega.{arith}
@@ -9,7 +9,7 @@ use lib.ListN.{length, take}
 use Rattle.tree.specs.Form.{Form, node, encode}
 use Rattle.form.proofs.DecodeLaws.{clash}
 use Rattle.one_point.specs.Replacement.{Taken}
-use Rattle.one_point.specs.Scan.{Scan, scanned, negate, negated, scan}
+use Rattle.one_point.specs.Scan.{Scan, scanned, negate, scan}
 use Rattle.one_point.specs.Internal.Writes.{Wrote, Neat, neat-not, neat-other}
 use Rattle.one_point.specs.Internal.Scans.{Left, Became}
 use Rattle.one_point.specs.declared.scan.Scanned.{Scanned}
@@ -53,7 +53,7 @@ child-room {z = scanned x (some g)} {out} {out′} {r} pos low b q =
 module _ (row : List ℕ) (at n pos : ℕ) (b : Bool) (f g : Form) (is : f ≡ notOf g) (words : length (encode f) ≡ suc (length (encode g))) (out out₁ : List ℕ) (low : pos + 1 ≤ length out) (s : Scanned) where
   module _ (x : Taken) where
     gone-left : (h : Option Form) → scan n (not b) g ≡ scanned x h → s .gone ≡ true → Became row (at + 1) g (pos + 1) out (scanned x h) s out₁
-        → Became row at f pos out (scanned x (negated h)) (record { next = s .next; found = s .found; gone = true; end = pos }) out₁
+        → Became row at f pos out (scanned x (Option·map negate h)) (record { next = s .next; found = s .found; gone = true; end = pos }) out₁
     unfolding Left Wrote
     gone-left (some h) e q c = let z = c .left .1 in absurd (clash cc)
     gone-left absent e q c =
@@ -66,7 +66,7 @@ module _ (row : List ℕ) (at n pos : ℕ) (b : Bool) (f g : Form) (is : f ≡ n
 
     not-left : (h : Option Form) → scan n (not b) g ≡ scanned x h → s .gone ≡ false → Became row (at + 1) g (pos + 1) out (scanned x h) s out₁ → (e : ℕ) (out₂ : List ℕ)
         → ((k : Form) → Neat k → Wrote (pos + 1) out₁ (encode k) (s .end) out₁ → Wrote pos out₁ (encode (negate k)) e out₂)
-        → Became row at f pos out (scanned x (negated h)) (record { next = s .next; found = s .found; gone = false; end = e }) out₂
+        → Became row at f pos out (scanned x (Option·map negate h)) (record { next = s .next; found = s .found; gone = false; end = e }) out₂
     unfolding Left
     not-left absent q w c e out₂ t = let z = c .left .1 in absurd (clash cc)
     not-left (some h) q w c e out₂ t =

@@ -21,7 +21,7 @@ use Rattle.replace.proofs.FillTree.{kept-reverse}
 use Rattle.one_point.specs.Replacement.{Taken, taken, nothing, indexOf, above, accept}
 use Rattle.one_point.specs.Split.{isTwo, isPair, parts, partsAll, equal}
 use Rattle.one_point.specs.Partial.{front, lowerPlace}
-use Rattle.one_point.specs.Member.{Offers, offers, isFree, leave, freeAt, offerNext, offerAll}
+use Rattle.one_point.specs.Member.{Offers, offers, isFree, leave, offerNext, offerAll}
 use Rattle.one_point.specs.Internal.Member.{Shares, shares, keepPart, spotAt, shareNext, share, equalities, lifted}
 use Rattle.one_point.proofs.PlacesLaws.{place-from}
 
@@ -124,7 +124,7 @@ module _ (n : ℕ) (p : Form × Form) (rest : List (Form × Form)) (rec : (qs : 
   passes = rw (le-ltb n n (omega arith), rec ps) (leave-kept n p (share n rest ps))
 
   fills : (i : ℕ) → i < n → (b : Bool) → isFree (getD ps (n - 1 - i) kept) ≡ b
-      → Told (pick (freeAt n i (map (lifted n) ps)) (Later (set (map (lifted n) ps) (n - suc i) (filled (lift n (p .1))))) (leave (equal (p .0) (lift n (p .1))) (Later (map (lifted n) ps)))) (pick b (n - 1 - i) n)
+      → Told (pick (isFree (getD (map (lifted n) ps) (n - suc i) kept)) (Later (set (map (lifted n) ps) (n - suc i) (filled (lift n (p .1))))) (leave (equal (p .0) (lift n (p .1))) (Later (map (lifted n) ps)))) (pick b (n - 1 - i) n)
   fills i h true e = rw (free-lift n ps (n - suc i), place-from n i, e, ← lift-set n ps (n - 1 - i) (p .1), rec (set ps (n - 1 - i) (filled (p .1))), lt-ltb (n - 1 - i) n (omega arith))
   fills i h false e = rw (free-lift n ps (n - suc i), place-from n i, e) passes
 

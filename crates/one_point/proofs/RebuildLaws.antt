@@ -1,7 +1,7 @@
 -- The scan of a node by the scans of its children, and what then stands in the output row. Assumes nothing.
 use mathlib.Core.Path.{_≡_, refl, ap, sym, _∙_}
 use mathlib.Core.Bool.{Bool, true, false, not, _&&_, _||_}
-use mathlib.Core.Option.{Option, some}
+use mathlib.Core.Option.{Option, none as absent, some, Option·map}
 use mathlib.Core.List.{List, [], _++_, append-assoc, append-nil}
 use Prim.Native.Nat.{ℕ, suc, _+_, _-_, _<_}
 use native.Mathlib.Omega.{arith}
@@ -16,7 +16,7 @@ use Rattle.form.proofs.DecodeLaws.{Ok, ok-node, decode-encode}
 use Rattle.one_point.specs.Replacement.{Taken, taken, nothing}
 use Rattle.one_point.specs.Split.{isNil}
 use Rattle.one_point.specs.Scan as S
-use Rattle.one_point.specs.Scan.{scanned, scans, implies, negated, joined, present, roleOf, role, with, scan, scanAll}
+use Rattle.one_point.specs.Scan.{scanned, scans, implies, negate, joined, present, roleOf, role, with, scan, scanAll}
 use Rattle.one_point.proofs.ViewLaws.{plain-node, two-more}
 use Rattle.one_point.proofs.PartsLaws.{tagOf, tag-at}
 use Rattle.one_point.proofs.ScanLaws.{one-more, stands-words, stands-ok}
@@ -28,11 +28,11 @@ abbrev pub impliesOf : Form → Form → Form
 impliesOf l r = node 251 [] [] (more l (more r none))
 
 -- by the scans of the children
-pub scan-not : (n : ℕ) (b : Bool) (f : Form) (x : Taken) (g : Option Form) → scan n (not b) f ≡ scanned x g → scan n b (notOf f) ≡ scanned x (negated g)
+pub scan-not : (n : ℕ) (b : Bool) (f : Form) (x : Taken) (g : Option Form) → scan n (not b) f ≡ scanned x g → scan n b (notOf f) ≡ scanned x (Option·map negate g)
 unfolding scan
 scan-not n b f x g e = rw e (go x)
   where
-    go : (x : Taken) → with (λ gs. negated (S.firstOf gs)) (S.follow (scanned x g) none (scans nothing [])) ≡ scanned x (negated g)
+    go : (x : Taken) → with (λ gs. Option·map negate (getD gs 0 absent)) (S.follow (scanned x g) none (scans nothing [])) ≡ scanned x (Option·map negate g)
     go (taken i r) = refl
     go nothing = refl
 
@@ -44,7 +44,7 @@ pub scan-both : (n : ℕ) (l r : Form) (x : Taken) (g h : Option Form) → scan 
 unfolding scan
 scan-both n l r x g h e k = rw (e, k) (go x)
   where
-    go : (x : Taken) → with S.implied (S.before g (S.follow (scanned x h) none (scans nothing []))) ≡ scanned x (implies g h)
+    go : (x : Taken) → with (λ gs. implies (getD gs 0 absent) (getD gs 1 absent)) (S.before g (S.follow (scanned x h) none (scans nothing []))) ≡ scanned x (implies g h)
     go (taken i e) = refl
     go nothing = refl
 

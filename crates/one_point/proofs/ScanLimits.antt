@@ -2,13 +2,13 @@
 -- 4,294,967,295 words: an equality that is split has as many parts as its 351 then counts. Assumes nothing else.
 use mathlib.Core.Path.{_≡_, refl, ap, _∙_}
 use mathlib.Core.Bool.{Bool, true, false, not, _&&_, _||_}
-use mathlib.Core.Option.{Option, none as absent, some}
+use mathlib.Core.Option.{Option, none as absent, some, Option·map}
 use mathlib.Core.List.{List, [], _∷_, _++_, append-nil}
 use Prim.Native.Nat.{ℕ, suc, _+_, _≤_, _<_}
 use native.Mathlib.Omega.{arith}
 use borrow.Author.Tests.{eqb-true, eqb-false, ltb-true}
 use lib.Dec.{eqb, ltb}
-use lib.ListN.{length, replicate, length-append}
+use lib.ListN.{length, getD, replicate, length-append}
 use Rattle.tree.specs.Form.{Form, leaf, node, Forms, none, more, pick, count, encode, encodeAll}
 use Rattle.tree.specs.Tag.{expr, pred, own, ownOf, shapeOf, exprTags, predTags, sorts}
 use Rattle.form.specs.Decode.{head, read, isLeaf}
@@ -18,9 +18,9 @@ use Rattle.form.proofs.HeadLaws.{between-in}
 use Rattle.subst.proofs.WalkLaws.{and-left, and-right}
 use Rattle.replace.proofs.OkLaws.{ok-deep}
 use Rattle.one_point.specs.Replacement.{left, right, Offer, offer, no-offer, offered, Taken, taken, nothing, above, allowed, ofOffer, accept}
-use Rattle.one_point.specs.Split.{isTwo, isNil, isPair, parts, partsAll, equal}
+use Rattle.one_point.specs.Split.{ofTwo, isTwo, isNil, isPair, parts, partsAll, equal}
 use Rattle.one_point.specs.Scan as S
-use Rattle.one_point.specs.Scan.{Scan, scanned, Scans, scans, negate, present, joined, implies, firstOf, implied, negated, Role, roleOf, suits, role, firstPolarity, copied, offerPart, offerParts, sidesOf, copies, follow, with, rebuild, scan, scanAll}
+use Rattle.one_point.specs.Scan.{Scan, scanned, Scans, scans, negate, present, joined, implies, Role, roleOf, suits, role, firstPolarity, copied, offerPart, offerParts, copies, follow, with, rebuild, scan, scanAll}
 use Rattle.one_point.specs.Point.{restOf}
 use Rattle.one_point.proofs.ViewLaws.{plain-node, two-more}
 use Rattle.one_point.proofs.WriteLaws.{negate-other}
@@ -114,11 +114,11 @@ negate-tag {t = t} {o = o} {ds = ds} {ks = ks} w false e = rw (negate-other t o 
 negate-ok : {d : ℕ} {f : Form} → Ok d pred f → Ok (suc d) pred (negate f)
 negate-ok (ok-node {t = t} a b k) = negate-tag (ok-node a b k) (eqb t 8) refl
 
-negated-ok : (d : ℕ) (g : Option Form) → OkLeft d g → OkLeft (suc d) (negated g)
+negated-ok : (d : ℕ) (g : Option Form) → OkLeft d g → OkLeft (suc d) (Option·map negate g)
 negated-ok d absent h = tt
 negated-ok d (some f) h = negate-ok h
 
-first-ok : (d : ℕ) (gs : List (Option Form)) → OkLefts d gs → OkLeft d (firstOf gs)
+first-ok : (d : ℕ) (gs : List (Option Form)) → OkLefts d gs → OkLeft d (getD gs 0 absent)
 first-ok d [] h = tt
 first-ok d (g ∷ gs) h = h .0
 
@@ -127,9 +127,9 @@ both-ok d absent r h k = left-deep d r k
 both-ok d (some l) absent h k = negate-ok h
 both-ok d (some l) (some r) h k = implies-ok h k
 
-implied-ok : (d : ℕ) (gs : List (Option Form)) → OkLefts d gs → OkLeft (suc d) (implied gs)
+implied-ok : (d : ℕ) (gs : List (Option Form)) → OkLefts d gs → OkLeft (suc d) (implies (getD gs 0 absent) (getD gs 1 absent))
 implied-ok d [] h = tt
-implied-ok d (g ∷ gs) h = both-ok d g (firstOf gs) (h .0) (first-ok d gs (h .1))
+implied-ok d (g ∷ gs) h = both-ok d g (getD gs 0 absent) (h .0) (first-ok d gs (h .1))
 
 with-ok : (n d c : ℕ) (f : List (Option Form) → Option Form) → ((gs : List (Option Form)) → OkLefts d gs → OkLeft (suc d) (f gs)) → (z : Scans) → OkScans n d c z → OkScan n (suc d) (with f z)
 with-ok n d c f h (scans x gs) k = (taken-deep n d x (k .0), h gs (k .1))
@@ -356,10 +356,10 @@ module _ (n d t : ℕ) (o ds : List ℕ) (ks : Forms) (w : Ok (suc d) pred (node
       let b : length (encodeAll ks) ≡ length (encode l) + length (encode r ++ []) = ap (λ z. length (encodeAll z)) m ∙ length-append (encode l) (encode r ++ []) in
       omega arith
 
-  sides-ok : (l r : Form) → ks ≡ more l (more r none) → Ok d expr l → Ok d expr r → OkScan n (suc d) (splitOf n (sidesOf ks))
+  sides-ok : (l r : Form) → ks ≡ more l (more r none) → Ok d expr l → Ok d expr r → OkScan n (suc d) (splitOf n (ofTwo [] parts ks))
   sides-ok l r m h i = rw m (split-ok n l r h i (left-short l r m))
 
-  equality-ok : t ≡ 101 → OkScan n (suc d) (splitOf n (sidesOf ks))
+  equality-ok : t ≡ 101 → OkScan n (suc d) (splitOf n (ofTwo [] parts ks))
   unfolding shapeOf predTags
   equality-ok e =
       let (a, b, k) = plain-node (rw e at w) 0 2 refl in
@@ -369,8 +369,8 @@ module _ (n d t : ℕ) (o ds : List ℕ) (ks : Forms) (w : Ok (suc d) pred (node
   rebuild-ok : (x : Role) → Tagged t x → OkScan n (suc d) (rebuild n x t (node t o ds ks) ks rs)
   unfolding shapeOf predTags
   rebuild-ok S.junction e = let (c, a, b, k) = count-node w (e .1) in with-joined n d (count ks) t rs (e .0) (e .1) few-kids (kids c k)
-  rebuild-ok S.implication e = let (a, b, k) = plain-node (rw e at w) 2 0 refl in with-ok n d (count ks) implied (implied-ok d) rs (kids 2 k)
-  rebuild-ok S.negation e = let (a, b, k) = plain-node (rw e at w) 1 0 refl in with-ok n d (count ks) (λ gs. negated (firstOf gs)) (λ gs h. negated-ok d (firstOf gs) (first-ok d gs h)) rs (kids 1 k)
+  rebuild-ok S.implication e = let (a, b, k) = plain-node (rw e at w) 2 0 refl in with-ok n d (count ks) (λ gs. implies (getD gs 0 absent) (getD gs 1 absent)) (implied-ok d) rs (kids 2 k)
+  rebuild-ok S.negation e = let (a, b, k) = plain-node (rw e at w) 1 0 refl in with-ok n d (count ks) (λ gs. Option·map negate (getD gs 0 absent)) (λ gs h. negated-ok d (getD gs 0 absent) (first-ok d gs h)) rs (kids 1 k)
   rebuild-ok S.equality e = equality-ok e
   rebuild-ok S.other e = (tt, w)
 

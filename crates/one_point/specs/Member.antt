@@ -12,7 +12,7 @@ use Rattle.form.specs.declared.answer.Kind.the-variants.{Predicate}
 use Rattle.subst.specs.Walk.{lift}
 use Rattle.replace.specs.Fill.{quantify}
 use Rattle.one_point.specs.Replacement.{Taken, taken, nothing, accept}
-use Rattle.one_point.specs.Split.{isNil, parts, equal}
+use Rattle.one_point.specs.Split.{ofTwo, isNil, parts, equal}
 use Rattle.one_point.specs.Partial.{noPlaces, setPlace, front, instantiatePartial}
 use Rattle.one_point.specs.Point.{ofResult}
 
@@ -26,12 +26,10 @@ isFree = elim [ kept ↦ true | filled e ↦ false ]
 abbrev pub leave : Form → Offers → Offers
 leave f (offers ps fs) = offers ps (more f fs)
 
-abbrev pub freeAt : ℕ → ℕ → List Place → Bool
-freeAt n i ps = isFree (getD ps (n - suc i) kept)
-
 -- each part in order, offered to the places that earlier parts left free
 abbrev pub offerNext : ℕ → Form → List Place → Taken → (List Place → Offers) → Offers
-offerNext n f ps (taken i e) later = let passed = leave f (later ps) in pick (freeAt n i ps) (later (setPlace n i e ps)) passed
+offerNext n f ps (taken i e) later =
+    pick (isFree (getD ps (n - suc i) kept)) (later (setPlace n i e ps)) (leave f (later ps))
 offerNext n f ps nothing later = leave f (later ps)
 
 unfoldable pub offerAll : ℕ → List (Form × Form) → List Place → Offers
@@ -58,17 +56,11 @@ memberOf element ns guard value =
 -- 107 with 803 on its right
 abbrev pub inSet : Form → Form → Option Form
 inSet element (leaf x) = absent
-inSet element (node t o ns none) = absent
-inSet element (node t o ns (more g none)) = absent
-inSet element (node t o ns (more g (more v none))) = pick (eqb t 803) (some (memberOf element ns g v)) absent
-inSet element (node t o ns (more g (more v (more h hs)))) = absent
+inSet element (node t o ns ks) = ofTwo absent (λ g v. pick (eqb t 803) (some (memberOf element ns g v)) absent) ks
 
 unfoldable pub membership : Form → Option Form
 membership (leaf x) = absent
-membership (node t o ds none) = absent
-membership (node t o ds (more l none)) = absent
-membership (node t o ds (more l (more r none))) = pick (eqb t 107 && isNil ds) (inSet l r) absent
-membership (node t o ds (more l (more r (more f fs)))) = absent
+membership (node t o ds ks) = ofTwo absent (λ l r. pick (eqb t 107 && isNil ds) (inSet l r) absent) ks
 
 unfoldable pub memberOutcome : List ℕ → ℕ → ℕ → Outcome
 memberOutcome row work room = withWork work (withForm Predicate row (λ s f. ofResult room (membership f)))

@@ -3,10 +3,11 @@ use mathlib.Core.List.{List}
 use Prim.Native.Nat.{ℕ, suc, _+_, _-_}
 use lib.Dec.{leb, ltb, eqb}
 use lib.ListN.{length, getD, set, replicate}
-use Rattle.tree.specs.Form.{Form, leaf, node, none, more, pick, encode}
+use Rattle.tree.specs.Form.{Form, leaf, node, pick, encode}
 use Rattle.form.specs.Decode.{Found, found, missing, formOf}
 use Rattle.form.specs.declared.answer.Kind.the-variants.{Predicate}
 use Rattle.one_point.specs.Replacement.{Side, left, right, sideOf, Offer, offer, no-offer, offered, above}
+use Rattle.one_point.specs.Split.{ofTwo}
 use Rattle.one_point.specs.declared.replacements.Replacements.{Replacements}
 use Rattle.one_point.specs.declared.replacements.Offered.{Offered}
 
@@ -42,10 +43,7 @@ offerSides p l r (offer i s) =
 
 abbrev pub offerForm : Replacements → Form → Offered
 offerForm p (leaf x) = says p 10
-offerForm p (node t o ds none) = says p 10
-offerForm p (node t o ds (more l none)) = says p 10
-offerForm p (node t o ds (more l (more r none))) = pick (eqb t 101) (offerSides p l r (offered l r)) (says p 10)
-offerForm p (node t o ds (more l (more r (more f fs)))) = says p 10
+offerForm p (node t o ds ks) = ofTwo (says p 10) (λ l r. pick (eqb t 101) (offerSides p l r (offered l r)) (says p 10)) ks
 
 abbrev pub offerFound : Replacements → Found → Offered
 offerFound p = elim [ found s f ↦ pick (leb (p .n) 32) (offerForm p f) (says p 5) | missing ↦ says p 2 ]

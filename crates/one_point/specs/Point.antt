@@ -1,11 +1,11 @@
 -- One point: a quantified predicate is reduced by the first equality that its body offers.
-use mathlib.Core.Bool.{Bool, true, false}
+use mathlib.Core.Bool.{Bool}
 use mathlib.Core.List.{List, []}
 use mathlib.Core.Option.{Option, none as absent, some}
 use Prim.Native.Nat.{ℕ}
 use lib.Dec.{eqb}
 use lib.ListN.{length}
-use Rattle.tree.specs.Form.{Form, node, none}
+use Rattle.tree.specs.Form.{Form, node, none, pick}
 use Rattle.tree.specs.Tag.{pred}
 use Rattle.form.specs.Answer.{Outcome, refusal, withWork, withForm, finish}
 use Rattle.form.specs.declared.answer.Kind.the-variants.{Predicate}
@@ -20,9 +20,7 @@ polarity t = eqb t 852
 
 -- an emptied body
 abbrev pub restOf : Bool → Option Form → Form
-restOf b (some f) = f
-restOf true absent = node 610 [] [] none
-restOf false absent = node 611 [] [] none
+restOf b = elim [ some f ↦ f | absent ↦ node (pick b 610 611) [] [] none ]
 
 abbrev pub reduce : ℕ → List ℕ → Scan → Option Form
 reduce t ns (scanned nothing g) = absent

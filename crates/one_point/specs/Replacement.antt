@@ -19,9 +19,7 @@ pub data Offer : Type 0 where
   no-offer : Offer
 
 abbrev pub indexOf : Form → Option ℕ
-indexOf (leaf (free n)) = absent
-indexOf (leaf (bound i)) = some i
-indexOf (node t o ds ks) = absent
+indexOf = elim [ leaf x ↦ elim x [ free n ↦ absent | bound i ↦ some i ] | node t o ds ks ↦ absent ]
 
 -- both sides bound: the smaller index and the other side; else the side that is bound, the right one first
 abbrev pub offerOf : Option ℕ → Option ℕ → Offer

@@ -1,13 +1,14 @@
 -- One point's scan of the body: the first equality that the rule of Places accepts, and what is left of the body. What is passed before it
 -- is rebuilt, what follows it is copied.
 use mathlib.Core.Bool.{Bool, true, not, _&&_, _||_}
-use mathlib.Core.List.{List, [], _∷_}
-use mathlib.Core.Option.{Option, none as absent, some}
+use mathlib.Core.List.{List, [], _∷_, map}
+use mathlib.Core.Option.{Option, none as absent, some, Option·map}
 use Prim.Native.Nat.{ℕ}
 use lib.Dec.{eqb}
+use lib.ListN.{getD}
 use Rattle.tree.specs.Form.{Form, leaf, node, Forms, none, more, pick, count}
 use Rattle.one_point.specs.Replacement.{Taken, taken, nothing, accept}
-use Rattle.one_point.specs.Split.{isTwo, isNil, parts, equal}
+use Rattle.one_point.specs.Split.{ofTwo, isTwo, isNil, parts, equal}
 
 -- the equality taken, if any, and what is left: nothing where the node vanished
 pub data Scan : Type 0 where
@@ -40,15 +41,6 @@ implies absent r = r
 implies (some l) absent = some (negate l)
 implies (some l) (some r) = some (node 251 [] [] (more l (more r none)))
 
-abbrev pub firstOf : List (Option Form) → Option Form
-firstOf = elim [ [] ↦ absent | g ∷ gs ↦ g ]
-
-abbrev pub implied : List (Option Form) → Option Form
-implied = elim [ [] ↦ absent | l ∷ gs ↦ implies l (firstOf gs) ]
-
-abbrev pub negated : Option Form → Option Form
-negated = elim [ absent ↦ absent | some f ↦ some (negate f) ]
-
 -- what the scan does at a node: under true it enters 351 and takes 101, under false it enters 352 and 251; 8 turns it round
 pub data Role : Type 0 where
   junction implication negation equality other : Role
@@ -60,11 +52,7 @@ roleOf t b =
 
 -- 251 and 101 have two children, 8 has one
 abbrev pub suits : Role → Forms → Bool
-suits junction ks = true
-suits implication ks = isTwo ks
-suits negation ks = eqb (count ks) 1
-suits equality ks = isTwo ks
-suits other ks = true
+suits x ks = elim x [ junction ↦ true | implication ↦ isTwo ks | negation ↦ eqb (count ks) 1 | equality ↦ isTwo ks | other ↦ true ]
 
 abbrev pub role : ℕ → List ℕ → Forms → Bool → Role
 role t ds ks b = pick (isNil ds && suits (roleOf t b) ks) (roleOf t b) other
@@ -74,8 +62,7 @@ firstPolarity x b = elim x [ junction ↦ b | implication ↦ not b | negation �
 
 -- the parts of an equality, offered in order
 abbrev pub copied : List (Form × Form) → List (Option Form)
-copied [] = []
-copied (p ∷ ps) = some (equal (p .0) (p .1)) ∷ copied ps
+copied ps = map (λ p. some (equal (p .0) (p .1))) ps
 
 abbrev pub before : Option Form → Scans → Scans
 before g (scans x gs) = scans x (g ∷ gs)
@@ -87,11 +74,6 @@ offerPart l r nothing ps later = before (some (equal l r)) later
 unfoldable pub offerParts : ℕ → List (Form × Form) → Scans
 offerParts n [] = scans nothing []
 offerParts n (p ∷ ps) = offerPart (p .0) (p .1) (accept n (p .0) (p .1)) ps (offerParts n ps)
-
-abbrev pub sidesOf : Forms → List (Form × Form)
-sidesOf none = []
-sidesOf (more l none) = []
-sidesOf (more l (more r ks)) = parts l r
 
 -- children in order; after the first equality taken they are copied
 abbrev pub copies : Forms → List (Option Form)
@@ -107,9 +89,9 @@ with f (scans x gs) = scanned x (f gs)
 
 abbrev pub rebuild : ℕ → Role → ℕ → Form → Forms → Scans → Scan
 rebuild n junction t f ks rs = with (λ gs. joined t (present gs)) rs
-rebuild n implication t f ks rs = with implied rs
-rebuild n negation t f ks rs = with (λ gs. negated (firstOf gs)) rs
-rebuild n equality t f ks rs = with (λ gs. joined 351 (present gs)) (offerParts n (sidesOf ks))
+rebuild n implication t f ks rs = with (λ gs. implies (getD gs 0 absent) (getD gs 1 absent)) rs
+rebuild n negation t f ks rs = with (λ gs. Option·map negate (getD gs 0 absent)) rs
+rebuild n equality t f ks rs = with (λ gs. joined 351 (present gs)) (offerParts n (ofTwo [] parts ks))
 rebuild n other t f ks rs = scanned nothing (some f)
 
 unfoldable mutual

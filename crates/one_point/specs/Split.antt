@@ -5,11 +5,15 @@ use Prim.Native.Nat.{ℕ}
 use lib.Dec.{eqb}
 use Rattle.tree.specs.Form.{Form, leaf, node, Forms, none, more, pick}
 
+-- what go makes of two children; d of any other number
+abbrev pub ofTwo : {A : Type 0} → A → (Form → Form → A) → Forms → A
+ofTwo d go none = d
+ofTwo d go (more l none) = d
+ofTwo d go (more l (more r none)) = go l r
+ofTwo d go (more l (more r (more f fs))) = d
+
 abbrev pub isTwo : Forms → Bool
-isTwo none = false
-isTwo (more l none) = false
-isTwo (more l (more r none)) = true
-isTwo (more l (more r (more f fs))) = false
+isTwo ks = ofTwo false (λ l r. true) ks
 
 abbrev pub isNil : List ℕ → Bool
 isNil = elim [ [] ↦ true | d ∷ ds ↦ false ]

@@ -2,16 +2,17 @@
 -- by `and` where the polarity is true, by `or` with its negation where it is false. Assumes nothing.
 use mathlib.Core.Path.{_≡_, refl, ap, _∙_, sym}
 use mathlib.Core.List.{List, [], _∷_, map}
-use mathlib.Core.Option.{Option, none as absent, some}
+use mathlib.Core.Option.{Option, none as absent, some, Option·map}
 use mathlib.Core.Bool.{Bool, true, false, not, _&&_, _||_, and-true, or-false, and-assoc, or-assoc, Bool·not-not}
 use Prim.Native.Nat.{ℕ}
 use borrow.Author.Tests.{eqb-true}
 use lib.Dec.{ltb, eqb}
 use lib.IntN.{ℤ}
+use lib.ListN.{getD}
 use Rattle.tree.specs.Form.{free, bound, Form, leaf, node, Forms, none, more, pick, count}
 use Rattle.one_point.specs.Replacement.{left, right, offer, indexOf, offerOf, above, Taken, taken, nothing, allowed, ofOffer, accept}
 use Rattle.one_point.specs.Split.{parts, equal}
-use Rattle.one_point.specs.Scan.{Scan, scanned, Scans, scans, negate, present, joined, implies, firstOf, implied, negated, copied, offerPart, offerParts, copies, follow, with}
+use Rattle.one_point.specs.Scan.{Scan, scanned, Scans, scans, negate, present, joined, implies, copied, offerPart, offerParts, copies, follow, with}
 use Rattle.reading.specs.Reading.{Reading, truth, every, some as anyTrue, same, valueOf, Env, value, values}
 use Rattle.reading.proofs.Same.{truth-bit, same-comm}
 use Rattle.reading.proofs.Exists.{turn}
@@ -159,12 +160,12 @@ module _ (R : Reading) (θ : Env) (n : ℕ) where
   negate-value (node t o [] (more f fs)) = negate-node t o f fs (eqb t 8) refl
   negate-value (node t o (d ∷ ds) (more f fs)) = not-value [] (node t o (d ∷ ds) (more f fs)) none
 
-  negated-value : (b : Bool) (g : Option Form) → leftTruth b (negated g) ≡ not (leftTruth (not b) g)
+  negated-value : (b : Bool) (g : Option Form) → leftTruth b (Option·map negate g) ≡ not (leftTruth (not b) g)
   negated-value b absent = sym (Bool·not-not b)
   negated-value b (some g) = negate-value g
 
   pub negated-tied : (b : Bool) (t : ℕ) (o : List ℕ) (f : Form) (s : Scan) → t ≡ 8 → Tied (not b) f s
-      → Tied b (node t o [] (more f none)) (with (λ gs. negated (firstOf gs)) (follow s none (scans nothing [])))
+      → Tied b (node t o [] (more f none)) (with (λ gs. Option·map negate (getD gs 0 absent)) (follow s none (scans nothing [])))
   negated-tied b t o f (scanned (taken i e) g) q h =
       rw (q, not-value o f none, negated-value b g) (ties-not b (truth (value R θ f)) (leftTruth (not b) g) (taken i e) h)
   negated-tied b t o f (scanned nothing g) q h =
@@ -182,7 +183,7 @@ module _ (R : Reading) (θ : Env) (n : ℕ) where
   implies-left (some l) (some r) = implies-value [] l r
 
   pub implied-tied : (t : ℕ) (o : List ℕ) (l r : Form) (s z : Scan) → t ≡ 251 → Tied true l s → Tied false r z
-      → Tied false (node t o [] (more l (more r none))) (with implied (follow s (more r none) (follow z none (scans nothing []))))
+      → Tied false (node t o [] (more l (more r none))) (with (λ gs. implies (getD gs 0 absent) (getD gs 1 absent)) (follow s (more r none) (follow z none (scans nothing []))))
   implied-tied t o l r (scanned (taken i e) g) z q h k =
       rw (q, implies-value o l r, implies-left g (some r))
       (ties-first false (truth (value R θ r)) (not (truth (value R θ l))) (not (leftTruth true g)) (taken i e)

@@ -1,16 +1,18 @@
 -- The scan keeps the truth of every body, with either polarity: by the role of each node. Assumes nothing.
 use mathlib.Core.Path.{_≡_, refl}
 use mathlib.Core.List.{List, [], _∷_}
+use mathlib.Core.Option.{none as absent, Option·map}
 use mathlib.Core.Bool.{Bool, true, false, not, _&&_, _||_, and-true, and-false, or-false}
 use Prim.Native.Nat.{ℕ, suc}
 use native.Mathlib.Omega.{arith}
 use borrow.Author.Tests.{eqb-true}
 use lib.Dec.{eqb}
+use lib.ListN.{getD}
 use Rattle.tree.specs.Form.{Form, leaf, node, Forms, none, more, pick, count}
 use Rattle.form.proofs.DecodeLaws.{clash}
 use Rattle.subst.proofs.WalkLaws.{and-left}
-use Rattle.one_point.specs.Split.{isTwo}
-use Rattle.one_point.specs.Scan.{Scan, joined, present, firstOf, implied, negated, Role, junction, implication, negation, equality, other, roleOf, suits, firstPolarity, sidesOf, offerParts, with, rebuild, scan, scanAll}
+use Rattle.one_point.specs.Split.{ofTwo, isTwo, parts}
+use Rattle.one_point.specs.Scan.{Scan, joined, negate, present, implies, Role, junction, implication, negation, equality, other, roleOf, suits, firstPolarity, offerParts, with, rebuild, scan, scanAll}
 use Rattle.reading.specs.Reading.{Reading, Env, value, values}
 use Rattle.reading.proofs.ScanLaws.{Tied, TiedAll, all, junctionOf, junction-value, rejoin-tied, follow-tied, negated-tied, implied-tied, equality-tied}
 
@@ -37,7 +39,7 @@ module _ (R : Reading) (θ : Env) (n : ℕ) where
       rejoin-tied R θ n b (node t o [] ks) t (scanAll n b b ks) m (rw (junction-value R θ n b t o ks m) (all-tied b ks h))
 
   negation-tied : (b : Bool) (t : ℕ) (o : List ℕ) (ks : Forms) → eqb t 8 ≡ true → eqb (count ks) 1 ≡ true → Children ks
-      → Tied R θ n b (node t o [] ks) (with (λ gs. negated (firstOf gs)) (scanAll n (not b) b ks))
+      → Tied R θ n b (node t o [] ks) (with (λ gs. Option·map negate (getD gs 0 absent)) (scanAll n (not b) b ks))
   unfolding scan
   negation-tied b t o none q s h = absurd (clash cc)
   negation-tied b t o (more f none) q s h = negated-tied R θ n b t o f (scan n (not b) f) (eqb-true t 8 q) (h .0 (not b))
@@ -46,7 +48,7 @@ module _ (R : Reading) (θ : Env) (n : ℕ) where
       absurd (omega arith)
 
   implication-tied : (b : Bool) (t : ℕ) (o : List ℕ) (ks : Forms) → (eqb t 251 && not b) ≡ true → isTwo ks ≡ true → Children ks
-      → Tied R θ n b (node t o [] ks) (with implied (scanAll n (not b) b ks))
+      → Tied R θ n b (node t o [] ks) (with (λ gs. implies (getD gs 0 absent) (getD gs 1 absent)) (scanAll n (not b) b ks))
   unfolding scan
   implication-tied true t o ks q s h =
       let z : (eqb t 251 && false) ≡ false = and-false (eqb t 251) in
@@ -58,7 +60,7 @@ module _ (R : Reading) (θ : Env) (n : ℕ) where
   implication-tied false t o (more l (more r (more f fs))) q s h = absurd (clash cc)
 
   tie-tied : (b : Bool) (t : ℕ) (o : List ℕ) (ks : Forms) → (eqb t 101 && b) ≡ true → isTwo ks ≡ true
-      → Tied R θ n b (node t o [] ks) (with (λ gs. joined 351 (present gs)) (offerParts n (sidesOf ks)))
+      → Tied R θ n b (node t o [] ks) (with (λ gs. joined 351 (present gs)) (offerParts n (ofTwo [] parts ks)))
   tie-tied false t o ks q s =
       let z : (eqb t 101 && false) ≡ false = and-false (eqb t 101) in
       absurd (clash cc)
