@@ -4,11 +4,12 @@ use mathlib.Core.Bool.{Bool, true, false}
 use mathlib.Core.List.{List, [], _∷_, _++_, append-assoc, append-nil}
 use Prim.Native.Nat.{ℕ, zero, suc, _+_}
 use native.Mathlib.Omega.{arith}
-use lib.ListN.{length, drop, length-append}
+use borrow.Author.Tests.{ne-eqb}
+use lib.ListN.{length, getD, drop, length-append}
 use lib.Seq.{drop-drop, drop-append-seam}
 use Rattle.tree.specs.Form.{free, bound, Form, leaf, node, Forms, none, more, pick, between, encode, encodeAll}
-use Rattle.tree.specs.Tag.{Sort, expr, pred, Own, ask, kids, wrong, own, ownOf, shapeOf, exprTags, predTags, sorts, word}
-use Rattle.form.specs.Decode.{Head, head, bad, addWord, addName, only, names, read, Got, got, no-form, Gots, gots, no-forms, first, leafAt, isLeaf, make, addForm, close, chain, decodeAll, branch, decode}
+use Rattle.tree.specs.Tag.{Sort, expr, pred, Own, ask, kids, wrong, own, ownOf, shapeOf, exprTags, predTags, sorts}
+use Rattle.form.specs.Decode.{Head, head, bad, addWord, addName, only, names, read, Got, got, no-form, Gots, gots, no-forms, leafAt, isLeaf, make, addForm, close, chain, decodeAll, branch, decode}
 
 pub clash : _≡_ {A = ℕ} 0 1 → ⊥
 clash z = omega arith
@@ -102,7 +103,11 @@ mutual
   decodeAll-encode (ok-more {fs = fs} h k) r = rw (append-assoc, decode-encode h (encodeAll fs ++ r), decodeAll-encode k r)
 
 -- a name or an index has one word and nothing else
-leaf-own : (hi : ℕ) (o ds : List ℕ) (p e : ℕ) → read (word hi) (o ++ (ds ++ [])) ≡ head o ds p e []
+-- only the tags 1 and 2 are leaves
+pub high-tag : (t : ℕ) → isLeaf (suc (suc (suc t))) ≡ false
+high-tag t = rw (ne-eqb (suc (suc (suc t))) 1 (λ e. omega arith), ne-eqb (suc (suc (suc t))) 2 (λ e. omega arith))
+
+leaf-own : (hi : ℕ) (o ds : List ℕ) (p e : ℕ) → read (ask 0 hi (λ n. kids 0 0 0)) (o ++ (ds ++ [])) ≡ head o ds p e []
     → (n : ℕ) × (o ≡ n ∷ []) × (ds ≡ []) × (p ≡ 0) × (e ≡ 0) × (between 0 hi n ≡ true)
 unfolding read
 leaf-own hi [] [] p e q = absurd (clash cc)
@@ -115,30 +120,30 @@ leaf-own hi (n ∷ o) ds p e q =
 
 module _ (d : ℕ) (o ds : List ℕ) (p e : ℕ) where
   one-word : (n : ℕ) → o ≡ n ∷ [] → ds ≡ [] → p ≡ 0 → e ≡ 0 → between 0 65535 n ≡ true
-      → ((ds ≡ []) × (sorts p e ≡ []) × (1 ∷ o ≡ encode (leaf (leafAt 1 (first o)))) × Ok (suc d) expr (leaf (leafAt 1 (first o))))
-      × ((ds ≡ []) × (sorts p e ≡ []) × (2 ∷ o ≡ encode (leaf (leafAt 2 (first o)))) × Ok (suc d) expr (leaf (leafAt 2 (first o))))
+      → ((ds ≡ []) × (sorts p e ≡ []) × (1 ∷ o ≡ encode (leaf (leafAt 1 (getD o 0 0)))) × Ok (suc d) expr (leaf (leafAt 1 (getD o 0 0))))
+      × ((ds ≡ []) × (sorts p e ≡ []) × (2 ∷ o ≡ encode (leaf (leafAt 2 (getD o 0 0)))) × Ok (suc d) expr (leaf (leafAt 2 (getD o 0 0))))
   unfolding encode
   one-word n a b c z k = rw (a, b, c, z) ((refl, refl, refl, ok-free k), (refl, refl, refl, ok-bound k))
 
-  leaf-one : read (own expr 1) (o ++ (ds ++ [])) ≡ head o ds p e [] → (ds ≡ []) × (sorts p e ≡ []) × (1 ∷ o ≡ encode (leaf (leafAt 1 (first o)))) × Ok (suc d) expr (leaf (leafAt 1 (first o)))
+  leaf-one : read (own expr 1) (o ++ (ds ++ [])) ≡ head o ds p e [] → (ds ≡ []) × (sorts p e ≡ []) × (1 ∷ o ≡ encode (leaf (leafAt 1 (getD o 0 0)))) × Ok (suc d) expr (leaf (leafAt 1 (getD o 0 0)))
   unfolding own ownOf shapeOf exprTags
   leaf-one q = let (n, a, b, c, z, k) = leaf-own 65535 o ds p e q in one-word n a b c z k .0
 
-  leaf-two : read (own expr 2) (o ++ (ds ++ [])) ≡ head o ds p e [] → (ds ≡ []) × (sorts p e ≡ []) × (2 ∷ o ≡ encode (leaf (leafAt 2 (first o)))) × Ok (suc d) expr (leaf (leafAt 2 (first o)))
+  leaf-two : read (own expr 2) (o ++ (ds ++ [])) ≡ head o ds p e [] → (ds ≡ []) × (sorts p e ≡ []) × (2 ∷ o ≡ encode (leaf (leafAt 2 (getD o 0 0)))) × Ok (suc d) expr (leaf (leafAt 2 (getD o 0 0)))
   unfolding own ownOf shapeOf exprTags
   leaf-two q = let (n, a, b, c, z, k) = leaf-own 65535 o ds p e q in one-word n a b c z k .1
 
   leaf-sound : (s : Sort) (t : ℕ) → isLeaf t ≡ true → read (own s t) (o ++ (ds ++ [])) ≡ head o ds p e []
-      → (ds ≡ []) × (sorts p e ≡ []) × (t ∷ o ≡ encode (leaf (leafAt t (first o)))) × Ok (suc d) s (leaf (leafAt t (first o)))
+      → (ds ≡ []) × (sorts p e ≡ []) × (t ∷ o ≡ encode (leaf (leafAt t (getD o 0 0)))) × Ok (suc d) s (leaf (leafAt t (getD o 0 0)))
   unfolding own ownOf shapeOf predTags read
   leaf-sound expr zero l q = absurd (clash cc)
   leaf-sound expr (suc zero) l q = leaf-one q
   leaf-sound expr (suc (suc zero)) l q = leaf-two q
-  leaf-sound expr (suc (suc (suc t))) l q = absurd (clash cc)
+  leaf-sound expr (suc (suc (suc t))) l q = let h = high-tag t in absurd (clash cc)
   leaf-sound pred zero l q = absurd (clash cc)
   leaf-sound pred (suc zero) l q = absurd (clash cc)
   leaf-sound pred (suc (suc zero)) l q = absurd (clash cc)
-  leaf-sound pred (suc (suc (suc t))) l q = absurd (clash cc)
+  leaf-sound pred (suc (suc (suc t))) l q = let h = high-tag t in absurd (clash cc)
 
 -- what was read of a row was written so, and is well formed
 abbrev Sound : ℕ → Type 0
@@ -176,7 +181,7 @@ ok-nil (ok-more h k) e = absurd (clash cc)
 -- the form that is made of a tag, its words and its children
 pub made : (d : ℕ) (s : Sort) (t : ℕ) (o ds : List ℕ) (p e : ℕ) (ks : Forms) (l : Bool) → isLeaf t ≡ l
     → ((x : List ℕ) → read (own s t) (o ++ (ds ++ x)) ≡ head o ds p e x) → OkAll d (sorts p e) ks
-    → (t ∷ (o ++ (ds ++ encodeAll ks)) ≡ encode (pick l (leaf (leafAt t (first o))) (node t o ds ks))) × Ok (suc d) s (pick l (leaf (leafAt t (first o))) (node t o ds ks)) × (l ≡ true → ks ≡ none)
+    → (t ∷ (o ++ (ds ++ encodeAll ks)) ≡ encode (pick l (leaf (leafAt t (getD o 0 0))) (node t o ds ks))) × Ok (suc d) s (pick l (leaf (leafAt t (getD o 0 0))) (node t o ds ks)) × (l ≡ true → ks ≡ none)
 unfolding encode
 made d s t o ds p e ks true l q h =
     let (a, n, w, g) = leaf-sound d o ds p e s t l (q []) in

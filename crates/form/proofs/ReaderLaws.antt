@@ -10,13 +10,13 @@ use lib.Dec.{leb}
 use lib.ListN.{length, getD, drop, set, replicate, length-append, length-drop}
 use Rattle.tree.specs.Form.{Leaf, Form, leaf, node, Forms, none, pick, encode, encodeAll}
 use Rattle.tree.specs.Tag.{Sort, expr, own, ownOf, shapeOf, exprTags, sorts}
-use Rattle.form.specs.Decode.{Head, head, bad, read, Got, got, no-form, Gots, gots, no-forms, first, leafAt, isLeaf, make, addForm, close, chain, decodeAll, branch, decode}
+use Rattle.form.specs.Decode.{Head, head, bad, read, Got, got, no-form, Gots, gots, no-forms, leafAt, isLeaf, make, addForm, close, chain, decodeAll, branch, decode}
 use Rattle.form.specs.Internal.Reads.{headAt, mark, markAll, markTag, startsLeaf, Told, ToldAll, decodeIn}
 use Rattle.form.specs.declared.head.Step.{Step}
 use Rattle.form.specs.declared.head.Step.the-variants.{End, Bad}
 use Rattle.form.specs.declared.head.Head as code
 use Rattle.form.specs.declared.head.Head.the-variants.{Kids, None}
-use Rattle.form.proofs.DecodeLaws.{clash, read-exact, read-at, all-sound, decode-at, made}
+use Rattle.form.proofs.DecodeLaws.{clash, high-tag, read-exact, read-at, all-sound, decode-at, made}
 use Rattle.form.proofs.HeadLaws.{gone, here, head-rises}
 
 -- tags that are marked
@@ -30,7 +30,7 @@ pub other-tag : (t : ℕ) → 2 < t → isLeaf t ≡ false
 other-tag zero h = absurd (omega arith)
 other-tag (suc zero) h = absurd (omega arith)
 other-tag (suc (suc zero)) h = absurd (omega arith)
-other-tag (suc (suc (suc t))) h = refl
+other-tag (suc (suc (suc t))) h = high-tag t
 
 -- what is read at a position: nothing past the end, else the node that begins there
 pub no-word : (d : ℕ) (s : Sort) → decode d s [] ≡ no-form
@@ -185,7 +185,7 @@ module _ (s : Sort) (row : List ℕ) (at u : ℕ) where
         let (v, n) = all-sound d (sorts x y) (drop p row) ks l q in
         let (w, z, i) = made d s t o ds x y ks (isLeaf t) refl h n in
         let len : length (encode (make t o ds ks)) ≡ suc (length o + (length ds + length (encodeAll ks))) = rw (← w, length-append, length-append) refl in
-        (k .0 ∙ ap End (omega arith), made-mark t o ds ks at u p m m₂ (isLeaf t) (leafAt t (first o)) e i (rw (← m₁e) (k .1)))
+        (k .0 ∙ ap End (omega arith), made-mark t o ds ks at u p m m₂ (isLeaf t) (leafAt t (getD o 0 0)) e i (rw (← m₁e) (k .1)))
     close-told o ds x y p m m₁ m₂ r no-forms q h e m₁e k = k
 
     branch-told : (z : Head) (x y w p : ℕ) (m m₁ m₂ : List ℕ) (r : Step) → read (own s t) (drop (at + 1) row) ≡ z → headAt (at + 1) z ≡ Kids p x y w → m₁ ≡ markTag t at u m
@@ -261,7 +261,7 @@ module _ (row : List ℕ) (at d : ℕ) where
       word-told zero d w ws l e = absurd (clash cc)
       word-told (suc zero) d w ws l e = rw (le-leb 0 w (omega arith), e) (refl, refl)
       word-told (suc (suc zero)) d w ws l e = rw (le-leb 0 w (omega arith), e) (refl, refl)
-      word-told (suc (suc (suc t))) d w ws l e = absurd (clash cc)
+      word-told (suc (suc (suc t))) d w ws l e = let h = high-tag t in absurd (clash cc)
 
       both : (t d w : ℕ) (ws : List ℕ) (b c : Bool) → isLeaf t ≡ b → leb w 65535 ≡ c → (b && c) ≡ true → Told at u (decode (suc d) expr (t ∷ w ∷ ws)) a (set a at (suc u)) (End (at + 2))
       both t d w ws true true l e k = word-told t d w ws l e

@@ -1,9 +1,9 @@
 -- What a row says: the form at its front, and whether it is exactly one form within the limits.
-use mathlib.Core.Bool.{Bool, true, false}
+use mathlib.Core.Bool.{Bool, true, false, _||_}
 use mathlib.Core.List.{List, [], _∷_}
 use Prim.Native.Nat.{ℕ, zero, suc}
 use lib.Dec.{leb, eqb}
-use lib.ListN.{length}
+use lib.ListN.{length, getD}
 use Rattle.tree.specs.Form.{Leaf, free, bound, Form, leaf, node, Forms, none, more, pick, between}
 use Rattle.tree.specs.Tag.{Sort, expr, pred, Own, ask, kids, wrong, own, sorts}
 use Rattle.form.specs.declared.answer.Kind.{Kind}
@@ -43,20 +43,14 @@ pub data Gots : Type 0 where
   gots : Forms → List ℕ → Gots
   no-forms : Gots
 
-abbrev pub first : List ℕ → ℕ
-first = elim [ [] ↦ 0 | w ∷ ws ↦ w ]
-
 abbrev pub leafAt : ℕ → ℕ → Leaf
 leafAt t n = pick (eqb t 1) (free n) (bound n)
 
 abbrev pub isLeaf : ℕ → Bool
-isLeaf zero = false
-isLeaf (suc zero) = true
-isLeaf (suc (suc zero)) = true
-isLeaf (suc (suc (suc t))) = false
+isLeaf t = eqb t 1 || eqb t 2
 
 abbrev pub make : ℕ → List ℕ → List ℕ → Forms → Form
-make t o ds ks = pick (isLeaf t) (leaf (leafAt t (first o))) (node t o ds ks)
+make t o ds ks = pick (isLeaf t) (leaf (leafAt t (getD o 0 0))) (node t o ds ks)
 
 abbrev pub addForm : Form → Gots → Gots
 addForm f = elim [ gots fs r ↦ gots (more f fs) r | no-forms ↦ no-forms ]

@@ -5,7 +5,7 @@ use tree::tag::expr_shape;
 use tree::tag::pred_shape;
 ghost use mathlib.Core.Path.{_≡_};
 ghost use lib.ListN.{drop};
-ghost use Rattle.tree.specs.Tag.{expr, pred, own, ownOf, word, exprsFrom, predsFrom, declare, ask};
+ghost use Rattle.tree.specs.Tag.{expr, pred, own, ownOf, ask, kids};
 ghost use Rattle.form.specs.Decode.{read, names};
 ghost use Rattle.form.specs.Internal.Reads.{wordAt, headAt, namesAt};
 
@@ -47,7 +47,7 @@ fn asked(row: &[u32], at: usize, lo: u32, hi: u32) -> Word
 
 // One word of at most hi, and no children.
 fn word_head(row: &[u32], at: usize, hi: u32) -> Head
-    ensures { λ r. ⌜ r ≡ headAt at (read (word hi) (drop at (now (row .entry)))) ⌝ }
+    ensures { λ r. ⌜ r ≡ headAt at (read (ask 0 hi (λ n. kids 0 0 0)) (drop at (now (row .entry)))) ⌝ }
 {
     let Word::Is(w) = asked(row, at, 0, hi) else {
         return Head::None;
@@ -57,7 +57,7 @@ fn word_head(row: &[u32], at: usize, hi: u32) -> Head
 
 // A count of at least min, of expressions.
 fn exprs_head(row: &[u32], at: usize, min: u32) -> Head
-    ensures { λ r. ⌜ r ≡ headAt at (read (exprsFrom min) (drop at (now (row .entry)))) ⌝ }
+    ensures { λ r. ⌜ r ≡ headAt at (read (ask min 4294967295 (λ n. kids 0 0 n)) (drop at (now (row .entry)))) ⌝ }
 {
     let Word::Is(n) = asked(row, at, min, Limit::WORD) else {
         return Head::None;
@@ -67,7 +67,7 @@ fn exprs_head(row: &[u32], at: usize, min: u32) -> Head
 
 // A count of at least min, of predicates.
 fn preds_head(row: &[u32], at: usize, min: u32) -> Head
-    ensures { λ r. ⌜ r ≡ headAt at (read (predsFrom min) (drop at (now (row .entry)))) ⌝ }
+    ensures { λ r. ⌜ r ≡ headAt at (read (ask min 4294967295 (λ n. kids 0 n 0)) (drop at (now (row .entry)))) ⌝ }
 {
     let Word::Is(n) = asked(row, at, min, Limit::WORD) else {
         return Head::None;
@@ -77,7 +77,7 @@ fn preds_head(row: &[u32], at: usize, min: u32) -> Head
 
 // A name, then a count of expressions.
 fn apply_head(row: &[u32], at: usize) -> Head
-    ensures { λ r. ⌜ r ≡ headAt at (read (ask 0 65535 (λ n. exprsFrom 0)) (drop at (now (row .entry)))) ⌝ }
+    ensures { λ r. ⌜ r ≡ headAt at (read (ask 0 65535 (λ name. ask 0 4294967295 (λ n. kids 0 0 n))) (drop at (now (row .entry)))) ⌝ }
 {
     let Word::Is(w) = asked(row, at, 0, Limit::NAME) else {
         return Head::None;
@@ -103,7 +103,7 @@ fn names_end(row: &[u32], at: usize, n: u32) -> Step
 
 // The declarations of a quantifier: one predicate and so many expressions follow.
 fn bound_head(row: &[u32], at: usize, exprs: u32) -> Head
-    ensures { λ r. ⌜ r ≡ headAt at (read (declare exprs) (drop at (now (row .entry)))) ⌝ }
+    ensures { λ r. ⌜ r ≡ headAt at (read (ask 1 32 (λ n. kids n 1 exprs)) (drop at (now (row .entry)))) ⌝ }
 {
     let Word::Is(n) = asked(row, at, 1, Limit::DECLARATIONS) else {
         return Head::None;
@@ -116,7 +116,7 @@ fn bound_head(row: &[u32], at: usize, exprs: u32) -> Head
 
 // The form word of a comprehension, from 0 to 3, and its declarations.
 fn compr_head(row: &[u32], at: usize) -> Head
-    ensures { λ r. ⌜ r ≡ headAt at (read (ask 0 3 (λ n. declare 1)) (drop at (now (row .entry)))) ⌝ }
+    ensures { λ r. ⌜ r ≡ headAt at (read (ask 0 3 (λ form. ask 1 32 (λ n. kids n 1 1))) (drop at (now (row .entry)))) ⌝ }
 {
     let Word::Is(w) = asked(row, at, 0, 3) else {
         return Head::None;

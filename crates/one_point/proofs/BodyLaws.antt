@@ -14,17 +14,17 @@ use Rattle.form.specs.Lists.{Place, kept, filled}
 use Rattle.form.specs.Internal.Reads.{mark}
 use Rattle.form.specs.declared.lists.Table.{Table}
 use Rattle.form.proofs.DecodeLaws.{Ok, OkAll, ok-none, ok-more, decodeAll-encode, decode-sound}
-use Rattle.subst.specs.Walk.{Binding, inside, outside, binding, Outer, named, dangling, walkIndex, walk, walkAll, up, lift, collect, each, eachAll}
-use Rattle.subst.proofs.WalkLaws.{binding-add, self, always, each-always, each-all, walk-agree}
+use Rattle.subst.specs.Walk.{Binding, inside, outside, binding, Outer, named, dangling, walkIndex, walk, walkAll, up, lift, collect, each}
+use Rattle.subst.proofs.WalkLaws.{eachAll, binding-add, self, always, each-always, each-all, walk-agree}
 use Rattle.subst.proofs.TreeLaws.{walk-self, each-walk}
 use Rattle.subst.proofs.RowLaws.{zeros, marksOf, marksAll, marks-length}
 use Rattle.replace.proofs.FillTree.{ok-flat}
 use Rattle.replace.proofs.OkLaws.{ok-deep}
 use Rattle.one_point.specs.Replacement.{indexOf}
 use Rattle.one_point.specs.Split.{equal, parts}
-use Rattle.one_point.specs.Scan.{joined}
+use Rattle.one_point.specs.Scan.{joinAll, joined}
 use Rattle.one_point.specs.Partial.{noPlaces}
-use Rattle.one_point.specs.Member.{offerAll, anyFilled, withGuard, fillOffers, memberOf}
+use Rattle.one_point.specs.Member.{offerAll, anyFilled, fillOffers, memberOf}
 use Rattle.one_point.specs.Internal.Writes.{Wrote, leftWords, isGone}
 use Rattle.one_point.specs.Internal.Parts.{readAll, Beside, partsAt}
 use Rattle.one_point.specs.Internal.Member.{Shares, shares, keepPart, spotAt, share, equalities, MarkedAt, Shared, Sharing, SetIn, BodyTold, lifted, filledBody, shallow, Shaped, well-formed, conjunction, leftParts}
@@ -150,7 +150,7 @@ module _ (row lm : List ℕ) (n u w : ℕ) (out : List ℕ) (t : Table) (e m : �
 -- the body written
 module _ (row lm : List ℕ) (n u : ℕ) (g : Form) (from e m r : ℕ) (gone : Bool) (out₀ out₁ out₂ out₃ : List ℕ) (low : 2 ≤ length out₀) (head : Wrote 2 out₀ (encode g) from out₁)
     (done : (fs : Forms) → m + 1 ≡ count fs → Wrote 2 out₂ (encodeAll fs) e out₂ → (gone ≡ isGone (joined 351 fs)) × Wrote 0 out₂ (leftWords (joined 351 fs)) r out₃) where
-  guarded : (fs : Forms) → leftWords (joined 351 (more g fs)) ≡ encode (withGuard g fs)
+  guarded : (fs : Forms) → leftWords (joined 351 (more g fs)) ≡ encode (joinAll 351 g fs)
   guarded none = refl
   guarded (more f fs) = refl
 
@@ -160,7 +160,7 @@ module _ (row lm : List ℕ) (n u : ℕ) (g : Form) (from e m r : ℕ) (gone : B
       let w = wrote-on 2 from e out₀ (encode g) out₁ (encodeAll (equalities u qs)) out₂ head b in
       let s = wrote-self 2 e out₀ (encode g ++ encodeAll (equalities u qs)) out₂ low w in
       let f = done (more g (equalities u qs)) (omega (arith, d)) s in
-      (a, based 0 r out₀ out₂ (encode (withGuard g (equalities u qs))) out₃ refl (rw (guarded (equalities u qs)) at (f .1)))
+      (a, based 0 r out₀ out₂ (encode (joinAll 351 g (equalities u qs))) out₃ refl (rw (guarded (equalities u qs)) at (f .1)))
 
 -- parts that are left are parts
 module _ (n d : ℕ) where
@@ -233,14 +233,14 @@ equals-ok (p ∷ qs) h =
     ok-more a (equals-ok qs (h .1))
 
 module _ (g : Form) (ok : Ok 62 pred g) where
-  pub guard-ok : (qs : List (Form × Form)) → OkParts 63 qs → length qs ≤ 8192 → Ok 65 pred (withGuard g (equalities 0 qs))
+  pub guard-ok : (qs : List (Form × Form)) → OkParts 63 qs → length qs ≤ 8192 → Ok 65 pred (joinAll 351 g (equalities 0 qs))
   unfolding shapeOf predTags
   guard-ok [] h l = ok-deep ok 65 (omega arith)
   guard-ok (p ∷ qs) h l =
       let e = equals-count 0 qs in
       counted-ok refl refl (ok-more (ok-deep ok 64 (omega arith)) (equals-ok (p ∷ qs) h)) (omega arith) (omega arith)
 
-  pub guard-shape : (u : ℕ) (qs : List (Form × Form)) → decode 62 pred (encode g) ≡ got g [] → Shaped (withGuard g (equalities u qs))
+  pub guard-shape : (u : ℕ) (qs : List (Form × Form)) → decode 62 pred (encode g) ≡ got g [] → Shaped (joinAll 351 g (equalities u qs))
   guard-shape u [] e = well-formed e
   guard-shape u (p ∷ qs) e = conjunction
 
@@ -249,7 +249,7 @@ module _ (g : Form) (ok : Ok 62 pred g) where
   flat-all n [] h = refl
   flat-all n (p ∷ qs) h = rw (ok-flat 0 (omega arith) (h .0 .0), flat-lift n (p .1) (ok-flat 0 (omega arith) (h .0 .1)), flat-all n qs (h .1))
 
-  pub guard-flat : (n : ℕ) (qs : List (Form × Form)) → OkParts 63 qs → shallow 4096 (withGuard g (equalities n qs)) ≡ true
+  pub guard-flat : (n : ℕ) (qs : List (Form × Form)) → OkParts 63 qs → shallow 4096 (joinAll 351 g (equalities n qs)) ≡ true
   unfolding collect
   guard-flat n [] h = ok-flat 0 (omega arith) ok
   guard-flat n (p ∷ qs) h = rw (ok-flat 0 (omega arith) ok) (flat-all n (p ∷ qs) h)
@@ -264,28 +264,28 @@ module _ (g : Form) (ok : Ok 62 pred g) where
   equals-marks k n [] = refl
   equals-marks k n (p ∷ qs) = ap (λ z. z ++ marksAll k (equalities n qs)) (equal-marks k n (p .0) (p .1)) ∙ ap (λ z. marksOf k (equal (p .0) (lift 0 (p .1))) ++ z) (equals-marks k n qs)
 
-  guard-marks : (k n : ℕ) (qs : List (Form × Form)) → marksOf k (withGuard g (equalities n qs)) ≡ marksOf k (withGuard g (equalities 0 qs))
+  guard-marks : (k n : ℕ) (qs : List (Form × Form)) → marksOf k (joinAll 351 g (equalities n qs)) ≡ marksOf k (joinAll 351 g (equalities 0 qs))
   unfolding marksOf
   guard-marks k n [] = refl
   guard-marks k n (p ∷ qs) = ap (λ z. 0 ∷ 0 ∷ (marksOf (0 + k) g ++ z)) (equals-marks (0 + k) n (p ∷ qs))
 
-  pub guard-length : (n : ℕ) (qs : List (Form × Form)) → length (encode (withGuard g (equalities n qs))) ≡ length (encode (withGuard g (equalities 0 qs)))
-  guard-length n qs = sym (marks-length 0 (withGuard g (equalities n qs))) ∙ (ap length (guard-marks 0 n qs) ∙ marks-length 0 (withGuard g (equalities 0 qs)))
+  pub guard-length : (n : ℕ) (qs : List (Form × Form)) → length (encode (joinAll 351 g (equalities n qs))) ≡ length (encode (joinAll 351 g (equalities 0 qs)))
+  guard-length n qs = sym (marks-length 0 (joinAll 351 g (equalities n qs))) ∙ (ap length (guard-marks 0 n qs) ∙ marks-length 0 (joinAll 351 g (equalities 0 qs)))
 
-  pub marks-same : (k n m : ℕ) (qs : List (Form × Form)) → length (encode (withGuard g (equalities 0 qs))) ≤ m → mark (withGuard g (equalities 0 qs)) 0 k (replicate m 0) ≡ mark (withGuard g (equalities n qs)) 0 k (replicate m 0)
+  pub marks-same : (k n m : ℕ) (qs : List (Form × Form)) → length (encode (joinAll 351 g (equalities 0 qs))) ≤ m → mark (joinAll 351 g (equalities 0 qs)) 0 k (replicate m 0) ≡ mark (joinAll 351 g (equalities n qs)) 0 k (replicate m 0)
   marks-same k n m qs h =
       let l = guard-length n qs in
-      rw (mark-front (withGuard g (equalities 0 qs)) k m h, mark-front (withGuard g (equalities n qs)) k m (omega arith), guard-marks k n qs, l)
+      rw (mark-front (joinAll 351 g (equalities 0 qs)) k m h, mark-front (joinAll 351 g (equalities n qs)) k m (omega arith), guard-marks k n qs, l)
 
 -- membership by shares
 any-lift : (n : ℕ) (ps : List Place) → anyFilled (map (lifted n) ps) ≡ anyFilled ps
 any-lift n ps = rw (front-lift n ps, length-map ps (lifted n))
 
-fill-shares : (ns : List ℕ) (g : Form) (z : Shares) (ps : List Place) (qs : List (Form × Form)) → z ≡ shares ps qs → fillOffers ns g (offersOf (length ns) z) ≡ filledBody ns ps (withGuard g (equalities (length ns) qs))
+fill-shares : (ns : List ℕ) (g : Form) (z : Shares) (ps : List Place) (qs : List (Form × Form)) → z ≡ shares ps qs → fillOffers ns g (offersOf (length ns) z) ≡ filledBody ns ps (joinAll 351 g (equalities (length ns) qs))
 fill-shares ns g z ps qs e = rw (e, any-lift (length ns) ps)
 
 pub member-shares : (element : Form) (ns : List ℕ) (g value : Form) (ps : List Place) (qs : List (Form × Form)) → share (length ns) (parts value element) (noPlaces (length ns)) ≡ shares ps qs
-    → memberOf element ns g value ≡ filledBody ns ps (withGuard g (equalities (length ns) qs))
+    → memberOf element ns g value ≡ filledBody ns ps (joinAll 351 g (equalities (length ns) qs))
 member-shares element ns g value ps qs e =
     let n = length ns in
     let a : offerAll n (parts value (lift n element)) (noPlaces n) ≡ offersOf n (share n (parts value element) (noPlaces n))

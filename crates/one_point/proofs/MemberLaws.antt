@@ -23,12 +23,13 @@ use Rattle.replace.proofs.OkLaws.{ok-deep}
 use Rattle.one_point.specs.Split.{parts}
 use Rattle.one_point.specs.Partial.{noPlaces}
 use Rattle.one_point.specs.Point.{ofResult}
-use Rattle.one_point.specs.Member.{withGuard, memberOf, membership, memberOutcome}
+use Rattle.one_point.specs.Member.{memberOf, membership, memberOutcome}
 use Rattle.one_point.specs.Internal.Writes.{Wrote}
 use Rattle.one_point.specs.Internal.Reduce.{Cleared}
 use Rattle.one_point.specs.Internal.Member.{Shares, shares, share, equalities, formMarks, MarksAre, MarkedAt, SetIn, SetTold, BodyTold, Membering, filledBody, Filling, leftParts, unshifted, Unshifted}
 use Rattle.one_point.specs.declared.member.Comprehension.{Comprehension}
 use Rattle.one_point.specs.declared.member.Membership.{Membership}
+use Rattle.one_point.specs.Scan.{joinAll}
 use Rattle.one_point.specs.declared.member.Membership.the-variants.{In, Not}
 use Rattle.one_point.proofs.EqualityLaws.{wrote-in}
 use Rattle.one_point.proofs.ScanLimits.{OkParts, parts-ok}
@@ -41,9 +42,9 @@ use Rattle.one_point.proofs.BodyLaws.{read-right, names-part, ok-elemen
 module _ (row lm : List ℕ) (n u : ℕ) (g : Form) (out : List ℕ) (t : Table) (end : ℕ) (o : List ℕ) where
   pub body-end : (z : Shares) → BodyTold row lm n u g out z t end o → end ≤ length o
   unfolding BodyTold
-  body-end (shares ps qs) h = wrote-in 0 end out (encode (withGuard g (equalities u qs))) o (omega arith) (h .1)
+  body-end (shares ps qs) h = wrote-in 0 end out (encode (joinAll 351 g (equalities u qs))) o (omega arith) (h .1)
 
-  pub body-words : (z : Shares) → BodyTold row lm n u g out z t end o → take end o ≡ encode (withGuard g (equalities u (leftParts z)))
+  pub body-words : (z : Shares) → BodyTold row lm n u g out z t end o → take end o ≡ encode (joinAll 351 g (equalities u (leftParts z)))
   unfolding BodyTold Wrote
   body-words (shares ps qs) h = h .1 .1
 
@@ -76,18 +77,18 @@ module _ (row lm names : List ℕ) (n : ℕ) (number : n ≡ length names) (most
     fills-by (shares ps qs) e (tab, wr) =
         let q : leftParts (share n (parts va el) (noPlaces n)) ≡ qs = ap leftParts e in
         let oks : OkParts 63 qs = rw q at left-parts in
-        let room : length (encode (withGuard gd (equalities 0 qs))) ≤ length old = rw q at enough in
-        let mk : marks ≡ mark (withGuard gd (equalities 0 qs)) 0 n (replicate (length marks) 0)
-        = made ∙ (ap (λ (z : List (Form × Form)). mark (withGuard gd (equalities 0 z)) 0 n old) q ∙ ap (λ (l : List ℕ). mark (withGuard gd (equalities 0 qs)) 0 n l) (zeros ∙ ap (λ (k : ℕ). replicate k 0) (sym len))) in
+        let room : length (encode (joinAll 351 gd (equalities 0 qs))) ≤ length old = rw q at enough in
+        let mk : marks ≡ mark (joinAll 351 gd (equalities 0 qs)) 0 n (replicate (length marks) 0)
+        = made ∙ (ap (λ (z : List (Form × Form)). mark (joinAll 351 gd (equalities 0 z)) 0 n old) q ∙ ap (λ (l : List ℕ). mark (joinAll 351 gd (equalities 0 qs)) 0 n l) (zeros ∙ ap (λ (k : ℕ). replicate k 0) (sym len))) in
         let sm = marks-same gd ok-gd n n (length marks) qs (omega arith) in
         let gl = guard-length gd ok-gd n qs in
-        let bw : take stop work′ ≡ encode (withGuard gd (equalities n qs)) = wr .1 in
+        let bw : take stop work′ ≡ encode (joinAll 351 gd (equalities n qs)) = wr .1 in
         record {
           filling =
               record {
                 places = ps;
                 table = rw (← number) tab;
-                body = withGuard gd (equalities n qs);
+                body = joinAll 351 gd (equalities n qs);
                 words = bw;
                 marked = rw (← number) (mk ∙ sm);
                 enough = let l = ap length bw in omega arith;

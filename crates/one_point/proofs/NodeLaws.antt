@@ -10,7 +10,7 @@ use lib.Dec.{eqb}
 use lib.ListN.{length, getD, drop, replicate, length-append, length-drop}
 use lib.Seq.{drop-drop, getD-drop}
 use Rattle.tree.specs.Form.{Form, node, Forms, pick, count, between, encode, encodeAll}
-use Rattle.tree.specs.Tag.{pred, sorts, predsFrom, own, ownOf, shapeOf, predTags}
+use Rattle.tree.specs.Tag.{pred, sorts, ask, kids as kidsOwn, own, ownOf, shapeOf, predTags}
 use Rattle.form.specs.Decode.{head, only, read, got, gots, decode, decodeAll}
 use Rattle.tree.specs.declared.tag.Shape.the-variants.{Preds}
 use Rattle.form.proofs.DecodeLaws.{clash, Ok, ok-node, OkAll, decodeAll-encode, all-sound}
@@ -52,7 +52,7 @@ which : (t : ℕ) (b : Bool) → roleOf t b ≡ S.junction → Which t b
 which t b e = which-by t (eqb t 8) (eqb t 351) (eqb t 352) b (pick (eqb t 251 && not b) S.implication (pick (eqb t 101 && b) S.equality S.other)) refl refl (never (eqb t 251 && not b) (eqb t 101 && b)) e
 
 -- its own word is the number of its children
-count-own : (o ds : List ℕ) (p e : ℕ) → read (predsFrom 2) (o ++ (ds ++ [])) ≡ head o ds p e [] → (c : ℕ) × (o ≡ c ∷ []) × (ds ≡ []) × (p ≡ c) × (e ≡ 0)
+count-own : (o ds : List ℕ) (p e : ℕ) → read (ask 2 4294967295 (λ n. kidsOwn 0 n 0)) (o ++ (ds ++ [])) ≡ head o ds p e [] → (c : ℕ) × (o ≡ c ∷ []) × (ds ≡ []) × (p ≡ c) × (e ≡ 0)
 unfolding read
 count-own [] [] p e q = absurd (clash cc)
 count-own [] (w ∷ ds) p e q = absurd (go (between 2 4294967295 w) q)

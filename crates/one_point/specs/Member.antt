@@ -5,7 +5,7 @@ use mathlib.Core.Option.{Option, none as absent, some}
 use Prim.Native.Nat.{ℕ, suc, _-_}
 use lib.Dec.{eqb}
 use lib.ListN.{length, getD}
-use Rattle.tree.specs.Form.{Form, leaf, node, Forms, none, more, pick, count}
+use Rattle.tree.specs.Form.{Form, leaf, node, Forms, none, more, pick}
 use Rattle.form.specs.Lists.{Place, kept, filled}
 use Rattle.form.specs.Answer.{Outcome, withWork, withForm}
 use Rattle.form.specs.declared.answer.Kind.the-variants.{Predicate}
@@ -13,6 +13,7 @@ use Rattle.subst.specs.Walk.{lift}
 use Rattle.replace.specs.Fill.{quantify}
 use Rattle.one_point.specs.Replacement.{Taken, taken, nothing, accept}
 use Rattle.one_point.specs.Split.{ofTwo, isNil, parts, equal}
+use Rattle.one_point.specs.Scan.{joinAll}
 use Rattle.one_point.specs.Partial.{noPlaces, setPlace, front, instantiatePartial}
 use Rattle.one_point.specs.Point.{ofResult}
 
@@ -36,16 +37,13 @@ unfoldable pub offerAll : ℕ → List (Form × Form) → List Place → Offers
 offerAll n [] ps = offers ps none
 offerAll n (p ∷ rest) ps = offerNext n (equal (p .0) (p .1)) ps (accept n (p .0) (p .1)) (λ qs. offerAll n rest qs)
 
--- guard and unaccepted parts joined, the guard first; the guard alone if there are none
-abbrev pub withGuard : Form → Forms → Form
-withGuard g = elim [ none ↦ g | more f fs ↦ node 351 (count (more g (more f fs)) ∷ []) [] (more g (more f fs)) ]
-
 abbrev pub anyFilled : List Place → Bool
 anyFilled ps = not (eqb (front ps) (length ps))
 
+-- guard and unaccepted parts joined, the guard first, and filled; only quantified where no place was filled
 abbrev pub fillOffers : List ℕ → Form → Offers → Form
 fillOffers ns g (offers ps fs) =
-    pick (anyFilled ps) (instantiatePartial 852 ns ps (withGuard g fs)) (quantify 852 ns (withGuard g fs))
+    pick (anyFilled ps) (instantiatePartial 852 ns ps (joinAll 351 g fs)) (quantify 852 ns (joinAll 351 g fs))
 
 -- the element shifted up by the declarations, equal to the comprehension's value
 abbrev pub memberOf : Form → List ℕ → Form → Form → Form

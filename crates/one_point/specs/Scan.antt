@@ -24,16 +24,18 @@ negate (node t o ds none) = node 8 [] [] (more (node t o ds none) none)
 negate (node t o [] (more f fs)) = pick (eqb t 8) f (node 8 [] [] (more (node t o [] (more f fs)) none))
 negate (node t o (d ∷ ds) (more f fs)) = node 8 [] [] (more (node t o (d ∷ ds) (more f fs)) none)
 
--- an associative node of what is left: of no child it is gone, of one it is that child
+-- what is left of the children that are not gone
 abbrev pub present : List (Option Form) → Forms
 present [] = none
 present (absent ∷ gs) = present gs
 present (some g ∷ gs) = more g (present gs)
 
+-- an associative node of a child and others: of one child it is that child, of none it is gone
+abbrev pub joinAll : ℕ → Form → Forms → Form
+joinAll t f = elim [ none ↦ f | more g gs ↦ node t (count (more f (more g gs)) ∷ []) [] (more f (more g gs)) ]
+
 abbrev pub joined : ℕ → Forms → Option Form
-joined t none = absent
-joined t (more f none) = some f
-joined t (more f (more g fs)) = some (node t (count (more f (more g fs)) ∷ []) [] (more f (more g fs)))
+joined t = elim [ none ↦ absent | more f fs ↦ some (joinAll t f fs) ]
 
 -- 251 without its left is its right, without its right the negated left
 abbrev pub implies : Option Form → Option Form → Option Form

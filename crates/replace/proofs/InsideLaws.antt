@@ -16,9 +16,9 @@ use Rattle.form.specs.Lists.{Place, kept, filled, Entry, entry, placeOf}
 use Rattle.form.proofs.HeadLaws.{between-in, few-names as few-declared}
 use Rattle.form.proofs.DecodeLaws.{Ok, ok-free, ok-bound, ok-node, OkAll, ok-none, ok-more}
 use Rattle.form.proofs.RowLaws.{row-encode}
-use Rattle.subst.specs.Walk.{Binding, inside, outside, binding, Outer, named, dangling, walkIndex, walk, walkAll, up, lift, put, subst, collectIndex, collect, each, eachAll}
+use Rattle.subst.specs.Walk.{Binding, inside, outside, binding, Outer, named, dangling, walkIndex, walk, walkAll, up, lift, put, subst, collectIndex, collect, each}
 use Rattle.subst.specs.Shift.{fall, lower}
-use Rattle.subst.proofs.WalkLaws.{binding-back, and-left, and-right}
+use Rattle.subst.proofs.WalkLaws.{eachAll, binding-back, and-left, and-right}
 use Rattle.subst.proofs.LimitLaws.{small as fits, ok-small as ok-fits}
 use Rattle.subst.proofs.ShiftLaws.{between-high}
 use Rattle.subst.proofs.TreeLaws.{up-up}

@@ -19,7 +19,7 @@ use Rattle.form.specs.declared.answer.Kind.the-variants.{Predicate, Either}
 use Rattle.form.specs.declared.lists.ListKind.{ListKind}
 use Rattle.form.specs.declared.lists.ListKind.the-variants.{Pairs, Places}
 use Rattle.form.proofs.RowLaws.{found-exact}
-use Rattle.subst.specs.Shift.{Shifted, shifted, captured, shift, ofShifted, shiftOutcome}
+use Rattle.subst.specs.Shift.{shift, ofShifted, shiftOutcome}
 use Rattle.subst.specs.Bind.{bind, bindOutcome}
 use Rattle.subst.proofs.CheckedLaws.{row-one}
 use Rattle.replace.specs.Free.{substitute, freeOutcome}
@@ -74,9 +74,9 @@ good-shift : (row : List ℕ) (z : ℤ) (room : ℕ) → Good (shiftOutcome row 
 unfolding shiftOutcome
 good-shift row z room = good-form Either row _ (λ s f. by-case s (shift z f))
   where
-    by-case : (s : Sort) (x : Shifted) → Good (ofShifted s room x)
-    by-case s (shifted g) = good-finish s room g
-    by-case s captured = tt
+    by-case : (s : Sort) (x : Option Form) → Good (ofShifted s room x)
+    by-case s (some g) = good-finish s room g
+    by-case s absent = tt
 
 good-free : (list row : List ℕ) (work room : ℕ) → Good (freeOutcome list row work room)
 unfolding freeOutcome

@@ -21,7 +21,7 @@ use Rattle.form.specs.declared.lists.ListKind.the-variants.{Pairs, Places}
 use Rattle.form.proofs.RowLaws.{found-exact, row-exact}
 use Rattle.subst.specs.Walk.{Binding, inside, outside, binding, collectIndex, collect, collectAll}
 use Rattle.subst.specs.Dangling.{indexOf, insert, insertAll, danglingSet, danglingOutcome}
-use Rattle.subst.specs.Shift.{Shifted, shifted, captured, shift, ofShifted, shiftOutcome}
+use Rattle.subst.specs.Shift.{shift, ofShifted, shiftOutcome}
 use Rattle.subst.specs.Bind.{bind, bindOutcome}
 use Rattle.replace.specs.Free.{substitute, freeOutcome}
 use Rattle.replace.specs.Fill.{Quantified, quantifier, other, quantified, keptCount, fill, ofQuantified, fillOutcome}
@@ -80,9 +80,9 @@ pub shift-short : (row : List ℕ) (offset : ℤ) (room : ℕ) → Short (shiftO
 unfolding shiftOutcome
 shift-short row offset room = form-short Either row (λ s f. ofShifted s room (shift offset f)) (λ s f. by s (shift offset f))
   where
-    by : (s : Sort) (g : Shifted) → Short (ofShifted s room g)
-    by s (shifted g) = finished s room g
-    by s captured = refused 6
+    by : (s : Sort) (g : Option Form) → Short (ofShifted s room g)
+    by s (some g) = finished s room g
+    by s absent = refused 6
 
 pub bind-short : (names row : List ℕ) (room : ℕ) → Short (bindOutcome names row room)
 unfolding bindOutcome

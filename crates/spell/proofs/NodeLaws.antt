@@ -11,11 +11,11 @@ use lib.ListN.{length, getD, take, drop, length-append, length-take, length-drop
 use lib.Seq.{take-at}
 use Rattle.tree.specs.Form.{Leaf, free, bound, leaf, node, Forms, none, pick, encode, encodeAll}
 use Rattle.tree.specs.Tag.{Sort, expr, ownOf, exprTags, shapeOf, own, sorts}
-use Rattle.form.specs.Decode.{Head, head, bad, read, no-form, Gots, gots, no-forms, first, leafAt, isLeaf, make, close, decodeAll, branch, decode}
+use Rattle.form.specs.Decode.{Head, head, bad, read, no-form, Gots, gots, no-forms, leafAt, isLeaf, make, close, decodeAll, branch, decode}
 use Rattle.form.specs.Internal.Reads.{headAt, startsLeaf}
 use Rattle.form.specs.declared.head.Head as code
 use Rattle.form.specs.declared.head.Head.the-variants.{Kids, None}
-use Rattle.form.proofs.DecodeLaws.{clash, read-exact, read-at, all-sound, made}
+use Rattle.form.proofs.DecodeLaws.{clash, high-tag, read-exact, read-at, all-sound, made}
 use Rattle.form.proofs.HeadLaws.{gone}
 use Rattle.form.proofs.ReaderLaws.{no-word, node-here, two-words, leaf-room}
 use Rattle.spell.specs.Spell.{decimal, spaced, bracket, spellLeaf, spell, spellAll}
@@ -89,7 +89,7 @@ module _ (s : Sort) (row : List ℕ) (at : ℕ) where
         let ej : j ≡ i + length (spellAll ks) = cc (v .0) in
         let eq : q ≡ p + length (encodeAll ks) = cc (v .0) in
         let all = wrote-both u i k (opening t (o ++ ds)) (spellAll ks ++ (93 ∷ [])) m m₁ m₃ w (wrote-both i j k (spellAll ks) (93 ∷ []) m₁ m₂ m₃ (ej, v .1) f) in
-        let sp : opening t (o ++ ds) ++ (spellAll ks ++ (93 ∷ [])) ≡ spell (make t o ds ks) = bracket-is t (o ++ ds) (spellAll ks) ∙ made-spell t o ds ks (isLeaf t) (leafAt t (first o)) only b in
+        let sp : opening t (o ++ ds) ++ (spellAll ks ++ (93 ∷ [])) ≡ spell (make t o ds ks) = bracket-is t (o ++ ds) (spellAll ks) ∙ made-spell t o ds ks (isLeaf t) (leafAt t (getD o 0 0)) only b in
         let len : length (encode (make t o ds ks)) ≡ suc (length o + (length ds + length (encodeAll ks))) = rw (← b, length-append, length-append) refl in
         let ek : k ≡ u + length (spell (make t o ds ks)) = all .0 ∙ ap (λ n. u + length n) sp in
         let en : q ≡ at + length (encode (make t o ds ks)) = omega arith in
@@ -172,7 +172,7 @@ module _ (row : List ℕ) (at d : ℕ) where
       word-printed zero d w ws l e h = absurd (clash cc)
       word-printed (suc zero) d w ws l e h = rw (le-leb 0 w (omega arith), e) (rw (h .0), h .1)
       word-printed (suc (suc zero)) d w ws l e h = rw (le-leb 0 w (omega arith), e) (rw (h .0), h .1)
-      word-printed (suc (suc (suc t))) d w ws l e h = absurd (clash cc)
+      word-printed (suc (suc (suc t))) d w ws l e h = let q = high-tag t in absurd (clash cc)
 
       both : (t d w : ℕ) (ws : List ℕ) (x y : Bool) → isLeaf t ≡ x → leb w 65535 ≡ y → (x && y) ≡ true → Wrote o (bracket t (w ∷ []) []) a b r → Printed at o (decode (suc d) expr (t ∷ w ∷ ws)) a b (End (at + 2) r)
       both t d w ws true true l e k h = word-printed t d w ws l e h

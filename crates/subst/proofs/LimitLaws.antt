@@ -8,14 +8,14 @@ use native.Mathlib.Omega.{arith}
 use borrow.Author.Tests.{le-leb}
 use lib.Dec.{leb}
 use lib.ListN.{length, length-append}
-use Rattle.tree.specs.Form.{Leaf, free, bound, Form, leaf, node, Forms, none, more, between, leafWords, encode, encodeAll}
+use Rattle.tree.specs.Form.{Leaf, free, bound, Form, leaf, node, Forms, none, more, between, encode, encodeAll}
 use Rattle.tree.specs.Tag.{Sort, expr}
 use Rattle.form.specs.Decode.{head, only, Got, got, no-form, Gots, gots, no-forms, isLeaf, close, chain, branch, decode, decodeAll, whole, rowForm}
 use Rattle.form.specs.Answer.{isOne}
 use Rattle.form.proofs.HeadLaws.{few-names}
 use Rattle.form.proofs.DecodeLaws.{Ok, ok-free, ok-bound, ok-node, OkAll, ok-none, ok-more, read-free, read-bound}
-use Rattle.subst.specs.Walk.{Binding, inside, outside, binding, Outer, named, dangling, walkIndex, walk, walkAll, collectIndex, collect, each, eachAll}
-use Rattle.subst.proofs.WalkLaws.{binding-back}
+use Rattle.subst.specs.Walk.{Binding, inside, outside, binding, Outer, named, dangling, walkIndex, walk, walkAll, collectIndex, collect, each}
+use Rattle.subst.proofs.WalkLaws.{eachAll, binding-back}
 
 -- the numbers of a well-formed tree are small
 abbrev pub small : ℕ → Outer → Bool
@@ -97,7 +97,8 @@ chain-if true true f fs x r k e = rw e
 chain-if true false f fs x r k e = rw e
 chain-if false c f fs x r k e = refl
 
-two-words : (y : Leaf) → length (leafWords y) ≡ 2
+two-words : (y : Leaf) → length (encode (leaf y)) ≡ 2
+unfolding encode
 two-words (free n) = refl
 two-words (bound n) = refl
 

@@ -8,10 +8,11 @@ use native.Mathlib.Omega.{arith}
 use lib.ListN.{length, length-append, set, replicate}
 use Rattle.tree.specs.Form.{Leaf, free, bound, Form, leaf, node, Forms, none, more, encode, encodeAll}
 use Rattle.form.specs.Internal.Reads.{mark, markAll}
-use Rattle.subst.specs.Walk.{Outer, walkLeaf, walk, walkAll, collectLeaf, collect, each, eachAll}
+use Rattle.subst.specs.Walk.{Outer, walkLeaf, walk, walkAll, collectLeaf, collect, each}
 use Rattle.subst.specs.Internal.Items.{items, rewritten, allItems}
 use Rattle.subst.specs.declared.items.Item.{Item}
 use Rattle.subst.specs.declared.items.Item.the-variants.{Plain, Ident}
+use Rattle.subst.proofs.WalkLaws.{eachAll}
 
 abbrev pub identOf : ℕ → Leaf → Item
 identOf k (free n) = Ident k 1 n

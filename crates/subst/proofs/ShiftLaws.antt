@@ -2,6 +2,7 @@
 use mathlib.Core.Path.{_≡_, refl, ap, sym}
 use mathlib.Core.Bool.{Bool, true, false, _&&_}
 use mathlib.Core.List.{List, [], _∷_}
+use mathlib.Core.Option.{none as absent, some}
 use Prim.Native.Nat.{ℕ, suc, _+_, _-_, _≤_, _<_}
 use native.Mathlib.Omega.{arith}
 use borrow.Author.Tests.{ne-eqb, le-leb, leb-true, ltb-true, lt-ltb, le-ltb}
@@ -17,7 +18,7 @@ use Rattle.form.specs.declared.answer.Kind.the-variants.{Either}
 use Rattle.form.proofs.DecodeLaws.{clash, Ok}
 use Rattle.form.proofs.HeadLaws.{between-in}
 use Rattle.subst.specs.Walk.{Binding, inside, outside, binding, Outer, named, dangling, walkIndex, walkLeaf, walk, up, lift, put, collectIndex, collectLeaf, each}
-use Rattle.subst.specs.Shift.{reaches, fall, lower, shifted, captured, shift, ofShifted, shiftOutcome}
+use Rattle.subst.specs.Shift.{reaches, fall, lower, shift, ofShifted, shiftOutcome}
 use Rattle.subst.specs.Internal.Items.{sizeOf, wordsOf, upBy, downBy, itemIn, moveWord, moveItem, movedWords, lowOrHigh, sameLength, shiftWords}
 use Rattle.subst.specs.declared.items.Item.{Item}
 use Rattle.subst.specs.declared.items.Item.the-variants.{Plain, Ident}
@@ -178,12 +179,12 @@ module _ (s : Sort) (f : Form) (ok : Ok 64 s f) (short : length (encode f) ≤ 8
       let t = each-all small (fine (put (fall d)) (downLeaf d) (down-leaf d)) (down-fine d) 0 f (ok-small ok 0) in
       rw (inside-limits (put (fall d)) (downLeaf d) (down-leaf d) s f ok short, t, walk-length (put (fall d)) (downLeaf d) (down-leaf d) 0 f)
 
-  down-tree : (d : ℕ) → shiftWords (encode f) (mark f 0 0 (replicate n 0)) 0 (suc d) room ≡ ofShifted s room (pick (each (reaches (suc d)) 0 f) (shifted (lower (suc d) f)) captured)
+  down-tree : (d : ℕ) → shiftWords (encode f) (mark f 0 0 (replicate n 0)) 0 (suc d) room ≡ ofShifted s room (pick (each (reaches (suc d)) 0 f) (some (lower (suc d) f)) absent)
   down-tree d =
       let t = each-agree small (inRange (suc d) 65536) (reaches (suc d)) (down-range (suc d)) 0 f (ok-small ok 0) in
       rw (words-tree 0 (suc d), ← t, ne-eqb (suc d) 0 (λ e. omega arith)) (go (each (inRange (suc d) 65536) 0 f) refl)
     where
-      go : (b : Bool) → each (inRange (suc d) 65536) 0 f ≡ b → pick b (pick (leb (length (encode f)) room) (answer (encode (walk (moved 0 (suc d)) 0 f))) (refusal 14)) (refusal 6) ≡ ofShifted s room (pick b (shifted (lower (suc d) f)) captured)
+      go : (b : Bool) → each (inRange (suc d) 65536) 0 f ≡ b → pick b (pick (leb (length (encode f)) room) (answer (encode (walk (moved 0 (suc d)) 0 f))) (refusal 14)) (refusal 6) ≡ ofShifted s room (pick b (some (lower (suc d) f)) absent)
       go true q = rw (walk-agree (inRange (suc d) 65536) (moved 0 (suc d)) (put (fall (suc d))) (down-same (suc d)) 0 f q) (sym (down-finish (suc d)))
       go false q = refl
 

@@ -3,6 +3,7 @@
 use mathlib.Core.Path.{_≡_, refl, ap, sym, _∙_}
 use mathlib.Core.Bool.{Bool, true, false}
 use mathlib.Core.List.{List}
+use mathlib.Core.Option.{none as absent, some}
 use Prim.Native.Nat.{ℕ, suc, _+_, _-_, _≤_}
 use native.Mathlib.Omega.{arith}
 use borrow.Author.Tests.{le-leb, leb-true, leb-false}
@@ -16,10 +17,10 @@ use Rattle.form.specs.Answer.{answer, finish}
 use Rattle.form.specs.declared.answer.Kind.the-variants.{Either}
 use Rattle.form.proofs.DecodeLaws.{clash}
 use Rattle.form.proofs.RowLaws.{row-encode}
-use Rattle.subst.specs.Walk.{Binding, inside, outside, binding, Outer, named, dangling, walkIndex, walk, walkAll, up, lift, put, collectIndex, collect, each, eachAll}
+use Rattle.subst.specs.Walk.{Binding, inside, outside, binding, Outer, named, dangling, walkIndex, walk, walkAll, up, lift, put, collectIndex, collect, each}
 use Rattle.subst.specs.Dangling.{isNamed, closed}
-use Rattle.subst.specs.Shift.{reaches, fall, lower, shifted, captured, shift, shiftOutcome}
-use Rattle.subst.proofs.WalkLaws.{binding-add, binding-back, fuse-level, shift-shift, self, each-agree, each-all, walk-agree}
+use Rattle.subst.specs.Shift.{reaches, fall, lower, shift, shiftOutcome}
+use Rattle.subst.proofs.WalkLaws.{eachAll, binding-add, binding-back, fuse-level, shift-shift, self, each-agree, each-all, walk-agree}
 use Rattle.subst.proofs.CheckedLaws.{found-row}
 
 -- the walk that puts each identifier for itself
@@ -66,10 +67,10 @@ closed-reaches n f h = each-all isNamed (reaches n) ok 0 f h
     ok k (dangling j) q = absurd (clash cc)
 
 -- a form with nothing dangling is unchanged by every shift
-pub shift-closed : (z : ℤ) (f : Form) → closed f ≡ true → shift z f ≡ shifted f
+pub shift-closed : (z : ℤ) (f : Form) → closed f ≡ true → shift z f ≡ some f
 unfolding shift walk
-shift-closed (pos n) f h = ap shifted (closed-walk (up n) (λ k m. refl) f h)
-shift-closed (negsuc n) f h = rw (closed-reaches (suc n) f h) (ap shifted (closed-walk (put (fall (suc n))) (λ k m. refl) f h))
+shift-closed (pos n) f h = ap some (closed-walk (up n) (λ k m. refl) f h)
+shift-closed (negsuc n) f h = rw (closed-reaches (suc n) f h) (ap some (closed-walk (put (fall (suc n))) (λ k m. refl) f h))
 
 -- and so is its row
 pub shift-closed-row : (row : List ℕ) (z : ℤ) (room : ℕ) (s : Sort) (f : Form) → formOf Either row ≡ found s f → closed f ≡ true → length row ≤ room
@@ -128,21 +129,21 @@ pub reaches-both : (a b : ℕ) (f : Form) → each (reaches a) 0 f ≡ true → 
 reaches-both a b f h =
     each-walk (reaches b) (put (fall a)) 0 f ∙ each-agree (reaches a) (after (reaches b) (put (fall a))) (reaches (a + b)) (reach-after a b) 0 f h
 
-shifted-is : (b : Bool) (f g : Form) → pick b (shifted f) captured ≡ shifted g → (b ≡ true) × (f ≡ g)
+shifted-is : (b : Bool) (f g : Form) → pick b (some f) absent ≡ some g → (b ≡ true) × (f ≡ g)
 shifted-is true f g e = (refl, cc)
 shifted-is false f g e = absurd (clash cc)
 
 shift-sum : (a b : ℕ) (f g : Form) → each (reaches a) 0 f ≡ true → lower a f ≡ g → each (reaches b) 0 g ≡ true
-    → pick (each (reaches (a + b)) 0 f) (shifted (lower (a + b) f)) captured ≡ shifted (lower b g)
+    → pick (each (reaches (a + b)) 0 f) (some (lower (a + b) f)) absent ≡ some (lower b g)
 shift-sum a b f g p q r =
     let e : each (reaches (a + b)) 0 f ≡ true = sym (reaches-both a b f p) ∙ (rw q r) in
-    rw (e, ← q) (ap shifted (sym (down-down a b f)))
+    rw (e, ← q) (ap some (sym (down-down a b f)))
 
 -- two shifts downward are one by their sum: -(a + 1) - (b + 1) is -(a + b + 2)
-pub shift-down-down : (a b : ℕ) (f g h : Form) → shift (negsuc a) f ≡ shifted g → shift (negsuc b) g ≡ shifted h → shift (negsuc (suc (a + b))) f ≡ shifted h
+pub shift-down-down : (a b : ℕ) (f g h : Form) → shift (negsuc a) f ≡ some g → shift (negsuc b) g ≡ some h → shift (negsuc (suc (a + b))) f ≡ some h
 unfolding shift
 shift-down-down a b f g h p q =
     let (c, d) = shifted-is (each (reaches (suc a)) 0 f) (lower (suc a) f) g p in
     let (x, y) = shifted-is (each (reaches (suc b)) 0 g) (lower (suc b) g) h q in
     let n : suc (suc (a + b)) ≡ suc a + suc b = omega arith in
-    rw n (shift-sum (suc a) (suc b) f g c d x ∙ ap shifted y)
+    rw n (shift-sum (suc a) (suc b) f g c d x ∙ ap some y)

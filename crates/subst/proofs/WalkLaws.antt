@@ -8,7 +8,11 @@ use native.Mathlib.Omega.{arith}
 use lib.ListN.{length}
 use Rattle.tree.specs.Form.{Leaf, free, bound, Form, leaf, node, Forms, none, more}
 use Rattle.form.proofs.DecodeLaws.{clash}
-use Rattle.subst.specs.Walk.{Binding, inside, outside, binding, Outer, named, dangling, walkIndex, walkLeaf, walk, walkAll, up, lift, put, subst, collectIndex, collectLeaf, collect, each, eachAll}
+use Rattle.subst.specs.Walk.{Binding, inside, outside, binding, Outer, named, dangling, walkIndex, walkLeaf, walk, walkAll, up, lift, put, subst, collectIndex, collectLeaf, collect, collectAll, each}
+
+-- the test on several forms
+abbrev pub eachAll : (ℕ → Outer → Bool) → ℕ → Forms → Bool
+eachAll p k fs = collectAll true _&&_ p k fs
 
 pub binding-inside : (k i : ℕ) → binding k i ≡ inside → i < k
 binding-inside zero i e = absurd (clash cc)

@@ -1,6 +1,6 @@
 -- The dangling indices of a form, ascending and each once; and the answer of the call that writes them.
 use mathlib.Core.Bool.{Bool, true, false}
-use mathlib.Core.List.{List, [], _∷_, _++_}
+use mathlib.Core.List.{List, [], _∷_, _++_, foldl}
 use Prim.Native.Nat.{ℕ}
 use lib.Dec.{ltb, eqb, leb}
 use lib.ListN.{length}
@@ -17,8 +17,7 @@ insert i [] = i ∷ []
 insert i (j ∷ js) = let later = j ∷ insert i js in pick (ltb i j) (i ∷ j ∷ js) (pick (eqb i j) (j ∷ js) later)
 
 abbrev pub insertAll : List ℕ → List ℕ → List ℕ
-insertAll js [] = js
-insertAll js (i ∷ is) = insertAll (insert i js) is
+insertAll js is = foldl (λ set i. insert i set) js is
 
 unfoldable pub danglingSet : Form → List ℕ
 danglingSet f = insertAll [] (collect [] _++_ indexOf 0 f)

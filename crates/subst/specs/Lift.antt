@@ -21,7 +21,7 @@ abbrev pub ofCopy : Outcome → Part
 ofCopy = elim [ answer ws ↦ copy ws | refusal n ↦ empty ]
 
 abbrev pub liftFound : ℕ → ℕ → Found → Part
-liftFound depth room (found s f) = let c = ofCopy (finish s room (lift depth f)) in pick (eqb depth 0 || closed f) base c
+liftFound depth room (found s f) = pick (eqb depth 0 || closed f) base (ofCopy (finish s room (lift depth f)))
 liftFound depth room missing = empty
 
 -- the base's row, the depth, the length of the work row

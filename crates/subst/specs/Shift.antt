@@ -1,6 +1,7 @@
 -- Shift: a signed offset is added to each dangling index; one that would come below its depth is a capture.
 use mathlib.Core.Bool.{Bool, true}
 use mathlib.Core.List.{List}
+use mathlib.Core.Option.{Option, none as absent, some}
 use Prim.Native.Nat.{ℕ, suc, _-_}
 use lib.Dec.{leb}
 use lib.IntN.{ℤ, pos, negsuc}
@@ -20,16 +21,13 @@ fall n = elim [ named m ↦ leaf (free m) | dangling j ↦ leaf (bound (j - n)) 
 abbrev pub lower : ℕ → Form → Form
 lower n f = subst (fall n) f
 
-pub data Shifted : Type 0 where
-  shifted : Form → Shifted
-  captured : Shifted
+-- nothing where a dangling index would come below its depth
+unfoldable pub shift : ℤ → Form → Option Form
+shift (pos n) f = some (lift n f)
+shift (negsuc n) f = pick (each (reaches (suc n)) 0 f) (some (lower (suc n) f)) absent
 
-unfoldable pub shift : ℤ → Form → Shifted
-shift (pos n) f = shifted (lift n f)
-shift (negsuc n) f = pick (each (reaches (suc n)) 0 f) (shifted (lower (suc n) f)) captured
-
-abbrev pub ofShifted : Sort → ℕ → Shifted → Outcome
-ofShifted s room = elim [ shifted g ↦ finish s room g | captured ↦ refusal 6 ]
+abbrev pub ofShifted : Sort → ℕ → Option Form → Outcome
+ofShifted s room = elim [ some g ↦ finish s room g | absent ↦ refusal 6 ]
 
 unfoldable pub shiftOutcome : List ℕ → ℤ → ℕ → Outcome
 shiftOutcome row offset room = withForm Either row (λ s f. ofShifted s room (shift offset f))

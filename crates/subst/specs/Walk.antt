@@ -66,6 +66,3 @@ unfoldable mutual
 -- does p hold of each outer identifier?
 abbrev pub each : (ℕ → Outer → Bool) → ℕ → Form → Bool
 each p k f = collect true _&&_ p k f
-
-abbrev pub eachAll : (ℕ → Outer → Bool) → ℕ → Forms → Bool
-eachAll p k fs = collectAll true _&&_ p k fs

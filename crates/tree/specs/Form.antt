@@ -18,13 +18,10 @@ mutual
     none : Forms
     more : Form → Forms → Forms
 
-abbrev pub leafWords : Leaf → List ℕ
-leafWords = elim [ free n ↦ 1 ∷ n ∷ [] | bound i ↦ 2 ∷ i ∷ [] ]
-
 -- the row of a form: prefix order
 unfoldable mutual
   pub encode : Form → List ℕ
-  encode (leaf x) = leafWords x
+  encode (leaf x) = elim x [ free n ↦ 1 ∷ n ∷ [] | bound i ↦ 2 ∷ i ∷ [] ]
   encode (node t o ds ks) = t ∷ (o ++ (ds ++ encodeAll ks))
 
   pub encodeAll : Forms → List ℕ

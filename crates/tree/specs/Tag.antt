@@ -16,29 +16,17 @@ pub data Own : Type 0 where
   kids : ℕ → ℕ → ℕ → Own
   wrong : Own
 
-abbrev pub word : ℕ → Own
-word hi = ask 0 hi (λ n. kids 0 0 0)
-
-abbrev pub exprsFrom : ℕ → Own
-exprsFrom least = ask least 4294967295 (λ n. kids 0 0 n)
-
-abbrev pub predsFrom : ℕ → Own
-predsFrom least = ask least 4294967295 (λ n. kids 0 n 0)
-
-abbrev pub declare : ℕ → Own
-declare e = ask 1 32 (λ n. kids n 1 e)
-
 -- names and indices are at most 65,535, a literal is any word
 unfoldable pub ownOf : Shape → Own
 ownOf Unknown = wrong
 ownOf (Plain p e) = kids 0 p e
-ownOf Name = word 65535
-ownOf Value = word 4294967295
-ownOf (Exprs m) = exprsFrom m
-ownOf (Preds m) = predsFrom m
-ownOf Apply = ask 0 65535 (λ n. exprsFrom 0)
-ownOf Compr = ask 0 3 (λ n. declare 1)
-ownOf Quant = declare 0
+ownOf Name = ask 0 65535 (λ n. kids 0 0 0)
+ownOf Value = ask 0 4294967295 (λ n. kids 0 0 0)
+ownOf (Exprs m) = ask m 4294967295 (λ n. kids 0 0 n)
+ownOf (Preds m) = ask m 4294967295 (λ n. kids 0 n 0)
+ownOf Apply = ask 0 65535 (λ name. ask 0 4294967295 (λ n. kids 0 0 n))
+ownOf Compr = ask 0 3 (λ form. ask 1 32 (λ n. kids n 1 1))
+ownOf Quant = ask 1 32 (λ n. kids n 1 0)
 
 -- tables of ranges: the first tag, the last, their shape
 abbrev pub Tags : Type 0

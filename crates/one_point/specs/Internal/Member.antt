@@ -21,7 +21,7 @@ use Rattle.replace.specs.Internal.Pieces.{part, headWords, placedRow}
 use Rattle.one_point.specs.Replacement.{indexOf}
 use Rattle.one_point.specs.Split.{equal, parts}
 use Rattle.one_point.specs.Partial.{noPlaces, instantiatePartial}
-use Rattle.one_point.specs.Member.{isFree, anyFilled, withGuard, memberOf, membership}
+use Rattle.one_point.specs.Member.{isFree, anyFilled, memberOf, membership}
 use Rattle.one_point.specs.Internal.Parts.{readAll, Beside}
 use Rattle.one_point.specs.Internal.Rest.{innerEnd}
 use Rattle.one_point.specs.Internal.Reduce.{innerStart}
@@ -31,6 +31,7 @@ use Rattle.one_point.specs.declared.sides.Index.{Index}
 use Rattle.one_point.specs.declared.sides.Index.the-variants.{Bound, Unbound}
 use Rattle.one_point.specs.declared.member.Comprehension.{Comprehension}
 use Rattle.one_point.specs.declared.member.Membership.{Membership}
+use Rattle.one_point.specs.Scan.{joinAll}
 use Rattle.one_point.specs.declared.member.Membership.the-variants.{In, Not}
 
 -- the places that parts fill, each by its side of the element, and the parts that are left
@@ -142,7 +143,7 @@ SetTold row Not = (f : Form) → decode 64 pred row ≡ got f [] → membership 
 
 -- guard and equalities as the body, with the places in the table
 unfoldable pub BodyTold : List ℕ → List ℕ → ℕ → ℕ → Form → List ℕ → Shares → Table → ℕ → List ℕ → Type 0
-BodyTold row lm n u g out (shares ps qs) t end out′ = TableIs row lm n t ps × Wrote 0 out (encode (withGuard g (equalities u qs))) end out′
+BodyTold row lm n u g out (shares ps qs) t end out′ = TableIs row lm n t ps × Wrote 0 out (encode (joinAll 351 g (equalities u qs))) end out′
 
 -- a row that is an element in a comprehension, with the marks of the element, and a work row
 pub record Membering (row lm : List ℕ) (c : Comprehension) (work : ℕ) : Type 0 where
@@ -200,7 +201,7 @@ abbrev pub leftParts : Shares → List (Form × Form)
 leftParts (shares ps qs) = qs
 
 abbrev pub unshifted : ℕ → Form → Form → Form → Form
-unshifted n g v e = withGuard g (equalities 0 (leftParts (share n (parts v e) (noPlaces n))))
+unshifted n g v e = joinAll 351 g (equalities 0 (leftParts (share n (parts v e) (noPlaces n))))
 
 unfoldable pub Unshifted : List ℕ → Comprehension → ℕ → List ℕ → Type 0
 Unshifted row c end work = (x : SetIn row c) → take end work ≡ encode (unshifted (c .n) (x .guard) (x .value) (x .element))
