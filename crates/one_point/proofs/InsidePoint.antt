@@ -76,7 +76,7 @@ headNames t ns ps g j n = let stay = keptNames (map (lowerPlace n) (drop j ps)) 
 
 -- some declarations of a quantifier filled by small expressions
 module _ (t : ℕ) (which : (eqb t 851 || eqb t 852) ≡ true) (ns : List ℕ) (names : areNames ns ≡ true) (most : length ns ≤ 32) (ps : List Place) (all : length ps ≡ length ns) (h : SmallPlaces ps)
-    (g : Form) (ok : Ok 51 pred g) where
+    (g : Form) (ok : Ok 57 pred g) where
   pub rest-inside : (j n : ℕ) → length (headNames t ns ps g j n) ≤ 32 → Ok 64 pred (putRound t (take j ns) (fill t (drop j ns) (map (lowerPlace n) (drop j ps)) g))
   unfolding fill
   rest-inside j n l =
@@ -117,14 +117,14 @@ module _ (t : ℕ) (which : (eqb t 851 || eqb t 852) ≡ true) (ns : List ℕ) (
       rw (front-is (length ns) i e low, from-front (length ns) i e low, ← point-stays t which ns i e low most tb list lm number words there ok-e over g ok marks after marked)
       (head-few t _ h)
 
-  pub point-row : (sure : Bool) → (sure ≡ true → Small e × Ok 51 pred g) → (room : ℕ)
+  pub point-row : (sure : Bool) → (sure ≡ true → Small e × Ok 57 pred g) → (room : ℕ)
       → partialRow sure t (take (length ns - suc i) ns) (drop (length ns - suc i) ns) tb list lm (encode g) marks room ≡ finish pred room (instantiatePartial t ns ps g)
   point-row sure h room =
       let hd = partialHead t (take (length ns - suc i) ns) (drop (length ns - suc i) ns) tb (encode g) in
       rw (point-words t which ns i e low most tb list lm number words there ok-e over g ok marks after marked)
       (emit-sure (leb (length hd) 34 && sure) pred room (instantiatePartial t ns ps g) (λ y l. within (leb-true (length hd) 34 (and-left (leb (length hd) 34) sure y)) (h (and-right (leb (length hd) 34) sure y)) l))
     where
-      within : length (partialHead t (take (length ns - suc i) ns) (drop (length ns - suc i) ns) tb (encode g)) ≤ 34 → Small e × Ok 51 pred g → length (encode (instantiatePartial t ns ps g)) ≤ 8192
+      within : length (partialHead t (take (length ns - suc i) ns) (drop (length ns - suc i) ns) tb (encode g)) ≤ 34 → Small e × Ok 57 pred g → length (encode (instantiatePartial t ns ps g)) ≤ 8192
           → isOne (rowForm pred (encode (instantiatePartial t ns ps g))) ≡ true
       within a b l =
           point-fits t which ns names most ps (length-set (noPlaces (length ns)) (length ns - suc i) (filled e) ∙ length-replicate (length ns) kept) (one-small (length ns) i e low (b .0)) g (b .1) (names-few a) l

@@ -114,16 +114,16 @@ marking-of part pm pm′ f h is m l = record { enough = let e = h .enough in ome
 pub fresh-cleared : (row : List ℕ) (n : ℕ) → length row ≤ n → Cleared row (replicate n 0)
 fresh-cleared row n h = record { zeros = ap (λ (k : ℕ). replicate k 0) (sym (length-replicate n 0)); enough = rw length-replicate h }
 
--- a rest that is read as a predicate at most 51 deep
-module _ (u : ℕ) (few : u ≤ 65535) (row : List ℕ) (f : Form) (is : decode 63 pred row ≡ got f []) (a b : List ℕ) (r : Step) (q : ℕ) (t : Told 0 u (decodeIn 51 u pred row) a b r) (e : r ≡ End q) where
-  pub shallow-rest : Ok 51 pred f × (b ≡ mark f 0 u a)
+-- a rest that is read as a predicate at most 57 deep
+module _ (u : ℕ) (few : u ≤ 65535) (row : List ℕ) (f : Form) (is : decode 63 pred row ≡ got f []) (a b : List ℕ) (r : Step) (q : ℕ) (t : Told 0 u (decodeIn 57 u pred row) a b r) (e : r ≡ End q) where
+  pub shallow-rest : Ok 57 pred f × (b ≡ mark f 0 u a)
   shallow-rest =
-      let (g, x, d, l, m) = told-end 0 u (decode 51 pred row) a b r q (told-plain 0 51 u pred row a b r (omega arith) few t) e in
+      let (g, x, d, l, m) = told-end 0 u (decode 57 pred row) a b r q (told-plain 0 57 u pred row a b r (omega arith) few t) e in
       go g x d m
     where
-      go : (g : Form) (x : List ℕ) → decode 51 pred row ≡ got g x → b ≡ mark g 0 u a → Ok 51 pred f × (b ≡ mark f 0 u a)
+      go : (g : Form) (x : List ℕ) → decode 57 pred row ≡ got g x → b ≡ mark g 0 u a → Ok 57 pred f × (b ≡ mark f 0 u a)
       go g x d m =
-          let (w, o) = decode-sound 51 pred row g x d in
+          let (w, o) = decode-sound 57 pred row g x d in
           let c : got g x ≡ got f [] = sym (decode-encode (ok-deep o 63 (omega arith)) x) ∙ (ap (decode 63 pred) (sym w) ∙ is) in
           let z : g ≡ f = cc in
           (rw z at o, rw z at m)
@@ -147,7 +147,7 @@ module _ (t : ℕ) (ns : List ℕ) (i : ℕ) (part rest : List ℕ) (h : Placing
   outcome-is room = rw (h .is-part, h .is-rest)
 
   module _ (pm : List ℕ) (k : Marking part pm) (marks marks′ : List ℕ) (c : Cleared rest marks) (is : marks′ ≡ mark (h .form) 0 (i + 1) marks) where
-    pub placed-row : (sure : Bool) → (sure ≡ true → Small (h .by) × Ok 51 pred (h .form)) → (p : ℕ) → p ≡ length ns - 1 - i → (room : ℕ)
+    pub placed-row : (sure : Bool) → (sure ≡ true → Small (h .by) × Ok 57 pred (h .form)) → (p : ℕ) → p ≡ length ns - 1 - i → (room : ℕ)
         → partialRow sure t (take p ns) (drop p ns) (oneTable (length ns - p) (length part)) part pm rest marks′ room ≡ placedOutcome t ns i part rest room
     placed-row sure inside p e room =
         let w = whole-pred rest (h .form) (h .is-rest) in

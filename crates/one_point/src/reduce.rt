@@ -39,7 +39,7 @@ fn place_deep(
     put_rest(tag, names, p, false, part, part_marks, rest, &marks, out)
 }
 
-// The same, with marks for the rest, which is read first as a predicate at most 51 deep.
+// The same, with marks for the rest, which is read first as a predicate at most 57 deep.
 fn place_in(
     tag: u32,
     names: &[u32],

@@ -200,7 +200,7 @@ module _ (list : List ℕ) (t : Table) (work : List ℕ) (n : ℕ) (y : Placing 
     fill-said : fillOutcome list row wl room ≡ finish pred room (fill (q .tag) (q .decls) (map placeOf (y .es)) (q .body))
     fill-said = fill-counted list row wl room enough (take (length row) work₀) x short (y .es) (y .is) q ∙ rw (eq-eqb (length (y .es)) (length (q .decls)) (sym (length-map (y .es) placeOf) ∙ ps-count))
 
-    module _ (b : Bool) (shallow : b ≡ true → Ok 52 (x .sort) (x .form)) where
+    module _ (b : Bool) (shallow : b ≡ true → Ok 58 (x .sort) (x .form)) where
       abbrev result : Form
       result = fill (q .tag) (q .decls) (map placeOf (y .es)) (q .body)
 

@@ -229,7 +229,7 @@ module _ (list : List ℕ) (t : Table) (work : List ℕ) (y : Pairing list t wor
     free-said : freeOutcome list row wl room ≡ finish (x .sort) room (substitute (y .es) (x .form))
     free-said = free-named list row wl room enough (take (length row) work₀) x short (y .es) (y .is) ∙ rw (y .good)
 
-    pub free-row : (b : Bool) → (b ≡ true → Ok 52 (x .sort) (x .form)) → replaced (isSure b t list) (kindFor (asExpr Either row)) [] (freePlan t) list (drop 8192 work) row work room ≡ freeOutcome list row wl room
+    pub free-row : (b : Bool) → (b ≡ true → Ok 58 (x .sort) (x .form)) → replaced (isSure b t list) (kindFor (asExpr Either row)) [] (freePlan t) list (drop 8192 work) row work room ≡ freeOutcome list row wl room
     free-row b shallow =
         free-built (isSure b t list) (λ s l. free-fits (y .es) (listed-small Pairs list (y .es) (y .is) (y .few) b (rw (y .table) at s)) (shallow (sure-shallow b t list s)) l) ∙ sym free-said
 

@@ -107,9 +107,9 @@ up-ok n k (dangling j) l h = let g = leb-true (k + j) 63487 h in ok-bound (betwe
 pub lift-small : {d : ℕ} {s : Sort} {e : Form} → Ok d s e → small (encode e) ≡ true → (n : ℕ) → n ≤ 2048 → Ok d s (lift n e)
 lift-small {d} {s} {e} ok h n l = ok-deep (walk-tested (32 * d) 0 low (up n) (λ k x a b. up-ok n k x l b) ok 0 (omega arith) (small-low 0 e h)) d (omega arith)
 
--- an expression that a substitution may put anywhere in a form at most 52 deep
+-- an expression that a substitution may put anywhere in a form at most 58 deep
 pub record Small (e : Form) : Type 0 where
-  pub ok : Ok 13 expr e
+  pub ok : Ok 7 expr e
   pub words : small (encode e) ≡ true
 
 abbrev pub SmallPlace : Place → Type 0
@@ -125,40 +125,40 @@ pub small-places : (ps : List Place) → ((i : ℕ) → i < length ps → SmallP
 small-places [] h = tt
 small-places (p ∷ ps) h = (h 0 (omega arith), small-places ps (λ i l. h (suc i) (omega arith)))
 
-small-lift : (e : Form) → Small e → (n : ℕ) → n ≤ 2048 → Ok 13 expr (lift n e)
+small-lift : (e : Form) → Small e → (n : ℕ) → n ≤ 2048 → Ok 7 expr (lift n e)
 small-lift e h n l = lift-small (h .ok) (h .words) n l
 
 -- a name or an index alone
-name-ok : (k m : ℕ) → between 0 65535 m ≡ true → Ok 13 expr (lift k (leaf (free m)))
+name-ok : (k m : ℕ) → between 0 65535 m ≡ true → Ok 7 expr (lift k (leaf (free m)))
 unfolding walk
 name-ok k m h = ok-free h
 
-index-ok : (k j : ℕ) → k + j ≤ 65535 → Ok 13 expr (lift k (leaf (bound j)))
+index-ok : (k j : ℕ) → k + j ≤ 65535 → Ok 7 expr (lift k (leaf (bound j)))
 unfolding walk
 index-ok k j h = ok-bound (between-in 0 65535 (0 + (j + k)) (omega arith) (omega arith))
 
 -- free substitution
-pick-ok : (k : ℕ) (b : Bool) (x y : Form) → Ok 13 expr (lift k x) → Ok 13 expr (lift k y) → Ok 13 expr (lift k (pick b x y))
+pick-ok : (k : ℕ) (b : Bool) (x y : Form) → Ok 7 expr (lift k x) → Ok 7 expr (lift k y) → Ok 7 expr (lift k (pick b x y))
 pick-ok k true x y h g = h
 pick-ok k false x y h g = g
 
-place-ok : (k m : ℕ) (p : Place) → SmallPlace p → k ≤ 2048 → between 0 65535 m ≡ true → Ok 13 expr (lift k (orName m p))
+place-ok : (k m : ℕ) (p : Place) → SmallPlace p → k ≤ 2048 → between 0 65535 m ≡ true → Ok 7 expr (lift k (orName m p))
 place-ok k m kept h l g = name-ok k m g
 place-ok k m (filled e) h l g = small-lift e h k l
 
-seek-ok : (k m : ℕ) (es : List Entry) → SmallPlaces (map placeOf es) → k ≤ 2048 → between 0 65535 m ≡ true → Ok 13 expr (lift k (seek es m))
+seek-ok : (k m : ℕ) (es : List Entry) → SmallPlaces (map placeOf es) → k ≤ 2048 → between 0 65535 m ≡ true → Ok 7 expr (lift k (seek es m))
 seek-ok k m [] h l g = name-ok k m g
 seek-ok k m (entry n p ∷ es) h l g = pick-ok k (eqb n m) (orName m p) (seek es m) (place-ok k m p (h .0) l g) (seek-ok k m es (h .1) l g)
 
-free-ok : (es : List Entry) → SmallPlaces (map placeOf es) → (k : ℕ) (x : Outer) → k ≤ 2048 → fits k x ≡ true → Ok 13 expr (put (freeFor es) k x)
+free-ok : (es : List Entry) → SmallPlaces (map placeOf es) → (k : ℕ) (x : Outer) → k ≤ 2048 → fits k x ≡ true → Ok 7 expr (put (freeFor es) k x)
 free-ok es h k (named m) l g = seek-ok k m es h l g
 free-ok es h k (dangling j) l g = index-ok k j (between-high 65535 (k + j) g)
 
-pub free-inside : (es : List Entry) → SmallPlaces (map placeOf es) → {s : Sort} {f : Form} → Ok 52 s f → Ok 64 s (substitute es f)
+pub free-inside : (es : List Entry) → SmallPlaces (map placeOf es) → {s : Sort} {f : Form} → Ok 58 s f → Ok 64 s (substitute es f)
 unfolding substitute
-free-inside es h ok = walk-deeper 2048 12 (put (freeFor es)) (free-ok es h) ok 0 (omega arith)
+free-inside es h ok = walk-deeper 2048 6 (put (freeFor es)) (free-ok es h) ok 0 (omega arith)
 
-pub free-fits : (es : List Entry) → SmallPlaces (map placeOf es) → {s : Sort} {f : Form} → Ok 52 s f → length (encode (substitute es f)) ≤ 8192
+pub free-fits : (es : List Entry) → SmallPlaces (map placeOf es) → {s : Sort} {f : Form} → Ok 58 s f → length (encode (substitute es f)) ≤ 8192
     → isOne (rowForm s (encode (substitute es f))) ≡ true
 free-fits es h ok l = ap isOne (row-encode (free-inside es h ok) l)
 
@@ -171,7 +171,7 @@ small-reverse : (ps : List Place) → SmallPlaces ps → SmallPlaces (reverse ps
 small-reverse [] h = tt
 small-reverse (p ∷ ps) h = rw (reverse-cons p ps) (small-append (reverse ps) (p ∷ []) (small-reverse ps (h .1)) (h .0, tt))
 
-fill-index-ok : (k m c : ℕ) (qs : List Place) (j : ℕ) → SmallPlaces qs → m ≤ c + keptCount qs → m + k ≤ 2048 → k + (c + j) ≤ 65535 → Ok 13 expr (lift k (fillIndex m c qs j))
+fill-index-ok : (k m c : ℕ) (qs : List Place) (j : ℕ) → SmallPlaces qs → m ≤ c + keptCount qs → m + k ≤ 2048 → k + (c + j) ≤ 65535 → Ok 7 expr (lift k (fillIndex m c qs j))
 fill-index-ok k m c [] j h n l g = index-ok k (m + j) (omega arith)
 fill-index-ok k m c (kept ∷ qs) zero h n l g = index-ok k c (omega arith)
 fill-index-ok k m c (filled e ∷ qs) zero h n l g = rw (up-up m k e) (small-lift e (h .0) (m + k) l)
@@ -179,7 +179,7 @@ fill-index-ok k m c (kept ∷ qs) (suc j) h n l g = fill-index-ok k m (suc c) qs
 fill-index-ok k m c (filled e ∷ qs) (suc j) h n l g = fill-index-ok k m c qs j (h .1) n l (omega arith)
 
 module _ (ps : List Place) (few : length ps ≤ 32) (h : SmallPlaces ps) where
-  fill-for-ok : (k : ℕ) (x : Outer) → k ≤ 2016 → fits k x ≡ true → Ok 13 expr (put (fillFor ps) k x)
+  fill-for-ok : (k : ℕ) (x : Outer) → k ≤ 2016 → fits k x ≡ true → Ok 7 expr (put (fillFor ps) k x)
   fill-for-ok k (named m) l g = name-ok k m g
   fill-for-ok k (dangling j) l g =
       let a = between-high 65535 (k + j) g in
@@ -187,11 +187,11 @@ module _ (ps : List Place) (few : length ps ≤ 32) (h : SmallPlaces ps) where
       fill-index-ok k (keptCount ps) 0 (reverse ps) j (small-reverse ps h) (rw (kept-reverse ps) (omega arith)) (omega arith) (omega arith)
 
   -- the body alone
-  pub filled-body : {f : Form} → Ok 51 pred f → Ok 63 pred (subst (fillFor ps) f)
-  filled-body ok = walk-deeper 2016 12 (put (fillFor ps)) fill-for-ok ok 0 (omega arith)
+  pub filled-body : {f : Form} → Ok 57 pred f → Ok 63 pred (subst (fillFor ps) f)
+  filled-body ok = walk-deeper 2016 6 (put (fillFor ps)) fill-for-ok ok 0 (omega arith)
 
   -- under the declarations that are kept
-  pub filled-ok : (t : ℕ) (ns : List ℕ) → (eqb t 851 || eqb t 852) ≡ true → areNames ns ≡ true → length ns ≤ 32 → {f : Form} → Ok 51 pred f → Ok 64 pred (fill t ns ps f)
+  pub filled-ok : (t : ℕ) (ns : List ℕ) → (eqb t 851 || eqb t 852) ≡ true → areNames ns ≡ true → length ns ≤ 32 → {f : Form} → Ok 57 pred f → Ok 64 pred (fill t ns ps f)
   unfolding fill
   filled-ok t ns w n l {f} ok = let m = few-names ps ns in quantify-ok t (keptNames ps ns) (subst (fillFor ps) f) w (names-kept ps ns n) (omega arith) (filled-body ok)
 
@@ -207,7 +207,7 @@ quant-body t ns b w (ok-node {p = p} {e = e} l r k) =
     let g = tag-heading t ((length ns ∷ []) ++ (ns ++ [])) (length ns ∷ []) ns p e [] w (r []) in
     only-kid p e b k (g .preds) (g .exprs)
 
-module _ (f : Form) (ok : Ok 52 pred f) (q : Quant f) (ps : List Place) (all : length ps ≡ length (q .decls)) (h : SmallPlaces ps) where
+module _ (f : Form) (ok : Ok 58 pred f) (q : Quant f) (ps : List Place) (all : length ps ≡ length (q .decls)) (h : SmallPlaces ps) where
   pub fill-inside : Ok 64 pred (fill (q .tag) (q .decls) ps (q .body))
   fill-inside =
       let m = q .most in
@@ -288,8 +288,8 @@ module _ (ns : List ℕ) (names : areNames ns ≡ true) (most : length ns ≤ 32
   qs-small : SmallPlaces qs
   qs-small = small-lowered n (drop j ps) (small-drop j ps h)
 
-  pub partial-body : {f : Form} → Ok 51 pred f → Ok 63 pred (subst (fillFor (map (lowPlace (lower n)) (drop j ps))) f)
+  pub partial-body : {f : Form} → Ok 57 pred f → Ok 63 pred (subst (fillFor (map (lowPlace (lower n)) (drop j ps))) f)
   partial-body ok = filled-body qs qs-few qs-small ok
 
-  pub partial-inside : (t : ℕ) → (eqb t 851 || eqb t 852) ≡ true → {f : Form} → Ok 51 pred f → Ok 64 pred (fill t (drop j ns) (map (lowPlace (lower n)) (drop j ps)) f)
+  pub partial-inside : (t : ℕ) → (eqb t 851 || eqb t 852) ≡ true → {f : Form} → Ok 57 pred f → Ok 64 pred (fill t (drop j ns) (map (lowPlace (lower n)) (drop j ps)) f)
   partial-inside t w ok = let l = length-drop j ns in filled-ok qs qs-few qs-small t (drop j ns) w (names-drop j ns names) (omega arith) ok

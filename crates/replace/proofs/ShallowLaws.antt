@@ -1,4 +1,4 @@
--- A row read first as a form at most 52 deep, and then as any form. Assumes nothing.
+-- A row read first as a form at most 58 deep, and then as any form. Assumes nothing.
 use mathlib.Core.Path.{_≡_, refl, ap, sym, _∙_}
 use mathlib.Core.Bool.{Bool, true, false}
 use mathlib.Core.List.{List}
@@ -28,40 +28,40 @@ use Rattle.replace.proofs.BuildLaws.{is-found}
 use Rattle.replace.proofs.MarkLaws.{marked-front}
 use Rattle.replace.proofs.OkLaws.{ok-deep}
 
-pub told-shallow : (s : Sort) (row a b : List ℕ) (r : Step) → Told 0 0 (decodeIn 52 0 s row) a b r → Told 0 0 (decode 52 s row) a b r
-told-shallow s row a b r t = rw (in-decode s row 52 0 (omega arith) (omega arith)) at t
+pub told-shallow : (s : Sort) (row a b : List ℕ) (r : Step) → Told 0 0 (decodeIn 58 0 s row) a b r → Told 0 0 (decode 58 s row) a b r
+told-shallow s row a b r t = rw (in-decode s row 58 0 (omega arith) (omega arith)) at t
 
 module _ (kind : Kind) (row : List ℕ) where
-  shallow-of : (x : Bool) → x ≡ asExpr kind row → (w : Whole) → whole (decode 52 (sortFor x) row) ≡ w → shallowForm kind row ≡ asSort (sortFor x) w
+  shallow-of : (x : Bool) → x ≡ asExpr kind row → (w : Whole) → whole (decode 58 (sortFor x) row) ≡ w → shallowForm kind row ≡ asSort (sortFor x) w
   unfolding shallowForm
   shallow-of x k w e = rw (← k, e)
 
   -- by the reader's answer
-  module _ (a b : List ℕ) (x : Bool) (k : x ≡ asExpr kind row) (r : Step) (t : Told 0 0 (decode 52 (sortFor x) row) a b r) where
+  module _ (a b : List ℕ) (x : Bool) (k : x ≡ asExpr kind row) (r : Step) (t : Told 0 0 (decode 58 (sortFor x) row) a b r) where
     pub shallow-bad : r ≡ Bad → (false ≡ isFound (shallowForm kind row)) × Marked (shallowForm kind row) a b
     unfolding Marked
-    shallow-bad e = rw (shallow-of x k not-one (read-bad 52 (sortFor x) row a b r t e)) (refl, tt)
+    shallow-bad e = rw (shallow-of x k not-one (read-bad 58 (sortFor x) row a b r t e)) (refl, tt)
 
     pub shallow-part : (p : ℕ) → r ≡ End p → (p ≡ length row → ⊥) → (false ≡ isFound (shallowForm kind row)) × Marked (shallowForm kind row) a b
     unfolding Marked
-    shallow-part p e n = rw (shallow-of x k not-one (read-part 52 (sortFor x) row a b r t p e n)) (refl, tt)
+    shallow-part p e n = rw (shallow-of x k not-one (read-part 58 (sortFor x) row a b r t p e n)) (refl, tt)
 
     pub shallow-whole : (p : ℕ) → r ≡ End p → p ≡ length row → (true ≡ isFound (shallowForm kind row)) × Marked (shallowForm kind row) a b
     unfolding Marked
     shallow-whole p e q =
-        let (f, w, m) = read-whole 52 (sortFor x) row a b r t p e q in
+        let (f, w, m) = read-whole 58 (sortFor x) row a b r t p e q in
         rw (shallow-of x k (one f) w) (refl, m)
 
   -- it is the row's form
-  shallow-exact : (s : Sort) (f : Form) → shallowForm kind row ≡ found s f → (sortFor (asExpr kind row) ≡ s) × (row ≡ encode f) × Ok 52 s f
-  shallow-exact s f e = go (whole (decode 52 (sortFor (asExpr kind row)) row)) refl
+  shallow-exact : (s : Sort) (f : Form) → shallowForm kind row ≡ found s f → (sortFor (asExpr kind row) ≡ s) × (row ≡ encode f) × Ok 58 s f
+  shallow-exact s f e = go (whole (decode 58 (sortFor (asExpr kind row)) row)) refl
     where
-      go : (w : Whole) → whole (decode 52 (sortFor (asExpr kind row)) row) ≡ w → (sortFor (asExpr kind row) ≡ s) × (row ≡ encode f) × Ok 52 s f
+      go : (w : Whole) → whole (decode 58 (sortFor (asExpr kind row)) row) ≡ w → (sortFor (asExpr kind row) ≡ s) × (row ≡ encode f) × Ok 58 s f
       go (one g) q =
           let c = shallow-of (asExpr kind row) refl (one g) q in
           let a : sortFor (asExpr kind row) ≡ s = cc in
           let b : g ≡ f = cc in
-          let (w, o) = whole-exact 52 (sortFor (asExpr kind row)) row g q in
+          let (w, o) = whole-exact 58 (sortFor (asExpr kind row)) row g q in
           (a, w ∙ ap encode b, rw (a, b) at o)
       go not-one q = let c = shallow-of (asExpr kind row) refl not-one q in absurd (clash cc)
 
@@ -70,7 +70,7 @@ module _ (kind : Kind) (row : List ℕ) where
       let (a, w, o) = shallow-exact s f e in
       form-of kind row (asExpr kind row) refl ∙ (rw (a, row-whole w o))
     where
-      row-whole : row ≡ encode f → Ok 52 s f → rowForm s row ≡ one f
+      row-whole : row ≡ encode f → Ok 58 s f → rowForm s row ≡ one f
       row-whole w o = rw w (row-encode (ok-deep o 64 (omega arith)) (rw w at h))
 
   module _ (short : length row ≤ 8192) where
@@ -111,10 +111,10 @@ module _ (kind : Kind) (row : List ℕ) where
       go missing (found s f) a b = let x = rw (a, b) at e in absurd (clash cc)
       go missing missing a b = b
 
-  taken-found : length row ≤ 8192 → (r : Reading) (j : Bool) → r ≡ readingOf (shallowForm kind row) (formOf kind row) → r ≡ Taken j → (s : Sort) × (f : Form) × (formOf kind row ≡ found s f) × (j ≡ true → Ok 52 s f)
+  taken-found : length row ≤ 8192 → (r : Reading) (j : Bool) → r ≡ readingOf (shallowForm kind row) (formOf kind row) → r ≡ Taken j → (s : Sort) × (f : Form) × (formOf kind row ≡ found s f) × (j ≡ true → Ok 58 s f)
   taken-found h r j e d = go (shallowForm kind row) (formOf kind row) refl refl
     where
-      go : (o p : Found) → shallowForm kind row ≡ o → formOf kind row ≡ p → (s : Sort) × (f : Form) × (formOf kind row ≡ found s f) × (j ≡ true → Ok 52 s f)
+      go : (o p : Found) → shallowForm kind row ≡ o → formOf kind row ≡ p → (s : Sort) × (f : Form) × (formOf kind row ≡ found s f) × (j ≡ true → Ok 58 s f)
       go (found s f) p a b = (s, f, shallow-same kind row h s f a, λ y. shallow-exact kind row s f a .2)
       go missing (found s f) a b = let x = rw (a, b) at e in (s, f, b, λ y. absurd (clash cc))
       go missing missing a b = let x = rw (a, b) at e in absurd (clash cc)
@@ -125,12 +125,12 @@ module _ (kind : Kind) (row : List ℕ) where
         let (s, f, q, o) = taken-found h r j e d in
         marks-of kind row m n before zero-marks s f q k
 
-  pub reading-shallow : (m : List ℕ) (n : ℕ) (x : Checked kind row m n) (r : Reading) (j : Bool) → r ≡ readingOf (shallowForm kind row) (formOf kind row) → r ≡ Taken j → j ≡ true → Ok 52 (x .sort) (x .form)
+  pub reading-shallow : (m : List ℕ) (n : ℕ) (x : Checked kind row m n) (r : Reading) (j : Bool) → r ≡ readingOf (shallowForm kind row) (formOf kind row) → r ≡ Taken j → j ≡ true → Ok 58 (x .sort) (x .form)
   reading-shallow m n x r j e d y =
       let (s, f, q, o) = taken-found (x .short) r j e d in
       go s f q (o y)
     where
-      go : (s : Sort) (f : Form) → formOf kind row ≡ found s f → Ok 52 s f → Ok 52 (x .sort) (x .form)
+      go : (s : Sort) (f : Form) → formOf kind row ≡ found s f → Ok 58 s f → Ok 58 (x .sort) (x .form)
       go s f q o =
           let i = x .is-found in
           let a : s ≡ x .sort = cc in

@@ -45,21 +45,21 @@ module _ (ws : List ℕ) (i : ℕ) where
   low-end h = rw (gone ws i h)
 
 -- a row by the reader's answer
-module _ (ws a b : List ℕ) (r : Step) (t : Told 0 0 (decodeIn 13 0 expr ws) a b r) where
-  plain : Told 0 0 (decode 13 expr ws) a b r
-  plain = rw (in-decode expr ws 13 0 (omega arith) (omega arith)) at t
+module _ (ws a b : List ℕ) (r : Step) (t : Told 0 0 (decodeIn 7 0 expr ws) a b r) where
+  plain : Told 0 0 (decode 7 expr ws) a b r
+  plain = rw (in-decode expr ws 7 0 (omega arith) (omega arith)) at t
 
   pub small-bad : r ≡ Bad → false ≡ smallPart ws
   unfolding smallPart
-  small-bad e = rw (read-bad 13 expr ws a b r plain e)
+  small-bad e = rw (read-bad 7 expr ws a b r plain e)
 
   pub small-rest : (p : ℕ) → r ≡ End p → (p ≡ length ws → ⊥) → false ≡ smallPart ws
   unfolding smallPart
-  small-rest p e n = rw (read-part 13 expr ws a b r plain p e n)
+  small-rest p e n = rw (read-part 7 expr ws a b r plain p e n)
 
   pub small-whole : (p : ℕ) → r ≡ End p → p ≡ length ws → smallWords ws ≡ smallPart ws
   unfolding smallPart
-  small-whole p e q = let (f, w, m) = read-whole 13 expr ws a b r plain p e q in rw w
+  small-whole p e q = let (f, w, m) = read-whole 7 expr ws a b r plain p e q in rw w
 
 -- a part
 module _ (s e : ℕ) (l : List ℕ) where
@@ -135,19 +135,19 @@ parts-small s e l (suc n) q i h =
 -- a form's row that is small
 pub small-form : (x : Form) → Ok 64 expr x → smallPart (encode x) ≡ true → Small x
 unfolding smallPart
-small-form x ok y = go (whole (decode 13 expr (encode x))) refl
+small-form x ok y = go (whole (decode 7 expr (encode x))) refl
   where
-    same : (f : Form) → encode x ≡ encode f → Ok 13 expr f → f ≡ x
+    same : (f : Form) → encode x ≡ encode f → Ok 7 expr f → f ≡ x
     same f e o =
         let a = decode-encode ok [] in
         let b = decode-encode (ok-deep o 64 (omega arith)) [] in
         let c : got x [] ≡ got f [] = sym a ∙ (rw e b) in
         cc
 
-    go : (w : Whole) → whole (decode 13 expr (encode x)) ≡ w → Small x
+    go : (w : Whole) → whole (decode 7 expr (encode x)) ≡ w → Small x
     go (one f) q =
-        let (e, o) = whole-exact 13 expr (encode x) f q in
-        record { ok = rw (same f e o) at o; words = and-right (isOne (whole (decode 13 expr (encode x)))) (smallWords (encode x)) y }
+        let (e, o) = whole-exact 7 expr (encode x) f q in
+        record { ok = rw (same f e o) at o; words = and-right (isOne (whole (decode 7 expr (encode x)))) (smallWords (encode x)) y }
     go not-one q = let z = rw q at y in absurd (clash cc)
 
 no-words : (x : Form) → encode x ≡ [] → ⊥

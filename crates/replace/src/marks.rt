@@ -20,7 +20,7 @@ ghost use Rattle.form.specs.Internal.Reads.{Told, Marked, Listing};
 ghost use Rattle.subst.specs.Internal.Items.{Fresh, store};
 ghost use Rattle.replace.specs.Internal.Pieces.{isFound, shallowForm, readingOf};
 
-// A row that is a form, and whether it is at most 52 deep; or one that is none.
+// A row that is a form, and whether it is at most 58 deep; or one that is none.
 pub enum Reading {
     Taken(bool),
     Refused,
@@ -38,7 +38,7 @@ fn clear(work: &mut [u32], at: usize, n: usize)
 }
 
 fn shallow_form(row: &[u32], is_expr: bool, marks: &mut [u32]) -> Step
-    ensures { λ r. ⌜ Told 0 0 (decode 52 (pick «is_expr» expr pred) (now (row .entry))) (now (marks .entry)) (now (marks .exit)) r ⌝ }
+    ensures { λ r. ⌜ Told 0 0 (decode 58 (pick «is_expr» expr pred) (now (row .entry))) (now (marks .entry)) (now (marks .exit)) r ⌝ }
 {
     if is_expr {
         expr_at(row, marks, 0, Margin::ROW, 0)
@@ -47,7 +47,7 @@ fn shallow_form(row: &[u32], is_expr: bool, marks: &mut [u32]) -> Step
     }
 }
 
-// Whether the row is exactly one form of the kind at most 52 deep, which is then marked.
+// Whether the row is exactly one form of the kind at most 58 deep, which is then marked.
 fn mark_shallow(row: &[u32], kind: Kind, marks: &mut [u32]) -> bool
     ensures { λ r. ⌜ r ≡ isFound (shallowForm kind (now (row .entry))) ⌝ }
     ensures { λ _. ⌜ Marked (shallowForm kind (now (row .entry))) (now (marks .entry)) (now (marks .exit)) ⌝ }
@@ -61,7 +61,7 @@ fn mark_shallow(row: &[u32], kind: Kind, marks: &mut [u32]) -> bool
     false
 }
 
-// The check of the row, which marks it at the start of the work row: first as a form at most 52 deep.
+// The check of the row, which marks it at the start of the work row: first as a form at most 58 deep.
 pub(crate) fn mark_row(row: &[u32], kind: Kind, work: &mut [u32]) -> Reading
     requires { ⌜ length (now row) ≤ length (now work) ⌝ }
     requires { ⌜ length (now row) ≤ 8192 ⌝ }

@@ -7,15 +7,15 @@ ghost use Prim.Native.Nat.{_≤_};
 ghost use lib.ListN.{length};
 ghost use Rattle.replace.specs.Internal.Pieces.{smallWords, smallPart, smallAt, smallParts, isSure};
 
-// Depths and words that leave room for a replacement: 52 + 13 - 1 = 64 deep, and 63,487 + 2,048 = 65,535.
+// Depths and words that leave room for a replacement: 58 + 7 - 1 = 64 deep, and 63,487 + 2,048 = 65,535.
 pub struct Margin {
     pub value: usize,
 }
 
 impl Margin {
-    pub const ROW: u32 = 52;
+    pub const ROW: u32 = 58;
 
-    pub const DEPTH: u32 = 13;
+    pub const DEPTH: u32 = 7;
 
     pub const WORD: u32 = 63487;
 }
@@ -34,7 +34,7 @@ fn are_low(words: &[u32]) -> bool
     true
 }
 
-// Whether the row is exactly one expression at most 13 deep, and no word of it over 63,487.
+// Whether the row is exactly one expression at most 7 deep, and no word of it over 63,487.
 pub fn is_small(row: &[u32]) -> bool
     ensures { λ r. ⌜ r ≡ smallPart (now (row .entry)) ⌝ }
 {
@@ -77,7 +77,7 @@ fn are_small(starts: &[usize], ends: &[usize], list: &[u32], n: usize) -> bool
     true
 }
 
-// Whether a form is sure to stay one when the parts of the table are put into it: it is at most 52 deep, and the parts are small.
+// Whether a form is sure to stay one when the parts of the table are put into it: it is at most 58 deep, and the parts are small.
 pub(crate) fn is_sure(shallow: bool, table: Table, list: &[u32]) -> bool
     ensures { λ r. ⌜ r ≡ isSure shallow table (now (list .entry)) ⌝ }
 {

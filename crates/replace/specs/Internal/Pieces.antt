@@ -138,9 +138,9 @@ shortWords ws room = needs 7 (leb (length ws) 8192) (fitted ws room)
 unfoldable pub emitted : Bool → Kind → List ℕ → ℕ → Outcome
 emitted sure kind ws room = needs 7 (pick sure (leb (length ws) 8192) (isFound (formOf kind ws))) (fitted ws room)
 
--- a row as a form at most 52 deep, and how it was read
+-- a row as a form at most 58 deep, and how it was read
 unfoldable pub shallowForm : Kind → List ℕ → Found
-shallowForm kind row = let s = pick (asExpr kind row) expr pred in asSort s (whole (decode 52 s row))
+shallowForm kind row = let s = pick (asExpr kind row) expr pred in asSort s (whole (decode 58 s row))
 
 abbrev pub readingOf : Found → Found → Reading
 readingOf (found s f) o = Taken true
@@ -152,9 +152,9 @@ abbrev pub smallWords : List ℕ → Bool
 smallWords [] = true
 smallWords (w ∷ ws) = leb w 63487 && smallWords ws
 
--- exactly one expression at most 13 deep, of such words; the words from s up to e, where there are any; the first n parts of a row
+-- exactly one expression at most 7 deep, of such words; the words from s up to e, where there are any; the first n parts of a row
 unfoldable pub smallPart : List ℕ → Bool
-smallPart ws = isOne (whole (decode 13 expr ws)) && smallWords ws
+smallPart ws = isOne (whole (decode 7 expr ws)) && smallWords ws
 
 unfoldable pub smallAt : ℕ → ℕ → List ℕ → Bool
 smallAt s e l = pick (leb e s) true (leb e (length l) && smallPart (part s e l))
@@ -163,7 +163,7 @@ unfoldable pub smallParts : List ℕ → List ℕ → List ℕ → ℕ → Bool
 smallParts starts ends l zero = true
 smallParts starts ends l (suc n) = smallAt (getD starts n 0) (getD ends n 0) l && smallParts starts ends l n
 
--- whether replacement by the expressions of a table is sure to give a form: in a form at most 52 deep, by small ones
+-- whether replacement by the expressions of a table is sure to give a form: in a form at most 58 deep, by small ones
 unfoldable pub isSure : Bool → Table → List ℕ → Bool
 isSure shallow t list = shallow && (leb (t .n) 32 && smallParts (t .starts) (t .ends) list (t .n))
 
