@@ -1,4 +1,4 @@
--- What each case of a turn answers, and what it leaves in the output. Assumes nothing.
+-- What each case of a turn decides, and what it leaves in the output. Assumes nothing.
 use mathlib.Core.Path.{_≡_, refl, ap, sym, _∙_}
 use mathlib.Core.Bool.{Bool, true, false, _&&_}
 use mathlib.Core.List.{List, [], _∷_, _++_}
@@ -9,21 +9,23 @@ use lib.Dec.{leb, ltb, eqb}
 use lib.ListN.{length, take, drop, set, length-append, length-drop}
 use lib.Seq.{length-take-le, take-all, take-take}
 use Rattle.tree.specs.Form.{pick}
-use Rattle.form.specs.Answer.{Outcome, answer, refusal, told, written}
+use Rattle.form.specs.Answer.{Outcome, answer, told, written}
 use Rattle.form.specs.declared.answer.Answer.{Answer}
-use Rattle.form.specs.declared.answer.Answer.the-variants.{Done, No}
 use Rattle.form.proofs.DecodeLaws.{clash}
 use Rattle.spell.specs.Put.{put}
 use Rattle.reply.specs.Reply.{replyOutcome}
+use Rattle.reply.proofs.GoodLaws.{reply-answers}
 use Rattle.reply.specs.Split.{newlineIn, nextOf}
 use Rattle.reply.specs.declared.split.Next.{Next}
 use Rattle.reply.specs.declared.split.Next.the-variants.{Line, Skipped, Long, More}
 use Rattle.turns.specs.Output.{withNewline, answerTo}
-use Rattle.turns.specs.Turn.{pendingOf, Piece, piece, none, ofNext, pieceOf, printedOf, passed, waiting, ofPiece, fits, rowsFit, turnOf, printedBy, movable, movedState, movedBytes, ending, readState}
-use Rattle.turns.specs.Internal.Ready.{Rows, Ready}
+use Rattle.turns.specs.Turn.{pendingOf, Piece, piece, none, ofNext, pieceOf, passed, waiting, ofPiece, fits, rowsFit, turnOf, printedBy, movable, movedState, movedBytes, ending, readState}
+use Rattle.turns.specs.Internal.Step.{answerUpTo, withUsed, Decided, inside, OfPiece, allowed, Ending}
 use Rattle.turns.specs.declared.state.State.{State}
 use Rattle.turns.specs.declared.turn.Turn.{Turn}
 use Rattle.turns.specs.declared.turn.Turn.the-variants.{On, Stop}
+use Rattle.turns.specs.declared.turn.Step.{Step}
+use Rattle.turns.specs.declared.turn.Step.the-variants.{Reply, Plain}
 use Rattle.turns.proofs.PutLaws.{put-none, put-more, put-part}
 
 positive : (n : ℕ) → (n ≡ 0 → ⊥) → 1 ≤ n
@@ -35,119 +37,60 @@ and-both true true e = (refl, refl)
 and-both true false e = absurd (clash cc)
 and-both false q e = absurd (clash cc)
 
--- the answer to a line and its newline, in a part of the output
-module _ (o : Outcome) (out sub : List ℕ) (used k : ℕ) (room : used + k < length out) (w : sub ≡ written o (take k (drop used out))) (long : length sub ≡ k) where
-  abbrev Back : List ℕ
-  Back = take used out ++ (sub ++ drop k (drop used out))
+-- the steps of a piece
+module _ (st : State) (input : List ℕ) (p : Piece) where
+  pub of-none : p ≡ none → (s : Step) → s ≡ Plain (ofPiece st none) → OfPiece st input p s
+  of-none e s q = rw (e, q) (record { decides = record { turns = refl; prints = refl }; within = tt })
 
-  pub back-no : (n : ℕ) → told o ≡ No n → (used ≡ used + length (withNewline o)) × (Back ≡ put out used (withNewline o))
-  back-no n e = go o w e
-    where
-      go : (o : Outcome) → sub ≡ written o (take k (drop used out)) → told o ≡ No n → (used ≡ used + length (withNewline o)) × (Back ≡ put out used (withNewline o))
-      go (answer bs) w e = absurd (clash cc)
-      go (refusal m) w e = (omega arith, rw w (put-part out used k [] (omega arith) (omega arith)))
+  pub of-pass : (n : ℕ) (b : Bool) → p ≡ piece [] n b → (next : State) → next ≡ passed st [] n b → OfPiece st input p (Plain (On next))
+  of-pass n b e next q = rw (e, q) (record { decides = record { turns = refl; prints = refl }; within = tt })
 
-  pub back-few : (n : ℕ) → told o ≡ Done n → n ≤ k
-  back-few n e = go o w e
-    where
-      go : (o : Outcome) → sub ≡ written o (take k (drop used out)) → told o ≡ Done n → n ≤ k
-      go (answer bs) w e = let z : length bs ≡ n = cc in let l = sym long ∙ ap length w ∙ length-append bs (drop (length bs) (take k (drop used out))) in omega arith
-      go (refusal m) w e = absurd (clash cc)
-
-  pub back-yes : (n : ℕ) → told o ≡ Done n → (used + n + 1 ≡ used + length (withNewline o)) × (set Back (used + n) 10 ≡ put out used (withNewline o))
-  back-yes n e = go o w e (back-few n e)
-    where
-      go : (o : Outcome) → sub ≡ written o (take k (drop used out)) → told o ≡ Done n → n ≤ k → (used + n + 1 ≡ used + length (withNewline o)) × (set Back (used + n) 10 ≡ put out used (withNewline o))
-      go (answer bs) w e few =
-          let z : length bs ≡ n = cc in (
-            rw (length-append bs (10 ∷ []), z) (omega arith),
-            rw (w, put-part out used k bs (omega arith) (omega arith)) (put-more out used bs 10 (used + n) (omega arith)),
-          )
-      go (refusal m) w e few = absurd (clash cc)
-
--- the rows of the program
-module _ (line list form work result output : List ℕ) (used k : ℕ) (h : Rows list form work result output used) (r : Answer) (sub : List ℕ) (is : k ≡ 131072)
-    (s : (r ≡ told (replyOutcome line (length list) (length form) (length work) (length result) (length (take k (drop used output)))))
-    × (sub ≡ written (replyOutcome line (length list) (length form) (length work) (length result) (length (take k (drop used output)))) (take k (drop used output))))
-    (long : length sub ≡ length (take k (drop used output))) where
-  mid-long : length (take k (drop used output)) ≡ 131072
-  mid-long = length-take-le k (drop used output) (rw length-drop (let m = h .room in omega arith)) ∙ is
-
-  fixed : (r ≡ told (replyOutcome line 8192 8192 16384 8192 131072)) × (sub ≡ written (replyOutcome line 8192 8192 16384 8192 131072) (take k (drop used output)))
-  fixed = rw (mid-long, h .lists, h .forms, h .works, h .results) at s
-
-  abbrev Whole : List ℕ
-  Whole = take used output ++ (sub ++ drop k (drop used output))
-
-  pub line-no : (n : ℕ) → r ≡ No n → (used ≡ used + length (answerTo line)) × (Whole ≡ put output used (answerTo line))
-  unfolding answerTo
-  line-no n q =
-      back-no (replyOutcome line 8192 8192 16384 8192 131072) output sub used k (let m = h .room in omega arith) (fixed .1) (long ∙ mid-long ∙ sym is) n (sym (fixed .0) ∙ q)
-
-  pub line-few : (n : ℕ) → r ≡ Done n → n ≤ 131072
-  line-few n q =
-      rw (sym is) (back-few (replyOutcome line 8192 8192 16384 8192 131072) output sub used k (let m = h .room in omega arith) (fixed .1) (long ∙ mid-long ∙ sym is) n (sym (fixed .0) ∙ q))
-
-  pub line-yes : (n : ℕ) → r ≡ Done n → (used + n + 1 ≡ used + length (answerTo line)) × (set Whole (used + n) 10 ≡ put output used (answerTo line))
-  unfolding answerTo
-  line-yes n q =
-      back-yes (replyOutcome line 8192 8192 16384 8192 131072) output sub used k (let m = h .room in omega arith) (fixed .1) (long ∙ mid-long ∙ sym is) n (sym (fixed .0) ∙ q)
-
--- what a turn answers and leaves in the output for a piece
-abbrev pub Did : State → List ℕ → Turn → List ℕ → Piece → Type 0
-Did st output r output′ p = (r ≡ ofPiece st p) × (output′ ≡ put output (st .used) (printedOf p))
-
-pub did-same : (st : State) (output : List ℕ) (r : Turn) (output′ : List ℕ) (p q : Piece) → p ≡ q → Did st output r output′ p → Did st output r output′ q
-did-same st output r output′ p q e h = rw e at h
-
-pub did-none : (st : State) (output : List ℕ) (r : Turn) → r ≡ ofPiece st none → Did st output r output none
-did-none st output r e = (e, sym (put-none output (st .used)))
-
-pub did-pass : (st : State) (output : List ℕ) (r : Turn) (n : ℕ) (s : Bool) → r ≡ On (passed st [] n s) → Did st output r output (piece [] n s)
-did-pass st output r n s e = (e, sym (put-none output (st .used)))
-
--- a line at the front of the bytes that are not passed yet
-pub did-answer : (st : State) (input output : List ℕ) (n more : ℕ) (s : Bool) → st .start + (n + more) ≤ st .end → (used : ℕ) (output′ : List ℕ)
-    → (used ≡ st .used + length (answerTo (take (st .start + n - st .start) (drop (st .start) input)))) × (output′ ≡ put output (st .used) (answerTo (take (st .start + n - st .start) (drop (st .start) input))))
-    → Did st output (On (record { start = st .start + n + more; end = st .end; used = used; skipping = s; ended = st .ended })) output′ (piece (answerTo (take n (pendingOf st input))) (n + more) s)
-did-answer st input output n more s h used output′ (u, w) =
-    let a : st .start + n - st .start ≡ n = omega arith in
-    let b : st .start + n + more ≡ st .start + (n + more) = omega arith in
-    rw (u, w, a, b, take-take n (st .end - st .start) (drop (st .start) input) (omega arith)) (refl, refl)
+  pub of-line : (end n : ℕ) (b : Bool) → st .start ≤ end → end ≤ st .end → p ≡ piece (answerUpTo st input end) n b → (next : State) → next ≡ passed st [] n b
+      → OfPiece st input p (Reply end next)
+  of-line end n b h k e next q = rw (e, q) (record { decides = record { turns = refl; prints = refl }; within = (h, k) })
 
 -- the bytes that are not passed yet
-module _ (st : State) (input : List ℕ) (inside : st .end ≤ length input) (before : st .start + 0 ≤ st .end) where
+module _ (st : State) (input : List ℕ) (inside : st .end ≤ length input) (before : st .start ≤ st .end) where
   pub pending-long : length (pendingOf st input) ≡ st .end - st .start
   pending-long = length-take-le (st .end - st .start) (drop (st .start) input) (rw length-drop (omega arith))
-
-  pub all-taken : (n : ℕ) → n ≡ st .end - st .start → (s : Bool) → piece (answerTo (take n (pendingOf st input))) (n + 0) s ≡ piece (answerTo (pendingOf st input)) (length (pendingOf st input)) s
-  all-taken n e s =
-      let l = pending-long in
-      let z : n + 0 ≡ length (pendingOf st input) = omega arith in
-      rw (take-all n (pendingOf st input) (omega arith), z)
 
   none-by : (b c : Bool) (bs : List ℕ) → length bs ≡ 0 → ofNext b c bs More ≡ none
   none-by true c bs e = rw e
   none-by false true bs e = rw e
   none-by false false bs e = refl
 
-  pub rest-none : (n : ℕ) → n ≡ st .end - st .start → n ≡ 0 → none ≡ ofNext (st .skipping) (st .ended) (pendingOf st input) More
-  rest-none n e z = let l = pending-long in sym (none-by (st .skipping) (st .ended) (pendingOf st input) (omega arith))
+  abbrev Rest : Piece
+  Rest = ofNext (st .skipping) (st .ended) (pendingOf st input) More
+
+  pub rest-none : (n : ℕ) → n ≡ st .end - st .start → n ≡ 0 → Rest ≡ none
+  rest-none n e z = let l = pending-long in none-by (st .skipping) (st .ended) (pendingOf st input) (omega arith)
 
   module _ (n : ℕ) (e : n ≡ st .end - st .start) (some : n ≡ 0 → ⊥) where
     more-one : 1 ≤ length (pendingOf st input)
     more-one = let l = pending-long in rw (l, ← e) (positive n some)
 
-    pub rest-skipped : st .skipping ≡ true → piece [] n true ≡ ofNext (st .skipping) (st .ended) (pendingOf st input) More
-    rest-skipped k = let l = pending-long in let z : n ≡ length (pendingOf st input) = omega arith in rw (k, le-leb 1 (length (pendingOf st input)) more-one, z)
+    as-long : length (pendingOf st input) ≡ n
+    as-long = let l = pending-long in omega arith
 
-    pub rest-last : st .skipping ≡ false → st .ended ≡ true → piece (answerTo (take n (pendingOf st input))) (n + 0) false ≡ ofNext (st .skipping) (st .ended) (pendingOf st input) More
-    rest-last k t = rw (all-taken n e false, k, t, le-leb 1 (length (pendingOf st input)) more-one)
+    pub rest-skipped : st .skipping ≡ true → Rest ≡ piece [] n true
+    rest-skipped k = rw (k, le-leb 1 (length (pendingOf st input)) more-one, as-long)
 
-    pub rest-unread : st .skipping ≡ false → st .ended ≡ false → none ≡ ofNext (st .skipping) (st .ended) (pendingOf st input) More
+    pub rest-last : st .skipping ≡ false → st .ended ≡ true → Rest ≡ piece (answerUpTo st input (st .end)) n false
+    rest-last k t = rw (k, t, le-leb 1 (length (pendingOf st input)) more-one, as-long)
+
+    pub rest-unread : st .skipping ≡ false → st .ended ≡ false → Rest ≡ none
     rest-unread k t = rw (k, t)
 
-pub next-is : (st : State) (input : List ℕ) (r x : Next) → r ≡ nextOf (st .skipping) (pendingOf st input) → r ≡ x → ofNext (st .skipping) (st .ended) (pendingOf st input) x ≡ pieceOf st input
+  pub line-piece : (n : ℕ) → n < length (pendingOf st input) → piece (answerTo (take n (pendingOf st input))) (n + 1) false ≡ piece (answerUpTo st input (st .start + n)) (n + 1) false
+  line-piece n h =
+      let l = pending-long in
+      let a : st .start + n - st .start ≡ n = omega arith in
+      rw (a, take-take n (st .end - st .start) (drop (st .start) input) (omega arith))
+
+  pub long-piece : piece (answerTo (pendingOf st input)) (length (pendingOf st input)) true ≡ piece (answerUpTo st input (st .end)) (st .end - st .start) true
+  long-piece = rw pending-long
+
+pub next-is : (st : State) (input : List ℕ) (r x : Next) → r ≡ nextOf (st .skipping) (pendingOf st input) → r ≡ x → pieceOf st input ≡ ofNext (st .skipping) (st .ended) (pendingOf st input) x
 unfolding pieceOf
 next-is st input r x e q = rw (← e, q)
 
@@ -212,36 +155,82 @@ module _ (st : State) (input output : ℕ) where
       let (b, c) = and-both (leb (st .end) input) (leb (st .used) output) f in
       (leb-true (st .start) (st .end) a, leb-true (st .end) input b, leb-true (st .used) output c)
 
--- the whole turn
-module _ (rows : Bool) (st : State) (input output : List ℕ) where
-  abbrev Took : Turn → List ℕ → Type 0
-  Took r output′ = (r ≡ turnOf rows st input (length output)) × (output′ ≡ put output (st .used) (printedBy rows st input (length output)))
+-- what is decided of the whole turn
+module _ (rows : Bool) (st : State) (input : List ℕ) (output : ℕ) where
+  abbrev Decision : Step → Type 0
+  Decision s = Decided st input (turnOf rows st input output) (printedBy rows st input output) s × allowed rows st (length input) output s
 
-  pub took-rows : rows ≡ false → Took Stop output
+  pub decide-rows : rows ≡ false → Decision (Plain Stop)
   unfolding turnOf printedBy
-  took-rows e = rw e (refl, sym (put-none output (st .used)))
+  decide-rows e = rw e (record { turns = refl; prints = refl }, tt)
 
   module _ (a : rows ≡ true) where
-    pub took-unfit : fits st (length input) (length output) ≡ false → Took Stop output
+    pub decide-unfit : fits st (length input) output ≡ false → Decision (Plain Stop)
     unfolding turnOf printedBy
-    took-unfit e = rw (a, e) (refl, sym (put-none output (st .used)))
+    decide-unfit e = rw (a, e) (record { turns = refl; prints = refl }, tt)
 
-    module _ (b : fits st (length input) (length output) ≡ true) where
-      pub took-full : length output - st .used < 131073 → (r : Turn) → r ≡ waiting st Stop → Took r output
+    module _ (b : fits st (length input) output ≡ true) where
+      pub decide-full : output - st .used < 131073 → (t : Turn) → t ≡ waiting st Stop → Decision (Plain t)
       unfolding turnOf printedBy
-      took-full h r e = rw (a, b, lt-leb 131073 (length output - st .used) h) (e, sym (put-none output (st .used)))
+      decide-full h t e = rw (a, b, lt-leb 131073 (output - st .used) h) (record { turns = e; prints = refl }, tt)
 
-      pub took-piece : 131073 ≤ length output - st .used → (r : Turn) (output′ : List ℕ) → Did st output r output′ (pieceOf st input) → Took r output′
+      allows : 131073 ≤ output - st .used → (s : Step) → inside st s → allowed rows st (length input) output s
+      allows h (Reply end next) (k, l) = let (x, y, z) = fits-are st (length input) output b in (a, k, omega arith, omega arith)
+      allows h (Plain t) k = tt
+
+      pub decide-piece : 131073 ≤ output - st .used → (s : Step) → OfPiece st input (pieceOf st input) s → Decision s
       unfolding turnOf printedBy
-      took-piece h r output′ d = rw (a, b, le-leb 131073 (length output - st .used) h) d
+      decide-piece h s d = (rw (a, b, le-leb 131073 (output - st .used) h) (d .decides), allows h s (d .within))
 
--- ready for a turn
-pub ready-by : (input list form work result output : List ℕ) (st : State) → rowsFit (length list) (length form) (length work) (length result) ≡ true
-    → fits st (length input) (length output) ≡ true → 131073 ≤ length output - st .used → Ready input list form work result output st 0
-ready-by input list form work result output st e f h =
-    let (a, b, c, d) = rows-are (length list) (length form) (length work) (length result) e in
-    let (x, y, z) = fits-are st (length input) (length output) f in
-    record { rows = record { lists = a; forms = b; works = c; results = d; room = omega arith }; inside = y; ordered = omega arith }
+-- the answer to a line and its newline, in a part of the output
+module _ (bs out sub : List ℕ) (used k : ℕ) (room : used + k < length out) (w : sub ≡ bs ++ drop (length bs) (take k (drop used out))) (long : length sub ≡ k) where
+  back-line : (length bs ≤ k) × (set (take used out ++ (sub ++ drop k (drop used out))) (used + length bs) 10 ≡ put out used (bs ++ (10 ∷ [])))
+  back-line =
+      let l = sym long ∙ ap length w ∙ length-append bs (drop (length bs) (take k (drop used out))) in
+      let few : length bs ≤ k = omega arith in
+      (few, rw (w, put-part out used k bs few (omega arith)) (put-more out used bs 10 (used + length bs) refl))
+
+-- a turn without an answer
+pub plain-done : (st : State) (input output : List ℕ) (t : Turn) (out : List ℕ) (s : Step) → Decided st input t out s → (v : Turn) → s ≡ Plain v
+    → (v ≡ t) × (output ≡ put output (st .used) out)
+plain-done st input output t out s d v q =
+    let e : Decided st input t out (Plain v) = rw q at d in (e .turns, rw (← e .prints) (sym (put-none output (st .used))))
+
+-- a line that is answered with the program's rows
+pub reply-fits : (rows : Bool) (st : State) (input output : ℕ) (s : Step) → allowed rows st input output s → (end : ℕ) (next : State) → s ≡ Reply end next
+    → (rows ≡ true) × (st .start ≤ end) × (end ≤ input) × (st .used + 131073 ≤ output)
+reply-fits rows st input output s h end next q = rw q at h
+
+module _ (st : State) (input list form work result output : List ℕ) (t : Turn) (out : List ℕ) (s : Step)
+    (d : Decided st input t out s × allowed (rowsFit (length list) (length form) (length work) (length result)) st (length input) (length output) s)
+    (end : ℕ) (next : State) (q : s ≡ Reply end next) where
+  decided : Decided st input t out (Reply end next)
+  decided = rw q at (d .0)
+
+  abbrev Answered : List ℕ
+  Answered = take (end - st .start) (drop (st .start) input)
+
+  module _ (r : Answer) (sub : List ℕ) (k : ℕ) (is : k ≡ 131072)
+      (a : (r ≡ told (replyOutcome Answered (length list) (length form) (length work) (length result) (length (take k (drop (st .used) output)))))
+      × (sub ≡ written (replyOutcome Answered (length list) (length form) (length work) (length result) (length (take k (drop (st .used) output)))) (take k (drop (st .used) output))))
+      (long : length sub ≡ length (take k (drop (st .used) output))) where
+    part-long : st .used + 131073 ≤ length output → length (take k (drop (st .used) output)) ≡ 131072
+    part-long m = length-take-le k (drop (st .used) output) (rw length-drop (omega arith)) ∙ is
+
+    pub reply-done : (z : ℕ) → Ending r (st .used) (st .used + 131072) z → (v : Turn) → v ≡ On (withUsed next (z + 1))
+        → (v ≡ t) × (set (take (st .used) output ++ (sub ++ drop k (drop (st .used) output))) z 10 ≡ put output (st .used) out)
+    unfolding answerTo
+    reply-done z e v f =
+        let (rows, x, y, m) = reply-fits (rowsFit (length list) (length form) (length work) (length result)) st (length input) (length output) s (d .1) end next q in
+        let (i, j, l, n) = rows-are (length list) (length form) (length work) (length result) rows in
+        let (bs, o, u) = reply-answers (λ _. Unit {0}) (λ _. tt) (λ _. tt) Answered 8192 8192 16384 8192 131072 (omega arith) in
+        let (g, w) : (r ≡ told (replyOutcome Answered 8192 8192 16384 8192 131072)) × (sub ≡ written (replyOutcome Answered 8192 8192 16384 8192 131072) (take k (drop (st .used) output))) =
+        rw (part-long m, i, j, l, n) at a in
+        let p : answerUpTo st input end ≡ bs ++ (10 ∷ []) = ap withNewline o in
+        let (few, back) = back-line bs output sub (st .used) k (omega arith) (w ∙ ap (λ (y : Outcome). written y (take k (drop (st .used) output))) o) (long ∙ part-long m ∙ sym is) in
+        let zs : z ≡ st .used + length bs = e .done (length bs) (g ∙ ap told o) (omega arith) in
+        let zl : z + 1 ≡ st .used + length (answerUpTo st input end) = rw (p, length-append bs (10 ∷ []), zs) (omega arith) in
+        (f ∙ ap (λ (y : ℕ). On (withUsed next y)) zl ∙ decided .turns, rw zs (back ∙ ap (put output (st .used)) (sym p ∙ decided .prints)))
 
 -- moving the bytes down
 module _ (st : State) (input : ℕ) where

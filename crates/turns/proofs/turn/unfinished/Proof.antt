@@ -1,6 +1,8 @@
 -- `turns::turn::unfinished` meets its contract. Assumes nothing.
 use mathlib.Core.Path.{refl}
-use Rattle.turns.proofs.TurnLaws.{did-same, did-none, did-pass, rest-none, rest-skipped, rest-last, rest-unread}
+use mathlib.Core.Bool.{true, false}
+use native.Mathlib.Omega.{arith}
+use Rattle.turns.proofs.TurnLaws.{of-none, of-pass, of-line, rest-none, rest-skipped, rest-last, rest-unread}
 use borrow.Author.Needs.{needs}
 use Rattle.turns.proofs.turn.unfinished.Statement.{statement}
 use Rattle.turns.proofs.turn.unfinished.Tie as tie
@@ -13,47 +15,34 @@ idle-requires c κs = search needs
 
 returns : tie.Need-returns
 returns c =
-    let b9 = c .before .before .before .before .before .before .before .before .before in
-    did-same _ _ _ _ _ _ (rest-none (b9 .args .st) (b9 .args .input .now) (b9 .pre .inside) (b9 .pre .ordered) _ refl (c .before .if1 .taken)) (did-none (b9 .args .st) _ _ (c .idle .ensures))
+    let b4 = c .before .before .before .before in
+    of-none (b4 .args .st) (b4 .args .input .now) _ (rest-none (b4 .args .st) (b4 .args .input .now) (b4 .pre .1) (b4 .pre .0) _ refl (c .before .if1 .taken)) _ (c .idle .ensures)
 
-dropped-requires : tie.Need-dropped-requires
-dropped-requires c κs = search needs
+after-requires : tie.Need-after-requires
+after-requires c κs = search needs
 
 returns-2 : tie.Need-returns-2
 returns-2 c =
-    let b10 = c .before .before .before .before .before .before .before .before .before .before in
-    did-same _ _ _ _ _ _ (rest-skipped (b10 .args .st) (b10 .args .input .now) (b10 .pre .inside) (b10 .pre .ordered) _ refl (c .before .before .if1 .left) (c .before .if2 .taken)) (did-pass (b10 .args .st) _ _ _ _ (c .dropped .ensures))
+    let b5 = c .before .before .before .before .before in
+    of-pass (b5 .args .st) (b5 .args .input .now) _ _ true (rest-skipped (b5 .args .st) (b5 .args .input .now) (b5 .pre .1) (b5 .pre .0) _ refl (c .before .before .if1 .left) (c .before .if2 .taken)) _ (c .after .ensures)
 
-answered-requires : tie.Need-answered-requires
-answered-requires c κs = search needs
-
-same-length : tie.Need-same-length
-same-length c = search needs
-
-same-length-2 : tie.Need-same-length-2
-same-length-2 c = search needs
-
-same-length-3 : tie.Need-same-length-3
-same-length-3 c = search needs
-
-same-length-4 : tie.Need-same-length-4
-same-length-4 c = search needs
-
-same-length-5 : tie.Need-same-length-5
-same-length-5 c = search needs
+after-requires-2 : tie.Need-after-requires-2
+after-requires-2 c κs = search needs
 
 returns-3 : tie.Need-returns-3
 returns-3 c =
-    let b10 = c .before .before .before .before .before .before .before .before .before .before in let b16 = b10 .before .before .before .before .before .before in let b26 = b16 .before .before .before .before .before .before .before .before .before .before in
-    did-same _ _ _ _ _ _ (rest-last (b26 .args .st) (b26 .args .input .now) (b26 .pre .inside) (b26 .pre .ordered) _ refl (b16 .before .before .if1 .left) (b16 .before .if2 .left) (b16 .if3 .taken)) (b10 .answered .ensures)
+    let b3 = c .before .before .before in
+    let b6 = b3 .before .before .before in
+    of-line (b6 .args .st) (b6 .args .input .now) _ _ _ false (b6 .pre .0) (omega arith) (rest-last (b6 .args .st) (b6 .args .input .now) (b6 .pre .1) (b6 .pre .0) _ refl (b3 .if1 .left) (c .before .before .if2 .left) (c .before .if3 .taken)) _ (c .after2 .ensures)
 
 idle-requires-2 : tie.Need-idle-requires-2
 idle-requires-2 c κs = search needs
 
 returns-4 : tie.Need-returns-4
 returns-4 c =
-    let b3 = c .before .before .before in let b11 = b3 .before .before .before .before .before .before .before .before in
-    did-same _ _ _ _ _ _ (rest-unread (b11 .args .st) (b11 .args .input .now) (b11 .pre .inside) (b11 .pre .ordered) _ refl (b3 .if1 .left) (c .before .before .if2 .left) (c .before .if3 .left)) (did-none (b11 .args .st) _ _ (c .idle2 .ensures))
+    let b3 = c .before .before .before in
+    let b6 = b3 .before .before .before in
+    of-none (b6 .args .st) (b6 .args .input .now) _ (rest-unread (b6 .args .st) (b6 .args .input .now) (b6 .pre .1) (b6 .pre .0) _ refl (b3 .if1 .left) (c .before .before .if2 .left) (c .before .if3 .left)) _ (c .idle2 .ensures)
 
 pub unfinished-spec : {M : Type 1} → statement M
 unfinished-spec =
@@ -62,14 +51,9 @@ unfinished-spec =
     sub-n
     idle-requires
     returns
-    dropped-requires
+    after-requires
     returns-2
-    answered-requires
-    same-length
-    same-length-2
-    same-length-3
-    same-length-4
-    same-length-5
+    after-requires-2
     returns-3
     idle-requires-2
     returns-4)
