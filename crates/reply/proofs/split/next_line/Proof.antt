@@ -1,6 +1,6 @@
 -- `reply::split::next_line` meets its contract. Assumes nothing.
 use borrow.Author.Tests.{lt-ltb, le-ltb}
-use Rattle.reply.specs.Split.{nextOf}
+use Rattle.reply.proofs.SplitLaws.{next-is}
 use borrow.Author.Needs.{needs}
 use Rattle.reply.proofs.split.next_line.Statement.{statement}
 use Rattle.reply.proofs.split.next_line.Tie as tie
@@ -9,24 +9,19 @@ newline-requires : tie.Need-newline-requires
 newline-requires c κs = search needs
 
 returns : tie.Need-returns
-unfolding nextOf
-returns c = rw (← c .before .before .newline .ensures, lt-ltb _ _ (c .before .if1 .taken), c .if2 .taken)
+returns c = rw (next-is _ _ _ (c .before .before .newline .ensures), lt-ltb _ _ (c .before .if1 .taken), c .if2 .taken)
 
 returns-2 : tie.Need-returns-2
-unfolding nextOf
-returns-2 c = rw (← c .before .before .newline .ensures, lt-ltb _ _ (c .before .if1 .taken), c .if2 .left)
+returns-2 c = rw (next-is _ _ _ (c .before .before .newline .ensures), lt-ltb _ _ (c .before .if1 .taken), c .if2 .left)
 
 returns-3 : tie.Need-returns-3
-unfolding nextOf
-returns-3 c = rw (← c .before .before .newline .ensures, le-ltb _ _ (c .before .if1 .left), c .if3 .taken)
+returns-3 c = rw (next-is _ _ _ (c .before .before .newline .ensures), le-ltb _ _ (c .before .if1 .left), c .if3 .taken)
 
 returns-4 : tie.Need-returns-4
-unfolding nextOf
-returns-4 c = rw (← c .before .before .before .newline .ensures, le-ltb _ _ (c .before .before .if1 .left), c .before .if3 .left, lt-ltb _ _ (c .if4 .taken))
+returns-4 c = rw (next-is _ _ _ (c .before .before .before .newline .ensures), le-ltb _ _ (c .before .before .if1 .left), c .before .if3 .left, lt-ltb _ _ (c .if4 .taken))
 
 returns-5 : tie.Need-returns-5
-unfolding nextOf
-returns-5 c = rw (← c .before .before .before .newline .ensures, le-ltb _ _ (c .before .before .if1 .left), c .before .if3 .left, le-ltb _ _ (c .if4 .left))
+returns-5 c = rw (next-is _ _ _ (c .before .before .before .newline .ensures), le-ltb _ _ (c .before .before .if1 .left), c .before .if3 .left, le-ltb _ _ (c .if4 .left))
 
 pub next-line-spec : {M : Type 1} → statement M
 next-line-spec =
