@@ -2,7 +2,7 @@
 use mathlib.Core.Path.{_≡_, refl, ap, sym, _∙_}
 use mathlib.Core.Bool.{Bool, true, false, _&&_, _||_}
 use mathlib.Core.List.{List, [], _∷_, _++_, map}
-use Prim.Native.Nat.{ℕ, zero, suc, _-_, _≤_, _<_}
+use Prim.Native.Nat.{ℕ, zero, suc, _+_, _-_, _≤_, _<_}
 use native.Mathlib.Omega.{arith}
 use borrow.Author.Tests.{leb-true, eqb-true}
 use lib.Dec.{eqb, leb}
@@ -75,13 +75,13 @@ abbrev pub headNames : ℕ → List ℕ → List Place → Form → ℕ → ℕ 
 headNames t ns ps g j n = let stay = keptNames (map (lowerPlace n) (drop j ps)) (drop j ns) in take j ns ++ (stay ++ innerNames t (take j ns) stay (encode g))
 
 -- some declarations of a quantifier filled by small expressions
-module _ (t : ℕ) (which : (eqb t 851 || eqb t 852) ≡ true) (ns : List ℕ) (names : areNames ns ≡ true) (most : length ns ≤ 32) (ps : List Place) (all : length ps ≡ length ns) (h : SmallPlaces ps)
-    (g : Form) (ok : Ok 57 pred g) where
+module _ (m : ℕ) (t : ℕ) (which : (eqb t 851 || eqb t 852) ≡ true) (ns : List ℕ) (names : areNames ns ≡ true) (most : length ns ≤ 32) (ps : List Place) (all : length ps ≡ length ns) (h : SmallPlaces m ps)
+    (g : Form) (d : ℕ) (ok : Ok d pred g) (deep : d + m ≤ 63) where
   pub rest-inside : (j n : ℕ) → length (headNames t ns ps g j n) ≤ 32 → Ok 64 pred (putRound t (take j ns) (fill t (drop j ns) (map (lowerPlace n) (drop j ps)) g))
   unfolding fill
   rest-inside j n l =
       let qs = map (lowerPlace n) (drop j ps) in
-      let o : Ok 63 pred (subst (fillFor qs) g) = rw (lower-places n (drop j ps)) (partial-body ns names most ps all h j n ok) in
+      let o : Ok 63 pred (subst (fillFor qs) g) = rw (lower-places n (drop j ps)) (partial-body m ns names most ps all h j n ok deep) in
       round-inside t which g (ok-heads t which (omega arith) ok) qs o (take j ns) (keptNames qs (drop j ns)) (names-take j ns names) (names-kept qs (drop j ns) (names-drop j ns names)) l
 
   pub point-inside : length (headNames t ns ps g (front ps) (length (drop (front ps) ns))) ≤ 32 → Ok 64 pred (instantiatePartial t ns ps g)
@@ -92,12 +92,20 @@ module _ (t : ℕ) (which : (eqb t 851 || eqb t 852) ≡ true) (ns : List ℕ) (
   point-fits l s = ap isOne (row-encode (point-inside l) s)
 
 -- one place filled by a small expression
-kept-small : (n : ℕ) → SmallPlaces (replicate n kept)
-kept-small zero = tt
-kept-small (suc n) = (tt, kept-small n)
+kept-small : (m n : ℕ) → SmallPlaces m (replicate n kept)
+kept-small m zero = tt
+kept-small m (suc n) = (tt, kept-small m n)
 
-one-small : (n i : ℕ) (e : Form) → i < n → Small e → SmallPlaces (setPlace n i e (noPlaces n))
-one-small n i e l h = rw (places-are n i e l) (small-append (replicate (n - suc i) kept) (filled e ∷ replicate i kept) (kept-small (n - suc i)) (h, kept-small i))
+one-small : (m n i : ℕ) (e : Form) → i < n → Small m e → SmallPlaces m (setPlace n i e (noPlaces n))
+one-small m n i e l h = rw (places-are n i e l) (small-append m (replicate (n - suc i) kept) (filled e ∷ replicate i kept) (kept-small m (n - suc i)) (h, kept-small m i))
+
+-- an expression and a body that stay within the limits under one quantifier when the one is put into the other
+pub record Fitting (e g : Form) : Type 0 where
+  pub over : ℕ
+  pub deep : ℕ
+  pub small : Small over e
+  pub ok : Ok deep pred g
+  pub sum : deep + over ≤ 63
 
 head-few : (t : ℕ) (ws : List ℕ) → length (headWords t ws) ≤ 34 → length ws ≤ 32
 unfolding headWords
@@ -117,14 +125,14 @@ module _ (t : ℕ) (which : (eqb t 851 || eqb t 852) ≡ true) (ns : List ℕ) (
       rw (front-is (length ns) i e low, from-front (length ns) i e low, ← point-stays t which ns i e low most tb list lm number words there ok-e over g ok marks after marked)
       (head-few t _ h)
 
-  pub point-row : (sure : Bool) → (sure ≡ true → Small e × Ok 57 pred g) → (room : ℕ)
+  pub point-row : (sure : Bool) → (sure ≡ true → Fitting e g) → (room : ℕ)
       → partialRow sure t (take (length ns - suc i) ns) (drop (length ns - suc i) ns) tb list lm (encode g) marks room ≡ finish pred room (instantiatePartial t ns ps g)
   point-row sure h room =
       let hd = partialHead t (take (length ns - suc i) ns) (drop (length ns - suc i) ns) tb (encode g) in
       rw (point-words t which ns i e low most tb list lm number words there ok-e over g ok marks after marked)
       (emit-sure (leb (length hd) 34 && sure) pred room (instantiatePartial t ns ps g) (λ y l. within (leb-true (length hd) 34 (and-left (leb (length hd) 34) sure y)) (h (and-right (leb (length hd) 34) sure y)) l))
     where
-      within : length (partialHead t (take (length ns - suc i) ns) (drop (length ns - suc i) ns) tb (encode g)) ≤ 34 → Small e × Ok 57 pred g → length (encode (instantiatePartial t ns ps g)) ≤ 8192
+      within : length (partialHead t (take (length ns - suc i) ns) (drop (length ns - suc i) ns) tb (encode g)) ≤ 34 → Fitting e g → length (encode (instantiatePartial t ns ps g)) ≤ 8192
           → isOne (rowForm pred (encode (instantiatePartial t ns ps g))) ≡ true
       within a b l =
-          point-fits t which ns names most ps (length-set (noPlaces (length ns)) (length ns - suc i) (filled e) ∙ length-replicate (length ns) kept) (one-small (length ns) i e low (b .0)) g (b .1) (names-few a) l
+          point-fits (b .over) t which ns names most ps (length-set (noPlaces (length ns)) (length ns - suc i) (filled e) ∙ length-replicate (length ns) kept) (one-small (b .over) (length ns) i e low (b .small)) g (b .deep) (b .ok) (b .sum) (names-few a) l

@@ -6,6 +6,7 @@ use Prim.Native.Nat.{ℕ, zero, suc, _+_, _-_, _≤_, _<_}
 use native.Mathlib.Nat.{zero-add}
 use native.Mathlib.Omega.{arith}
 use borrow.Author.Tests.{eq-eqb, ne-eqb, lt-ltb}
+use lib.Dec.{ltb}
 use lib.ListN.{length, getD, take, drop, set, replicate, length-replicate}
 use lib.Seq.{drop-length}
 use Rattle.tree.specs.Form.{Form, encode}
@@ -19,19 +20,19 @@ use Rattle.form.proofs.DecodeLaws.{clash, Ok, decode-encode, decode-sound}
 use Rattle.form.proofs.ReaderLaws.{told-end}
 use Rattle.subst.specs.Internal.Items.{items}
 use Rattle.subst.proofs.RowLaws.{itemsOf, marksOf}
-use Rattle.replace.specs.Internal.Pieces.{part as part-of, declaredIn, smallPart}
+use Rattle.replace.specs.Internal.Pieces.{part as part-of, declaredIn, Leaves}
 use Rattle.replace.proofs.QuantLaws.{Quant, quant-by-tag, quant-long}
 use Rattle.replace.proofs.OkLaws.{ok-deep}
 use Rattle.replace.proofs.InsideLaws.{Small}
 use Rattle.replace.proofs.SmallLaws.{small-form}
 use Rattle.one_point.specs.Internal.Rest.{partialRow}
-use Rattle.one_point.specs.Internal.Reduce.{isQuantifier, quantifierIn, Inner, oneTable, Resting, placedForm, placedOutcome, Placing, Cleared, Marking}
+use Rattle.one_point.specs.Internal.Reduce.{isQuantifier, quantifierIn, Inner, oneTable, Resting, placedForm, placedOutcome, Placing, Cleared, Marking, RestLeaves, readingDepth}
 use Rattle.one_point.specs.declared.one_point_inference.Quantifier.the-variants.{Of, None}
 use Rattle.one_point.proofs.SidesLaws.{told-plain}
 use Rattle.one_point.proofs.PartsLaws.{some-words}
 use Rattle.one_point.proofs.PlacesLaws.{place-from}
 use Rattle.one_point.proofs.PartialLaws.{mark-front, first-filled, part-items}
-use Rattle.one_point.proofs.InsidePoint.{point-row}
+use Rattle.one_point.proofs.InsidePoint.{Fitting, point-row}
 
 -- the head of a row as the code finds it
 module _ (row : List ℕ) (n : ℕ) (is : n ≡ declaredIn row) where
@@ -114,25 +115,56 @@ marking-of part pm pm′ f h is m l = record { enough = let e = h .enough in ome
 pub fresh-cleared : (row : List ℕ) (n : ℕ) → length row ≤ n → Cleared row (replicate n 0)
 fresh-cleared row n h = record { zeros = ap (λ (k : ℕ). replicate k 0) (sym (length-replicate n 0)); enough = rw length-replicate h }
 
--- a rest that is read as a predicate at most 57 deep
-module _ (u : ℕ) (few : u ≤ 65535) (row : List ℕ) (f : Form) (is : decode 63 pred row ≡ got f []) (a b : List ℕ) (r : Step) (q : ℕ) (t : Told 0 u (decodeIn 57 u pred row) a b r) (e : r ≡ End q) where
-  pub shallow-rest : Ok 57 pred f × (b ≡ mark f 0 u a)
+-- the depth at which the rest is read
+pub reading-any : (r : ℕ) → r ≡ 0 → 63 ≡ readingDepth r
+reading-any r e = rw (eq-eqb r 0 e)
+
+pub reading-is : (r : ℕ) → (r ≡ 0 → ⊥) → r ≡ readingDepth r
+reading-is r e = rw (ne-eqb r 0 e)
+
+pub reading-most : (r l : ℕ) → r ≤ 63 → l ≡ readingDepth r → l ≤ 63
+reading-most zero l h e = omega arith
+reading-most (suc r) l h e = let q = reading-is (suc r) (λ z. omega arith) in let i : l ≡ suc r = e ∙ sym q in omega arith
+
+-- the depth that is left for it
+pub rest-none : (part : List ℕ) → RestLeaves part 0
+rest-none part = record { most = omega arith; left = λ h. absurd (omega arith) }
+
+pub rest-leaves : (part : List ℕ) (d : ℕ) → Leaves part d → (d ≡ 0 → ⊥) → RestLeaves part (d - 1)
+rest-leaves part zero x n = absurd (n refl)
+rest-leaves part (suc d) x n =
+    let a = x .most in
+    let q : suc d - 1 + 1 ≡ suc d = omega arith in
+    record { most = omega arith; left = λ h. rw q x }
+
+-- a rest that is read as a predicate so deep
+module _ (u : ℕ) (few : u ≤ 65535) (deep : ℕ) (most : deep ≤ 63) (row : List ℕ) (f : Form) (is : decode 63 pred row ≡ got f []) (a b : List ℕ) (r : Step) (q : ℕ) (t : Told 0 u (decodeIn deep u pred row) a b r) (e : r ≡ End q) where
+  pub shallow-rest : Ok deep pred f × (b ≡ mark f 0 u a)
   shallow-rest =
-      let (g, x, d, l, m) = told-end 0 u (decode 57 pred row) a b r q (told-plain 0 57 u pred row a b r (omega arith) few t) e in
+      let (g, x, d, l, m) = told-end 0 u (decode deep pred row) a b r q (told-plain 0 deep u pred row a b r (omega arith) few t) e in
       go g x d m
     where
-      go : (g : Form) (x : List ℕ) → decode 57 pred row ≡ got g x → b ≡ mark g 0 u a → Ok 57 pred f × (b ≡ mark f 0 u a)
+      go : (g : Form) (x : List ℕ) → decode deep pred row ≡ got g x → b ≡ mark g 0 u a → Ok deep pred f × (b ≡ mark f 0 u a)
       go g x d m =
-          let (w, o) = decode-sound 57 pred row g x d in
-          let c : got g x ≡ got f [] = sym (decode-encode (ok-deep o 63 (omega arith)) x) ∙ (ap (decode 63 pred) (sym w) ∙ is) in
+          let (w, o) = decode-sound deep pred row g x d in
+          let c : got g x ≡ got f [] = sym (decode-encode (ok-deep o 63 most) x) ∙ (ap (decode 63 pred) (sym w) ∙ is) in
           let z : g ≡ f = cc in
           (rw z at o, rw z at m)
 
--- a replacement that is small
-pub part-small : (part : List ℕ) (f : Form) → decode 63 expr part ≡ got f [] → (b : Bool) → b ≡ smallPart part → b ≡ true → Small f
-part-small part f is b e y =
-    let (w, o) = whole-expr part f is in
-    small-form f (ok-deep o 64 (omega arith)) (ap smallPart (sym w) ∙ (sym e ∙ y))
+-- a replacement that leaves the rest so deep
+module _ (part : List ℕ) (f : Form) (is : decode 63 expr part ≡ got f []) (g : Form) where
+  part-small : (m : ℕ) → m ≤ 62 → Leaves part (64 - m) → Small m f
+  part-small m h x =
+      let (w, o) = whole-expr part f is in
+      let q : 65 - (64 - m) ≡ suc m = omega arith in
+      small-form m f (ok-deep o 64 (omega arith)) (omega arith) (rw (← w, ← q) (x .deep (omega arith))) (rw (← w) (x .words (omega arith)))
+
+  pub fitting : (r : ℕ) → RestLeaves part r → (l : ℕ) → l ≡ readingDepth r → Ok l pred g → ltb 0 r ≡ true → Fitting f g
+  fitting zero x l e o y = absurd (clash cc)
+  fitting (suc r) x l e o y =
+      let a = x .most in
+      let q : suc r + 1 ≡ 64 - (63 - suc r) = omega arith in
+      record { over = 63 - suc r; deep = suc r; small = part-small (63 - suc r) (omega arith) (rw (← q) (x .left (omega arith))); ok = rw (e ∙ sym (reading-is (suc r) (λ z. omega arith))) at o; sum = omega arith }
 
 -- the target's place filled in the rest
 module _ (t : ℕ) (ns : List ℕ) (i : ℕ) (part rest : List ℕ) (h : Placing t ns i part rest) where
@@ -147,7 +179,7 @@ module _ (t : ℕ) (ns : List ℕ) (i : ℕ) (part rest : List ℕ) (h : Placing
   outcome-is room = rw (h .is-part, h .is-rest)
 
   module _ (pm : List ℕ) (k : Marking part pm) (marks marks′ : List ℕ) (c : Cleared rest marks) (is : marks′ ≡ mark (h .form) 0 (i + 1) marks) where
-    pub placed-row : (sure : Bool) → (sure ≡ true → Small (h .by) × Ok 57 pred (h .form)) → (p : ℕ) → p ≡ length ns - 1 - i → (room : ℕ)
+    pub placed-row : (sure : Bool) → (sure ≡ true → Fitting (h .by) (h .form)) → (p : ℕ) → p ≡ length ns - 1 - i → (room : ℕ)
         → partialRow sure t (take p ns) (drop p ns) (oneTable (length ns - p) (length part)) part pm rest marks′ room ≡ placedOutcome t ns i part rest room
     placed-row sure inside p e room =
         let w = whole-pred rest (h .form) (h .is-rest) in

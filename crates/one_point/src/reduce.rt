@@ -6,8 +6,7 @@ use form::answer::Answer;
 use form::head::Step;
 use form::reader::expr_at;
 use form::reader::pred_at;
-use replace::small::Margin;
-use replace::small::is_small;
+use replace::small::depth_left;
 use tree::tag::Tag;
 ghost use mathlib.Core.Path.{_≡_};
 ghost use mathlib.Core.List.{[], _∷_};
@@ -15,7 +14,7 @@ ghost use Prim.Native.Nat.{_≤_};
 ghost use lib.ListN.{length, take};
 ghost use Rattle.tree.specs.Form.{pick};
 ghost use Rattle.form.specs.Answer.{told, written};
-ghost use Rattle.one_point.specs.Internal.Reduce.{Placing, Marking, Cleared, placedOutcome, emptyWord, Reducing, bodyOutcome};
+ghost use Rattle.one_point.specs.Internal.Reduce.{Placing, Marking, Cleared, placedOutcome, RestLeaves, readingDepth, emptyWord, Reducing, bodyOutcome};
 
 // The target's place filled in the rest of a body, with the replacement's marks.
 fn place_deep(
@@ -39,7 +38,28 @@ fn place_deep(
     put_rest(tag, names, p, false, part, part_marks, rest, &marks, out)
 }
 
-// The same, with marks for the rest, which is read first as a predicate at most 57 deep.
+// How deep the rest may be that is sure to stay within the limits when the part is put into it; 0 where none is.
+fn rest_depth(part: &[u32]) -> u32
+    ensures { λ r. ⌜ RestLeaves (now (part .entry)) r ⌝ }
+{
+    let d = depth_left(part);
+    if d == 0 {
+        return 0;
+    }
+    d - 1
+}
+
+// As how deep the rest is read first: as any, where none is sure to stay within the limits.
+fn reading_depth(left: u32) -> u32
+    ensures { λ r. ⌜ r ≡ readingDepth left ⌝ }
+{
+    if left == 0 {
+        return 63;
+    }
+    left
+}
+
+// The same, with marks for the rest, which is read first as deep as the part leaves it.
 fn place_in(
     tag: u32,
     names: &[u32],
@@ -54,12 +74,12 @@ fn place_in(
     ensures { λ r. ⌜ r ≡ told (placedOutcome tag (now (names .entry)) target (now (part .entry)) (now (rest .entry)) (length (now (out .entry)))) ⌝ }
     ensures { λ _. ⌜ now (out .exit) ≡ written (placedOutcome tag (now (names .entry)) target (now (part .entry)) (now (rest .entry)) (length (now (out .entry)))) (now (out .entry)) ⌝ }
 {
-    let Step::End(end) = pred_at(rest, marks, 0, Margin::ROW - 1, target + 1) else {
+    let left = rest_depth(part);
+    let Step::End(end) = pred_at(rest, marks, 0, reading_depth(left), target + 1) else {
         return place_deep(tag, names, target, part, part_marks, rest, out);
     };
     let p = names.len() - 1 - (target as usize);
-    let sure = is_small(part);
-    put_rest(tag, names, p, sure, part, part_marks, rest, marks, out)
+    put_rest(tag, names, p, 0 < left, part, part_marks, rest, marks, out)
 }
 
 // The same, with marks for the rest of its own.

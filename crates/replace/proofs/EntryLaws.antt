@@ -1,6 +1,6 @@
 -- The entries of a list in its row: where the table says that each expression stands, its items stand with their marks. Assumes nothing.
 use mathlib.Core.Path.{_≡_, refl, ap, sym, _∙_}
-use mathlib.Core.Bool.{true}
+use mathlib.Core.Bool.{Bool, true, false}
 use mathlib.Core.List.{List, [], _∷_, _++_, append-assoc, append-nil, map}
 use mathlib.Core.Option.{some}
 use Prim.Native.Nat.{ℕ, zero, suc, _+_, _-_, _≤_, _<_}
@@ -8,9 +8,10 @@ use native.Mathlib.Nat.{zero-add}
 use native.Mathlib.Numerals.{add-one}
 use native.Mathlib.Omega.{arith}
 use borrow.Author.Tests.{lt-leb}
-use lib.ListN.{length, getD, take, drop, set, replicate, length-append, length-set, take-append-drop}
+use lib.Dec.{leb}
+use lib.ListN.{length, getD, take, drop, set, replicate, length-append, length-set, length-replicate, take-append-drop}
 use lib.Seq.{take-at, drop-at, take-suc-set, getD-take}
-use Rattle.tree.specs.Form.{Form, encode}
+use Rattle.tree.specs.Form.{Form, pick, encode}
 use Rattle.form.specs.Lists.{Place, kept, filled, Entry, entry, placeOf, placeWords, entryWords, encodeList, wordOf, listOf}
 use Rattle.form.specs.Internal.Reads.{markEntries, emptyTable, addRow, tabled}
 use Rattle.form.specs.declared.lists.ListKind.{ListKind}
@@ -77,6 +78,27 @@ module _ (es : List Entry) (few : length es ≤ 32) (i : ℕ) (low : i < length 
   pub end-at : getD (tabled es 0 emptyTable .ends) i 0 ≡ getD (column end 0 es) i 0
   unfolding emptyTable
   end-at = listed-col (λ t. t .ends) end add-end es i few refl low
+
+-- a table has 32 places
+abbrev pub Full : Table → Type 0
+Full t = (length (t .words) ≡ 32) × (length (t .starts) ≡ 32) × (length (t .ends) ≡ 32)
+
+row-full : (t : Table) (w s e : ℕ) → Full t → Full (addRow t w s e)
+unfolding addRow
+row-full t w s e h = go (leb 32 (t .n))
+  where
+    go : (b : Bool) → Full (pick b (record { words = t .words; starts = t .starts; ends = t .ends; n = t .n + 1 }) (record { words = set (t .words) (t .n) w; starts = set (t .starts) (t .n) s; ends = set (t .ends) (t .n) e; n = t .n + 1 }))
+    go true = h
+    go false = (length-set (t .words) (t .n) w ∙ h .0, length-set (t .starts) (t .n) s ∙ h .1, length-set (t .ends) (t .n) e ∙ h .2)
+
+tabled-full : (es : List Entry) (at : ℕ) (t : Table) → Full t → Full (tabled es at t)
+unfolding tabled
+tabled-full [] at t h = h
+tabled-full (e ∷ es) at t h = tabled-full es (at + length (entryWords e)) (addRow t (wordOf e) (at + 1) (at + length (entryWords e))) (row-full t (wordOf e) (at + 1) (at + length (entryWords e)) h)
+
+pub listed-full : (es : List Entry) (t : Table) → t ≡ tabled es 0 emptyTable → Full t
+unfolding emptyTable
+listed-full es t e = rw e (tabled-full es 0 emptyTable (length-replicate {A = ℕ} 32 0, length-replicate {A = ℕ} 32 0, length-replicate {A = ℕ} 32 0))
 
 -- the parts lie in the row
 pub spans : (es : List Entry) (at i : ℕ) → i < length es → (getD (column start at es) i 0 ≤ getD (column end at es) i 0) × (getD (column end at es) i 0 ≤ at + length (encodeList es))

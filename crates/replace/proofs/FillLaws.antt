@@ -8,7 +8,7 @@ use native.Mathlib.Omega.{arith}
 use borrow.Author.Tests.{eq-eqb, ne-eqb}
 use lib.Dec.{eqb}
 use lib.ListN.{length, getD, take, drop, replicate, length-map, length-drop}
-use Rattle.tree.specs.Form.{Form, encode}
+use Rattle.tree.specs.Form.{Form, pick, encode}
 use Rattle.tree.specs.Tag.{Sort, pred}
 use Rattle.form.specs.Decode.{Whole, one, not-one, rowForm, found, missing, asSort, formOf}
 use Rattle.form.specs.Lists.{Place, kept, filled, Entry, entry, wordOf, placeOf, listOf}
@@ -23,12 +23,12 @@ use Rattle.form.proofs.ListLaws.{GoodAll, list-sound}
 use Rattle.form.proofs.TableLaws.{listed-words, listed-n, listing-yes}
 use Rattle.subst.proofs.CheckedLaws.{Checked}
 use Rattle.replace.specs.Fill.{quantified, other, ofQuantified, fill, fillOutcome}
-use Rattle.replace.specs.Internal.Pieces.{filledWords, InRow, Ready, replaced, fillPlan, declaredIn, keptWords, headWords, filledRow, isSure}
-use Rattle.replace.proofs.EntryLaws.{PlaceAt, listed-places, listed-in-row}
+use Rattle.replace.specs.Internal.Pieces.{filledWords, InRow, Ready, replaced, fillPlan, declaredIn, keptWords, headWords, filledRow, isFound, LeavesBy}
+use Rattle.replace.proofs.EntryLaws.{PlaceAt, listed-places, listed-in-row, listed-full}
 use Rattle.replace.proofs.BuildLaws.{emit-sure}
-use Rattle.replace.proofs.InsideLaws.{fill-fits}
-use Rattle.replace.proofs.SmallLaws.{listed-small, sure-shallow}
-use Rattle.replace.proofs.CallLaws.{call-small, call-long, call-missing, call-list-long, call-no-list, call-read, front-same}
+use Rattle.replace.proofs.InsideLaws.{some-deep, fill-fits}
+use Rattle.replace.proofs.SmallLaws.{listed-small}
+use Rattle.replace.proofs.CallLaws.{call-small, call-long, call-missing, call-list-long, call-no-list, call-read}
 use Rattle.replace.proofs.FillTree.{wordFor, fill-tree}
 use Rattle.replace.proofs.NameLaws.{kept-names, encode-quantify}
 use Rattle.replace.proofs.QuantLaws.{Quant, is-quant, not-quant, quant-count, quant-tag, quant-names, quant-long, quant-items}
@@ -112,11 +112,11 @@ module _ (list row : List ℕ) (wl room : ℕ) where
     unfolding fillOutcome
     fill-missing h q = call-missing Predicate Places (fillGo room) list row wl enough h q
 
-    module _ (m : List ℕ) (x : Checked Predicate row m (length row)) where
-      pub fill-list-long : 8192 < length list → fillOutcome list row wl room ≡ refusal 1
-      unfolding fillOutcome
-      fill-list-long h = call-list-long Predicate Places (fillGo room) list row wl enough m x h
+    pub fill-list-long : length row ≤ 8192 → 8192 < length list → fillOutcome list row wl room ≡ refusal (pick (isFound (formOf Predicate row)) 1 2)
+    unfolding fillOutcome
+    fill-list-long h l = call-list-long Predicate Places (fillGo room) list row wl enough h l
 
+    module _ (m : List ℕ) (x : Checked Predicate row m (length row)) where
       module _ (short : length list ≤ 8192) where
         pub fill-no-list : listOf Places list ≡ absent → fillOutcome list row wl room ≡ refusal 2
         unfolding fillOutcome
@@ -183,42 +183,48 @@ module _ (list : List ℕ) (t : Table) (work : List ℕ) (n : ℕ) (y : Placing 
   unfolding InRow
   places-in-row i h = rw (y .table) (listed-in-row Places list (y .es) (y .is) es-few i (let c = table-n in omega arith))
 
-  pub places-ready : length (t .words) ≡ 32 → length (t .starts) ≡ 32 → length (t .ends) ≡ 32 → 8192 + length list ≤ length work → Ready (fillPlan t) list (drop 8192 work)
-  places-ready a b c h = record { tabled = record { few = (let c = table-n in let d = es-few in omega arith); words = a; starts = b; ends = c }; in-row = places-in-row; marked = rw length-drop (omega arith) }
+  pub places-ready : 8192 + length list ≤ length work → Ready (fillPlan t) list (drop 8192 work)
+  places-ready h =
+      let f = listed-full (y .es) t (y .table) in
+      record { tabled = record { few = (let c = table-n in let d = es-few in omega arith); words = f .0; starts = f .1; ends = f .2 }; in-row = places-in-row; marked = rw length-drop (omega arith) }
 
-  module _ (row : List ℕ) (wl room : ℕ) (enough : 16384 ≤ wl) (short : length list ≤ 8192) (work₀ : List ℕ) (x : Checked Predicate row (take (length row) work₀) (length row)) (same : take 8192 work ≡ take 8192 work₀)
+  module _ (row : List ℕ) (wl room : ℕ) (enough : 16384 ≤ wl) (short : length list ≤ 8192) (x : Checked Predicate row (take (length row) work) (length row))
       (e : n ≡ declaredIn row) (z : n ≡ 0 → ⊥) where
     q : Quant (x .form)
-    q = the-quant row (take (length row) work₀) (length row) x n e z
+    q = the-quant row (take (length row) work) (length row) x n e z
 
     ps-count : length (map placeOf (y .es)) ≡ length (q .decls)
-    ps-count = length-map (y .es) placeOf ∙ (y .count ∙ the-count row (take (length row) work₀) (length row) x n e q)
+    ps-count = length-map (y .es) placeOf ∙ (y .count ∙ the-count row (take (length row) work) (length row) x n e q)
 
     row-marks : take (length (encode (x .form))) work ≡ mark (x .form) 0 0 (replicate (length (encode (x .form))) 0)
-    row-marks = rw (x .words) at (front-same work work₀ (length row) (x .short) same ∙ x .marks)
+    row-marks = rw (x .words) at (x .marks)
 
     fill-said : fillOutcome list row wl room ≡ finish pred room (fill (q .tag) (q .decls) (map placeOf (y .es)) (q .body))
-    fill-said = fill-counted list row wl room enough (take (length row) work₀) x short (y .es) (y .is) q ∙ rw (eq-eqb (length (y .es)) (length (q .decls)) (sym (length-map (y .es) placeOf) ∙ ps-count))
+    fill-said = fill-counted list row wl room enough (take (length row) work) x short (y .es) (y .is) q ∙ rw (eq-eqb (length (y .es)) (length (q .decls)) (sym (length-map (y .es) placeOf) ∙ ps-count))
 
-    module _ (b : Bool) (shallow : b ≡ true → Ok 58 (x .sort) (x .form)) where
+    module _ (d : ℕ) (left : LeavesBy t list d) (b : Bool) (shallow : b ≡ true → Ok d (x .sort) (x .form)) where
       abbrev result : Form
       result = fill (q .tag) (q .decls) (map placeOf (y .es)) (q .body)
 
-      fill-within : isSure b t list ≡ true → length (encode result) ≤ 8192 → isOne (rowForm pred (encode result)) ≡ true
-      fill-within s l =
-          let ok = rw (pred-sort row (x .sort) (x .form) (x .is-found)) at (shallow (sure-shallow b t list s)) in
-          fill-fits (x .form) ok q (map placeOf (y .es)) ps-count (listed-small Places list (y .es) (y .is) es-few b (rw (y .table) at s)) l
+      within : (k : ℕ) → k ≡ d → Ok k pred (x .form) → length (encode result) ≤ 8192 → isOne (rowForm pred (encode result)) ≡ true
+      within zero e o l = absurd (let h = some-deep o in omega arith)
+      within (suc k) e o l =
+          let a = left .most in
+          fill-fits (64 - d) (x .form) k o (omega arith) q (map placeOf (y .es)) ps-count (listed-small Places list (y .es) (y .is) es-few d (rw (y .table) at left) (omega arith)) l
 
-      fill-built : filledRow (isSure b t list) list (drop 8192 work) (encode (x .form)) work (tabled (y .es) 0 emptyTable) room ≡ finish pred room result
+      fill-within : b ≡ true → length (encode result) ≤ 8192 → isOne (rowForm pred (encode result)) ≡ true
+      fill-within s l = within d refl (rw (pred-sort row (x .sort) (x .form) (x .is-found)) at (shallow s)) l
+
+      fill-built : filledRow b list (drop 8192 work) (encode (x .form)) work (tabled (y .es) 0 emptyTable) room ≡ finish pred room result
       fill-built =
           filled-tree (x .form) q (tabled (y .es) 0 emptyTable) list (drop 8192 work) (map placeOf (y .es)) (listed-words (y .es) es-few ∙ place-words (y .es) (list-sound Places list (y .es) (y .is) .1))
           (listed-n (y .es) ∙ sym (length-map (y .es) placeOf))
-          (λ i h. listed-places Places list (y .es) (y .is) es-few (drop 8192 work) (y .marks) i (rw (length-map (y .es) placeOf) at h)) ps-count work row-marks room (isSure b t list) fill-within
+          (λ i h. listed-places Places list (y .es) (y .is) es-few (drop 8192 work) (y .marks) i (rw (length-map (y .es) placeOf) at h)) ps-count work row-marks room b fill-within
 
-      fill-made : filledRow (isSure b t list) list (drop 8192 work) row work t room ≡ finish pred room result
+      fill-made : filledRow b list (drop 8192 work) row work t room ≡ finish pred room result
       fill-made =
-          ap (λ (u : Table). filledRow (isSure b t list) list (drop 8192 work) row work u room) (y .table)
-          ∙ (ap (λ (r : List ℕ). filledRow (isSure b t list) list (drop 8192 work) r work (tabled (y .es) 0 emptyTable) room) (x .words) ∙ fill-built)
+          ap (λ (u : Table). filledRow b list (drop 8192 work) row work u room) (y .table)
+          ∙ (ap (λ (r : List ℕ). filledRow b list (drop 8192 work) r work (tabled (y .es) 0 emptyTable) room) (x .words) ∙ fill-built)
 
-      pub fill-row : filledRow (isSure b t list) list (drop 8192 work) row work t room ≡ fillOutcome list row wl room
+      pub fill-row : filledRow b list (drop 8192 work) row work t room ≡ fillOutcome list row wl room
       fill-row = fill-made ∙ sym fill-said

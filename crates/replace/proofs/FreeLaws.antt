@@ -31,15 +31,15 @@ use Rattle.subst.proofs.ShiftLaws.{moved}
 use Rattle.subst.proofs.RowLaws.{identOf, itemsOf, marked-items, walk-items}
 use Rattle.subst.proofs.CheckedLaws.{Checked}
 use Rattle.replace.specs.Free.{orName, seek, freeFor, substitute, freeOutcome}
-use Rattle.replace.specs.Internal.Pieces.{pieceWords, spot, freePiece, pieceOf, planned, InRow, Ready, replaced, kindFor, freePlan, isSure}
+use Rattle.replace.specs.Internal.Pieces.{pieceWords, spot, freePiece, pieceOf, planned, InRow, Ready, replaced, kindFor, freePlan, isFound, LeavesBy}
 use Rattle.replace.specs.declared.pieces.Piece.the-variants.{Same, Part}
-use Rattle.replace.proofs.EntryLaws.{PlaceAt, listed-places, listed-in-row}
+use Rattle.replace.proofs.EntryLaws.{PlaceAt, listed-places, listed-in-row, listed-full}
 use Rattle.replace.proofs.MarkLaws.{items-take}
 use Rattle.replace.proofs.ActionLaws.{tight-depth, moved-words, moved-lift}
 use Rattle.replace.proofs.BuildLaws.{kindOf, emit-sure}
-use Rattle.replace.proofs.InsideLaws.{free-fits}
-use Rattle.replace.proofs.SmallLaws.{listed-small, sure-shallow}
-use Rattle.replace.proofs.CallLaws.{call-small, call-long, call-missing, call-list-long, call-no-list, call-read, front-same}
+use Rattle.replace.proofs.InsideLaws.{some-deep, free-fits}
+use Rattle.replace.proofs.SmallLaws.{listed-small}
+use Rattle.replace.proofs.CallLaws.{call-small, call-long, call-missing, call-list-long, call-no-list, call-read}
 
 -- the list is searched as the words are
 seek-step : (n m : ℕ) (p : Place) (es : List Entry) (b : Bool) → seek es m ≡ orName m (getD (map placeOf es) (spot m (map wordOf es)) kept)
@@ -157,11 +157,11 @@ module _ (list row : List ℕ) (wl room : ℕ) where
     unfolding freeOutcome
     free-missing h q = call-missing Either Pairs (freeGo room) list row wl enough h q
 
-    module _ (m : List ℕ) (x : Checked Either row m (length row)) where
-      pub free-list-long : 8192 < length list → freeOutcome list row wl room ≡ refusal 1
-      unfolding freeOutcome
-      free-list-long h = call-list-long Either Pairs (freeGo room) list row wl enough m x h
+    pub free-list-long : length row ≤ 8192 → 8192 < length list → freeOutcome list row wl room ≡ refusal (pick (isFound (formOf Either row)) 1 2)
+    unfolding freeOutcome
+    free-list-long h l = call-list-long Either Pairs (freeGo room) list row wl enough h l
 
+    module _ (m : List ℕ) (x : Checked Either row m (length row)) where
       module _ (short : length list ≤ 8192) where
         pub free-no-list : listOf Pairs list ≡ absent → freeOutcome list row wl room ≡ refusal 2
         unfolding freeOutcome
@@ -213,11 +213,11 @@ module _ (list : List ℕ) (t : Table) (work : List ℕ) (y : Pairing list t wor
   unfolding InRow
   pairs-in-row i h = rw (y .table) (listed-in-row Pairs list (y .es) (y .is) (y .few) i (let n = listed-n (y .es) in let q = rw (y .table) at h in omega arith))
 
-  module _ (row : List ℕ) (wl room : ℕ) (enough : 16384 ≤ wl) (short : length list ≤ 8192) (work₀ : List ℕ) (x : Checked Either row (take (length row) work₀) (length row)) (same : take 8192 work ≡ take 8192 work₀) where
+  module _ (row : List ℕ) (wl room : ℕ) (enough : 16384 ≤ wl) (short : length list ≤ 8192) (x : Checked Either row (take (length row) work) (length row)) where
     row-items : items row work ≡ itemsOf 0 (x .form)
     row-items =
         sym (items-take row work)
-        ∙ (rw (front-same work work₀ (length row) (x .short) same, x .marks, x .words) (marked-items (x .form) (length (encode (x .form))) (le-refl _)))
+        ∙ (rw (x .marks, x .words) (marked-items (x .form) (length (encode (x .form))) (le-refl _)))
 
     free-built : (sure : Bool) → (sure ≡ true → length (encode (substitute (y .es) (x .form))) ≤ 8192 → isOne (rowForm (x .sort) (encode (substitute (y .es) (x .form)))) ≡ true)
         → replaced sure (kindFor (asExpr Either row)) [] (freePlan t) list (drop 8192 work) row work room ≡ finish (x .sort) room (substitute (y .es) (x .form))
@@ -227,11 +227,15 @@ module _ (list : List ℕ) (t : Table) (work : List ℕ) (y : Pairing list t wor
         rw (y .table, row-items, g, kind-sort row (x .sort) (x .form) (x .is-found) (asExpr Either row) refl) (emit-sure sure (x .sort) room (substitute (y .es) (x .form)) fits)
 
     free-said : freeOutcome list row wl room ≡ finish (x .sort) room (substitute (y .es) (x .form))
-    free-said = free-named list row wl room enough (take (length row) work₀) x short (y .es) (y .is) ∙ rw (y .good)
+    free-said = free-named list row wl room enough (take (length row) work) x short (y .es) (y .is) ∙ rw (y .good)
 
-    pub free-row : (b : Bool) → (b ≡ true → Ok 58 (x .sort) (x .form)) → replaced (isSure b t list) (kindFor (asExpr Either row)) [] (freePlan t) list (drop 8192 work) row work room ≡ freeOutcome list row wl room
-    free-row b shallow =
-        free-built (isSure b t list) (λ s l. free-fits (y .es) (listed-small Pairs list (y .es) (y .is) (y .few) b (rw (y .table) at s)) (shallow (sure-shallow b t list s)) l) ∙ sym free-said
+    pub free-row : (d : ℕ) → LeavesBy t list d → (b : Bool) → (b ≡ true → Ok d (x .sort) (x .form)) → replaced b (kindFor (asExpr Either row)) [] (freePlan t) list (drop 8192 work) row work room ≡ freeOutcome list row wl room
+    free-row d left b shallow = free-built b (λ y l. within (shallow y) l) ∙ sym free-said
+      where
+        within : Ok d (x .sort) (x .form) → length (encode (substitute (y .es) (x .form))) ≤ 8192 → isOne (rowForm (x .sort) (encode (substitute (y .es) (x .form)))) ≡ true
+        within o l = let a = left .most in free-fits (64 - d) (y .es) (listed-small Pairs list (y .es) (y .is) (y .few) d (rw (y .table) at left) (some-deep o)) o (omega arith) l
 
-  pub pairs-ready : length (t .words) ≡ 32 → length (t .starts) ≡ 32 → length (t .ends) ≡ 32 → 8192 + length list ≤ length work → Ready (freePlan t) list (drop 8192 work)
-  pairs-ready a b c h = record { tabled = record { few = pairs-few; words = a; starts = b; ends = c }; in-row = pairs-in-row; marked = rw length-drop (omega arith) }
+  pub pairs-ready : 8192 + length list ≤ length work → Ready (freePlan t) list (drop 8192 work)
+  pairs-ready h =
+      let f = listed-full (y .es) t (y .table) in
+      record { tabled = record { few = pairs-few; words = f .0; starts = f .1; ends = f .2 }; in-row = pairs-in-row; marked = rw length-drop (omega arith) }

@@ -57,7 +57,7 @@ pub walk-deeper : (K m : ℕ) (act : ℕ → Outer → Form) → ((k : ℕ) (x :
 walk-deeper K m act h ok k l = walk-tested K m fits act h ok k l (ok-fits ok k)
 
 -- words that are at most 63,487
-small-split : (a b : List ℕ) → small (a ++ b) ≡ true → (small a ≡ true) × (small b ≡ true)
+pub small-split : (a b : List ℕ) → small (a ++ b) ≡ true → (small a ≡ true) × (small b ≡ true)
 small-split [] b h = (refl, h)
 small-split (w ∷ a) b h =
     let (x, y) = small-split a b (and-right (leb w 63487) (small (a ++ b)) h) in
@@ -107,93 +107,24 @@ up-ok n k (dangling j) l h = let g = leb-true (k + j) 63487 h in ok-bound (betwe
 pub lift-small : {d : ℕ} {s : Sort} {e : Form} → Ok d s e → small (encode e) ≡ true → (n : ℕ) → n ≤ 2048 → Ok d s (lift n e)
 lift-small {d} {s} {e} ok h n l = ok-deep (walk-tested (32 * d) 0 low (up n) (λ k x a b. up-ok n k x l b) ok 0 (omega arith) (small-low 0 e h)) d (omega arith)
 
--- an expression that a substitution may put anywhere in a form at most 58 deep
-pub record Small (e : Form) : Type 0 where
-  pub ok : Ok 7 expr e
+-- an expression at most m + 1 deep, of small words: a substitution may put it anywhere in a form at most 64 - m deep
+pub record Small (m : ℕ) (e : Form) : Type 0 where
+  pub ok : Ok (suc m) expr e
   pub words : small (encode e) ≡ true
 
-abbrev pub SmallPlace : Place → Type 0
-SmallPlace kept = Unit {0}
-SmallPlace (filled e) = Small e
+abbrev pub SmallPlace : ℕ → Place → Type 0
+SmallPlace m kept = Unit {0}
+SmallPlace m (filled e) = Small m e
 
-abbrev pub SmallPlaces : List Place → Type 0
-SmallPlaces [] = Unit {0}
-SmallPlaces (p ∷ ps) = SmallPlace p × SmallPlaces ps
+abbrev pub SmallPlaces : ℕ → List Place → Type 0
+SmallPlaces m [] = Unit {0}
+SmallPlaces m (p ∷ ps) = SmallPlace m p × SmallPlaces m ps
 
--- place by place
-pub small-places : (ps : List Place) → ((i : ℕ) → i < length ps → SmallPlace (getD ps i kept)) → SmallPlaces ps
-small-places [] h = tt
-small-places (p ∷ ps) h = (h 0 (omega arith), small-places ps (λ i l. h (suc i) (omega arith)))
-
-small-lift : (e : Form) → Small e → (n : ℕ) → n ≤ 2048 → Ok 7 expr (lift n e)
-small-lift e h n l = lift-small (h .ok) (h .words) n l
-
--- a name or an index alone
-name-ok : (k m : ℕ) → between 0 65535 m ≡ true → Ok 7 expr (lift k (leaf (free m)))
-unfolding walk
-name-ok k m h = ok-free h
-
-index-ok : (k j : ℕ) → k + j ≤ 65535 → Ok 7 expr (lift k (leaf (bound j)))
-unfolding walk
-index-ok k j h = ok-bound (between-in 0 65535 (0 + (j + k)) (omega arith) (omega arith))
-
--- free substitution
-pick-ok : (k : ℕ) (b : Bool) (x y : Form) → Ok 7 expr (lift k x) → Ok 7 expr (lift k y) → Ok 7 expr (lift k (pick b x y))
-pick-ok k true x y h g = h
-pick-ok k false x y h g = g
-
-place-ok : (k m : ℕ) (p : Place) → SmallPlace p → k ≤ 2048 → between 0 65535 m ≡ true → Ok 7 expr (lift k (orName m p))
-place-ok k m kept h l g = name-ok k m g
-place-ok k m (filled e) h l g = small-lift e h k l
-
-seek-ok : (k m : ℕ) (es : List Entry) → SmallPlaces (map placeOf es) → k ≤ 2048 → between 0 65535 m ≡ true → Ok 7 expr (lift k (seek es m))
-seek-ok k m [] h l g = name-ok k m g
-seek-ok k m (entry n p ∷ es) h l g = pick-ok k (eqb n m) (orName m p) (seek es m) (place-ok k m p (h .0) l g) (seek-ok k m es (h .1) l g)
-
-free-ok : (es : List Entry) → SmallPlaces (map placeOf es) → (k : ℕ) (x : Outer) → k ≤ 2048 → fits k x ≡ true → Ok 7 expr (put (freeFor es) k x)
-free-ok es h k (named m) l g = seek-ok k m es h l g
-free-ok es h k (dangling j) l g = index-ok k j (between-high 65535 (k + j) g)
-
-pub free-inside : (es : List Entry) → SmallPlaces (map placeOf es) → {s : Sort} {f : Form} → Ok 58 s f → Ok 64 s (substitute es f)
-unfolding substitute
-free-inside es h ok = walk-deeper 2048 6 (put (freeFor es)) (free-ok es h) ok 0 (omega arith)
-
-pub free-fits : (es : List Entry) → SmallPlaces (map placeOf es) → {s : Sort} {f : Form} → Ok 58 s f → length (encode (substitute es f)) ≤ 8192
-    → isOne (rowForm s (encode (substitute es f))) ≡ true
-free-fits es h ok l = ap isOne (row-encode (free-inside es h ok) l)
-
--- fill
-pub small-append : (ps qs : List Place) → SmallPlaces ps → SmallPlaces qs → SmallPlaces (ps ++ qs)
-small-append [] qs h g = g
-small-append (p ∷ ps) qs h g = (h .0, small-append ps qs (h .1) g)
-
-small-reverse : (ps : List Place) → SmallPlaces ps → SmallPlaces (reverse ps)
-small-reverse [] h = tt
-small-reverse (p ∷ ps) h = rw (reverse-cons p ps) (small-append (reverse ps) (p ∷ []) (small-reverse ps (h .1)) (h .0, tt))
-
-fill-index-ok : (k m c : ℕ) (qs : List Place) (j : ℕ) → SmallPlaces qs → m ≤ c + keptCount qs → m + k ≤ 2048 → k + (c + j) ≤ 65535 → Ok 7 expr (lift k (fillIndex m c qs j))
-fill-index-ok k m c [] j h n l g = index-ok k (m + j) (omega arith)
-fill-index-ok k m c (kept ∷ qs) zero h n l g = index-ok k c (omega arith)
-fill-index-ok k m c (filled e ∷ qs) zero h n l g = rw (up-up m k e) (small-lift e (h .0) (m + k) l)
-fill-index-ok k m c (kept ∷ qs) (suc j) h n l g = fill-index-ok k m (suc c) qs j (h .1) (omega arith) l (omega arith)
-fill-index-ok k m c (filled e ∷ qs) (suc j) h n l g = fill-index-ok k m c qs j (h .1) n l (omega arith)
-
-module _ (ps : List Place) (few : length ps ≤ 32) (h : SmallPlaces ps) where
-  fill-for-ok : (k : ℕ) (x : Outer) → k ≤ 2016 → fits k x ≡ true → Ok 7 expr (put (fillFor ps) k x)
-  fill-for-ok k (named m) l g = name-ok k m g
-  fill-for-ok k (dangling j) l g =
-      let a = between-high 65535 (k + j) g in
-      let b = count-both ps in
-      fill-index-ok k (keptCount ps) 0 (reverse ps) j (small-reverse ps h) (rw (kept-reverse ps) (omega arith)) (omega arith) (omega arith)
-
-  -- the body alone
-  pub filled-body : {f : Form} → Ok 57 pred f → Ok 63 pred (subst (fillFor ps) f)
-  filled-body ok = walk-deeper 2016 6 (put (fillFor ps)) fill-for-ok ok 0 (omega arith)
-
-  -- under the declarations that are kept
-  pub filled-ok : (t : ℕ) (ns : List ℕ) → (eqb t 851 || eqb t 852) ≡ true → areNames ns ≡ true → length ns ≤ 32 → {f : Form} → Ok 57 pred f → Ok 64 pred (fill t ns ps f)
-  unfolding fill
-  filled-ok t ns w n l {f} ok = let m = few-names ps ns in quantify-ok t (keptNames ps ns) (subst (fillFor ps) f) w (names-kept ps ns n) (omega arith) (filled-body ok)
+-- a form is at least one level deep
+pub some-deep : {d : ℕ} {s : Sort} {f : Form} → Ok d s f → 0 < d
+some-deep (ok-free h) = omega arith
+some-deep (ok-bound h) = omega arith
+some-deep (ok-node l r w) = omega arith
 
 only-kid : {d : ℕ} (p e : ℕ) (b : Form) → OkAll d (sorts p e) (more b none) → p ≡ 1 → e ≡ 0 → Ok d pred b
 only-kid {d} p e b w x y = go (rw (x, y) at w)
@@ -206,16 +137,6 @@ pub quant-body : {d : ℕ} (t : ℕ) (ns : List ℕ) (b : Form) → (eqb t 851 |
 quant-body t ns b w (ok-node {p = p} {e = e} l r k) =
     let g = tag-heading t ((length ns ∷ []) ++ (ns ++ [])) (length ns ∷ []) ns p e [] w (r []) in
     only-kid p e b k (g .preds) (g .exprs)
-
-module _ (f : Form) (ok : Ok 58 pred f) (q : Quant f) (ps : List Place) (all : length ps ≡ length (q .decls)) (h : SmallPlaces ps) where
-  pub fill-inside : Ok 64 pred (fill (q .tag) (q .decls) ps (q .body))
-  fill-inside =
-      let m = q .most in
-      let o = rw (q .form) at ok in
-      filled-ok ps (omega arith) h (q .tag) (q .decls) (q .which) (node-names (q .tag) (q .decls) (more (q .body) none) (q .which) o) m (quant-body (q .tag) (q .decls) (q .body) (q .which) o)
-
-  pub fill-fits : length (encode (fill (q .tag) (q .decls) ps (q .body))) ≤ 8192 → isOne (rowForm pred (encode (fill (q .tag) (q .decls) ps (q .body)))) ≡ true
-  fill-fits l = ap isOne (row-encode fill-inside l)
 
 -- lowering: each index only falls
 module _ (act : ℕ → Outer → Form) (g : (k : ℕ) (x : Outer) → low k x ≡ true → small (encode (act k x)) ≡ true) where
@@ -252,20 +173,6 @@ unfolding walk encode
 fall-small n k (named m) h = rw h
 fall-small n k (dangling j) h = let g = leb-true (k + j) 63487 h in rw (le-leb (0 + (j - n + k)) 63487 (omega arith))
 
-pub lower-small : (n : ℕ) (e : Form) → Small e → Small (lower n e)
-lower-small n e h =
-    record { ok = walk-deeper 416 0 (put (fall n)) (λ k x a b. fall-ok n k x b) (h .ok) 0 (omega arith); words = small-walk (put (fall n)) (fall-small n) 0 e (h .words) }
-
-pub small-lowered : (n : ℕ) (ps : List Place) → SmallPlaces ps → SmallPlaces (map (lowPlace (lower n)) ps)
-small-lowered n [] h = tt
-small-lowered n (kept ∷ ps) h = (tt, small-lowered n ps (h .1))
-small-lowered n (filled e ∷ ps) h = (lower-small n e (h .0), small-lowered n ps (h .1))
-
-pub small-drop : (j : ℕ) (ps : List Place) → SmallPlaces ps → SmallPlaces (drop j ps)
-small-drop zero ps h = h
-small-drop (suc j) [] h = h
-small-drop (suc j) (p ∷ ps) h = small-drop j ps (h .1)
-
 -- the names of the first j declarations and of the others
 pub names-take : (j : ℕ) (ns : List ℕ) → areNames ns ≡ true → areNames (take j ns) ≡ true
 names-take zero ns h = refl
@@ -277,19 +184,120 @@ names-drop zero ns h = h
 names-drop (suc j) [] h = refl
 names-drop (suc j) (n ∷ ns) h = names-drop j ns (and-right (between 0 65535 n) (areNames ns) h)
 
--- the declarations after the first j are filled, the expressions lowered
-module _ (ns : List ℕ) (names : areNames ns ≡ true) (most : length ns ≤ 32) (ps : List Place) (all : length ps ≡ length ns) (h : SmallPlaces ps) (j n : ℕ) where
-  abbrev qs : List Place
-  qs = map (lowPlace (lower n)) (drop j ps)
+module _ (m : ℕ) where
+  -- place by place
+  pub small-places : (ps : List Place) → ((i : ℕ) → i < length ps → SmallPlace m (getD ps i kept)) → SmallPlaces m ps
+  small-places [] h = tt
+  small-places (p ∷ ps) h = (h 0 (omega arith), small-places ps (λ i l. h (suc i) (omega arith)))
 
-  qs-few : length qs ≤ 32
-  qs-few = let a = length-map (drop j ps) (lowPlace (lower n)) in let b = length-drop j ps in omega arith
+  small-lift : (e : Form) → Small m e → (n : ℕ) → n ≤ 2048 → Ok (suc m) expr (lift n e)
+  small-lift e h n l = lift-small (h .ok) (h .words) n l
 
-  qs-small : SmallPlaces qs
-  qs-small = small-lowered n (drop j ps) (small-drop j ps h)
+  -- a name or an index alone
+  name-ok : (k n : ℕ) → between 0 65535 n ≡ true → Ok (suc m) expr (lift k (leaf (free n)))
+  unfolding walk
+  name-ok k n h = ok-free h
 
-  pub partial-body : {f : Form} → Ok 57 pred f → Ok 63 pred (subst (fillFor (map (lowPlace (lower n)) (drop j ps))) f)
-  partial-body ok = filled-body qs qs-few qs-small ok
+  index-ok : (k j : ℕ) → k + j ≤ 65535 → Ok (suc m) expr (lift k (leaf (bound j)))
+  unfolding walk
+  index-ok k j h = ok-bound (between-in 0 65535 (0 + (j + k)) (omega arith) (omega arith))
 
-  pub partial-inside : (t : ℕ) → (eqb t 851 || eqb t 852) ≡ true → {f : Form} → Ok 57 pred f → Ok 64 pred (fill t (drop j ns) (map (lowPlace (lower n)) (drop j ps)) f)
-  partial-inside t w ok = let l = length-drop j ns in filled-ok qs qs-few qs-small t (drop j ns) w (names-drop j ns names) (omega arith) ok
+  -- free substitution
+  pick-ok : (k : ℕ) (b : Bool) (x y : Form) → Ok (suc m) expr (lift k x) → Ok (suc m) expr (lift k y) → Ok (suc m) expr (lift k (pick b x y))
+  pick-ok k true x y h g = h
+  pick-ok k false x y h g = g
+
+  place-ok : (k n : ℕ) (p : Place) → SmallPlace m p → k ≤ 2048 → between 0 65535 n ≡ true → Ok (suc m) expr (lift k (orName n p))
+  place-ok k n kept h l g = name-ok k n g
+  place-ok k n (filled e) h l g = small-lift e h k l
+
+  seek-ok : (k n : ℕ) (es : List Entry) → SmallPlaces m (map placeOf es) → k ≤ 2048 → between 0 65535 n ≡ true → Ok (suc m) expr (lift k (seek es n))
+  seek-ok k n [] h l g = name-ok k n g
+  seek-ok k n (entry w p ∷ es) h l g = pick-ok k (eqb w n) (orName n p) (seek es n) (place-ok k n p (h .0) l g) (seek-ok k n es (h .1) l g)
+
+  free-ok : (es : List Entry) → SmallPlaces m (map placeOf es) → (k : ℕ) (x : Outer) → k ≤ 2048 → fits k x ≡ true → Ok (suc m) expr (put (freeFor es) k x)
+  free-ok es h k (named n) l g = seek-ok k n es h l g
+  free-ok es h k (dangling j) l g = index-ok k j (between-high 65535 (k + j) g)
+
+  pub free-inside : (es : List Entry) → SmallPlaces m (map placeOf es) → {d : ℕ} {s : Sort} {f : Form} → Ok d s f → d + m ≤ 64 → Ok 64 s (substitute es f)
+  unfolding substitute
+  free-inside es h {d} ok l = ok-deep (walk-deeper 2048 m (put (freeFor es)) (free-ok es h) ok 0 (omega arith)) 64 l
+
+  pub free-fits : (es : List Entry) → SmallPlaces m (map placeOf es) → {d : ℕ} {s : Sort} {f : Form} → Ok d s f → d + m ≤ 64 → length (encode (substitute es f)) ≤ 8192
+      → isOne (rowForm s (encode (substitute es f))) ≡ true
+  free-fits es h ok l w = ap isOne (row-encode (free-inside es h ok l) w)
+
+  -- fill
+  pub small-append : (ps qs : List Place) → SmallPlaces m ps → SmallPlaces m qs → SmallPlaces m (ps ++ qs)
+  small-append [] qs h g = g
+  small-append (p ∷ ps) qs h g = (h .0, small-append ps qs (h .1) g)
+
+  small-reverse : (ps : List Place) → SmallPlaces m ps → SmallPlaces m (reverse ps)
+  small-reverse [] h = tt
+  small-reverse (p ∷ ps) h = rw (reverse-cons p ps) (small-append (reverse ps) (p ∷ []) (small-reverse ps (h .1)) (h .0, tt))
+
+  fill-index-ok : (k n c : ℕ) (qs : List Place) (j : ℕ) → SmallPlaces m qs → n ≤ c + keptCount qs → n + k ≤ 2048 → k + (c + j) ≤ 65535 → Ok (suc m) expr (lift k (fillIndex n c qs j))
+  fill-index-ok k n c [] j h a l g = index-ok k (n + j) (omega arith)
+  fill-index-ok k n c (kept ∷ qs) zero h a l g = index-ok k c (omega arith)
+  fill-index-ok k n c (filled e ∷ qs) zero h a l g = rw (up-up n k e) (small-lift e (h .0) (n + k) l)
+  fill-index-ok k n c (kept ∷ qs) (suc j) h a l g = fill-index-ok k n (suc c) qs j (h .1) (omega arith) l (omega arith)
+  fill-index-ok k n c (filled e ∷ qs) (suc j) h a l g = fill-index-ok k n c qs j (h .1) a l (omega arith)
+
+  module _ (ps : List Place) (few : length ps ≤ 32) (h : SmallPlaces m ps) where
+    fill-for-ok : (k : ℕ) (x : Outer) → k ≤ 2016 → fits k x ≡ true → Ok (suc m) expr (put (fillFor ps) k x)
+    fill-for-ok k (named n) l g = name-ok k n g
+    fill-for-ok k (dangling j) l g =
+        let a = between-high 65535 (k + j) g in
+        let b = count-both ps in
+        fill-index-ok k (keptCount ps) 0 (reverse ps) j (small-reverse ps h) (rw (kept-reverse ps) (omega arith)) (omega arith) (omega arith)
+
+    -- the body alone
+    pub filled-body : {d : ℕ} {f : Form} → Ok d pred f → d + m ≤ 63 → Ok 63 pred (subst (fillFor ps) f)
+    filled-body {d} ok l = ok-deep (walk-deeper 2016 m (put (fillFor ps)) fill-for-ok ok 0 (omega arith)) 63 l
+
+    -- under the declarations that are kept
+    pub filled-ok : (t : ℕ) (ns : List ℕ) → (eqb t 851 || eqb t 852) ≡ true → areNames ns ≡ true → length ns ≤ 32 → {d : ℕ} {f : Form} → Ok d pred f → d + m ≤ 63 → Ok 64 pred (fill t ns ps f)
+    unfolding fill
+    filled-ok t ns w n l {f = f} ok deep = let q = few-names ps ns in quantify-ok t (keptNames ps ns) (subst (fillFor ps) f) w (names-kept ps ns n) (omega arith) (filled-body ok deep)
+
+  module _ (f : Form) (d : ℕ) (ok : Ok (suc d) pred f) (deep : d + m ≤ 63) (q : Quant f) (ps : List Place) (all : length ps ≡ length (q .decls)) (h : SmallPlaces m ps) where
+    pub fill-inside : Ok 64 pred (fill (q .tag) (q .decls) ps (q .body))
+    fill-inside =
+        let a = q .most in
+        let o = rw (q .form) at ok in
+        filled-ok ps (omega arith) h (q .tag) (q .decls) (q .which) (node-names (q .tag) (q .decls) (more (q .body) none) (q .which) o) a (quant-body (q .tag) (q .decls) (q .body) (q .which) o) deep
+
+    pub fill-fits : length (encode (fill (q .tag) (q .decls) ps (q .body))) ≤ 8192 → isOne (rowForm pred (encode (fill (q .tag) (q .decls) ps (q .body)))) ≡ true
+    fill-fits l = ap isOne (row-encode fill-inside l)
+
+  -- lowered
+  pub lower-small : (n : ℕ) (e : Form) → Small m e → Small m (lower n e)
+  lower-small n e h =
+      record { ok = ok-deep (walk-deeper (32 * suc m) 0 (put (fall n)) (λ k x a b. fall-ok n k x b) (h .ok) 0 (omega arith)) (suc m) (omega arith); words = small-walk (put (fall n)) (fall-small n) 0 e (h .words) }
+
+  pub small-lowered : (n : ℕ) (ps : List Place) → SmallPlaces m ps → SmallPlaces m (map (lowPlace (lower n)) ps)
+  small-lowered n [] h = tt
+  small-lowered n (kept ∷ ps) h = (tt, small-lowered n ps (h .1))
+  small-lowered n (filled e ∷ ps) h = (lower-small n e (h .0), small-lowered n ps (h .1))
+
+  pub small-drop : (j : ℕ) (ps : List Place) → SmallPlaces m ps → SmallPlaces m (drop j ps)
+  small-drop zero ps h = h
+  small-drop (suc j) [] h = h
+  small-drop (suc j) (p ∷ ps) h = small-drop j ps (h .1)
+
+  -- the declarations after the first j are filled, the expressions lowered
+  module _ (ns : List ℕ) (names : areNames ns ≡ true) (most : length ns ≤ 32) (ps : List Place) (all : length ps ≡ length ns) (h : SmallPlaces m ps) (j n : ℕ) where
+    abbrev qs : List Place
+    qs = map (lowPlace (lower n)) (drop j ps)
+
+    qs-few : length qs ≤ 32
+    qs-few = let a = length-map (drop j ps) (lowPlace (lower n)) in let b = length-drop j ps in omega arith
+
+    qs-small : SmallPlaces m qs
+    qs-small = small-lowered n (drop j ps) (small-drop j ps h)
+
+    pub partial-body : {d : ℕ} {f : Form} → Ok d pred f → d + m ≤ 63 → Ok 63 pred (subst (fillFor (map (lowPlace (lower n)) (drop j ps))) f)
+    partial-body ok l = filled-body qs qs-few qs-small ok l
+
+    pub partial-inside : (t : ℕ) → (eqb t 851 || eqb t 852) ≡ true → {d : ℕ} {f : Form} → Ok d pred f → d + m ≤ 63 → Ok 64 pred (fill t (drop j ns) (map (lowPlace (lower n)) (drop j ps)) f)
+    partial-inside t w ok deep = let l = length-drop j ns in filled-ok qs qs-few qs-small t (drop j ns) w (names-drop j ns names) (omega arith) ok deep

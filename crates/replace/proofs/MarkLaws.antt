@@ -153,6 +153,14 @@ module _ (kind : ListKind) (list l l′ ys b : List ℕ) (r : Listed) (fits : 81
         take-at (take 8192 l′) (ys ++ b) 8192 front-length ∙ cleared-front l l′ 8192 (length list) fits e,
       )
 
+-- a form's marks in the first 8,192 words leave the others as they were
+pub front-kept : (o : Found) (a ys b : List ℕ) (n : ℕ) → length ys ≡ 8192 → n ≤ 8192 → Marked o a (take n ys) → Marked o a (take n (ys ++ b)) × (drop 8192 (ys ++ b) ≡ b)
+front-kept o a ys b n e h k = (rw (take-append-le n ys b (omega arith)) k, drop-at ys b 8192 e)
+
+pub listing-kept : (kind : ListKind) (list l l′ : List ℕ) (r : Listed) → drop 8192 l′ ≡ drop 8192 l → Listing (listOf kind list) (replicate (length list) 0) (take (length list) (drop 8192 l)) r
+    → Listing (listOf kind list) (replicate (length list) 0) (take (length list) (drop 8192 l′)) r
+listing-kept kind list l l′ r e h = rw e h
+
 -- one more word copied
 pub copy-more : (ws l l′ : List ℕ) (i : ℕ) → i < length ws → l′ ≡ set l i (getD ws i 0) → store l i (drop i ws) ≡ store l′ (i + 1) (drop (i + 1) ws)
 unfolding store

@@ -1,14 +1,14 @@
--- Parts of a row that are small expressions, as the code tests them; and the entries of a list whose parts are. Assumes nothing.
+-- Parts of a row that are expressions so deep and of small words, as the code tests them; and the entries of a list whose parts are. Assumes nothing.
 use mathlib.Core.Path.{_≡_, refl, ap, sym, _∙_}
 use mathlib.Core.Bool.{Bool, true, false, _&&_}
-use mathlib.Core.List.{List, [], _∷_, map}
+use mathlib.Core.List.{List, [], _∷_, map, append-nil}
 use mathlib.Core.Option.{some}
 use Prim.Native.Nat.{ℕ, zero, suc, _+_, _-_, _≤_, _<_}
 use native.Mathlib.Omega.{arith}
 use borrow.Author.Tests.{le-leb, lt-leb, leb-true, eqb-true, eqb-false}
 use lib.Dec.{leb, eqb}
-use lib.ListN.{length, getD, take, drop, length-map}
-use Rattle.tree.specs.Form.{Form, leaf, node, free, bound, encode}
+use lib.ListN.{length, getD, take, drop, length-map, take-append-drop}
+use Rattle.tree.specs.Form.{Form, leaf, node, free, bound, pick, encode}
 use Rattle.tree.specs.Tag.{expr}
 use Rattle.form.specs.Decode.{got, decode, Whole, one, not-one, whole}
 use Rattle.form.specs.Answer.{isOne}
@@ -27,10 +27,10 @@ use Rattle.form.proofs.RowLaws.{whole-exact}
 use Rattle.form.proofs.ListLaws.{GoodAll, list-sound}
 use Rattle.form.proofs.TableLaws.{listed-n}
 use Rattle.subst.proofs.WalkLaws.{and-left, and-right}
-use Rattle.replace.specs.Internal.Pieces.{part, smallWords, smallPart, smallAt, smallParts, isSure}
+use Rattle.replace.specs.Internal.Pieces.{part, smallWords, deepPart, deepAt, Depth, PartsDepth, Leaves, LeavesBy}
 use Rattle.replace.proofs.OkLaws.{ok-deep}
 use Rattle.replace.proofs.EntryLaws.{listed-part}
-use Rattle.replace.proofs.InsideLaws.{Small, SmallPlace, SmallPlaces, small-places}
+use Rattle.replace.proofs.InsideLaws.{Small, SmallPlace, SmallPlaces, small-split, small-places}
 
 -- the words, one after another
 module _ (ws : List ℕ) (i : ℕ) where
@@ -45,110 +45,121 @@ module _ (ws : List ℕ) (i : ℕ) where
   low-end h = rw (gone ws i h)
 
 -- a row by the reader's answer
-module _ (ws a b : List ℕ) (r : Step) (t : Told 0 0 (decodeIn 7 0 expr ws) a b r) where
-  plain : Told 0 0 (decode 7 expr ws) a b r
-  plain = rw (in-decode expr ws 7 0 (omega arith) (omega arith)) at t
+module _ (d : ℕ) (most : d ≤ 64) (ws a b : List ℕ) (r : Step) (t : Told 0 0 (decodeIn d 0 expr ws) a b r) where
+  plain : Told 0 0 (decode d expr ws) a b r
+  plain = rw (in-decode expr ws d 0 (omega arith) (omega arith)) at t
 
-  pub small-bad : r ≡ Bad → false ≡ smallPart ws
-  unfolding smallPart
-  small-bad e = rw (read-bad 7 expr ws a b r plain e)
+  pub deep-bad : r ≡ Bad → false ≡ deepPart d ws
+  unfolding deepPart
+  deep-bad e = rw (read-bad d expr ws a b r plain e)
 
-  pub small-rest : (p : ℕ) → r ≡ End p → (p ≡ length ws → ⊥) → false ≡ smallPart ws
-  unfolding smallPart
-  small-rest p e n = rw (read-part 7 expr ws a b r plain p e n)
+  pub deep-rest : (p : ℕ) → r ≡ End p → (p ≡ length ws → ⊥) → false ≡ deepPart d ws
+  unfolding deepPart
+  deep-rest p e n = rw (read-part d expr ws a b r plain p e n)
 
-  pub small-whole : (p : ℕ) → r ≡ End p → p ≡ length ws → smallWords ws ≡ smallPart ws
-  unfolding smallPart
-  small-whole p e q = let (f, w, m) = read-whole 7 expr ws a b r plain p e q in rw w
+  pub deep-whole : (p : ℕ) → r ≡ End p → p ≡ length ws → true ≡ deepPart d ws
+  unfolding deepPart
+  deep-whole p e q = let (f, w, m) = read-whole d expr ws a b r plain p e q in rw w
+
+-- a form's row that is one expression so deep
+deep-form : (d : ℕ) (ws : List ℕ) → deepPart d ws ≡ true → (f : Form) × (ws ≡ encode f) × Ok d expr f
+unfolding deepPart
+deep-form d ws y = go (whole (decode d expr ws)) refl
+  where
+    go : (w : Whole) → whole (decode d expr ws) ≡ w → (f : Form) × (ws ≡ encode f) × Ok d expr f
+    go (one f) q = let (e, o) = whole-exact d expr ws f q in (f, e, o)
+    go not-one q = let z = rw q at y in absurd (clash cc)
+
+form-deep : {d : ℕ} {f : Form} → Ok d expr f → deepPart d (encode f) ≡ true
+unfolding deepPart
+form-deep {d} {f} ok = let e : decode d expr (encode f) ≡ got f [] = rw append-nil at (decode-encode ok []) in rw e
+
+-- and deeper
+deep-grows : (d d′ : ℕ) (ws : List ℕ) → d ≤ d′ → deepPart d ws ≡ true → deepPart d′ ws ≡ true
+deep-grows d d′ ws l y =
+    let (f, w, o) = deep-form d ws y in
+    go f w o
+  where
+    go : (f : Form) → ws ≡ encode f → Ok d expr f → deepPart d′ ws ≡ true
+    go f w o = rw w (form-deep (ok-deep o d′ l))
 
 -- a part
 module _ (s e : ℕ) (l : List ℕ) where
-  pub at-none : e ≤ s → true ≡ smallAt s e l
-  unfolding smallAt
-  at-none h = rw (le-leb e s h)
+  pub at-none : (d : ℕ) → e ≤ s → deepAt d s e l ≡ true
+  unfolding deepAt
+  at-none d h = rw (le-leb e s h)
 
-  module _ (h : s < e) where
-    pub at-outside : length l < e → false ≡ smallAt s e l
-    unfolding smallAt
-    at-outside k = rw (lt-leb e s h, lt-leb e (length l) k)
+  pub at-part : (d : ℕ) → s < e → e ≤ length l → deepAt d s e l ≡ deepPart d (take (e - s) (drop s l))
+  unfolding deepAt part
+  at-part d h k = rw (lt-leb e s h, le-leb e (length l) k)
 
-    pub at-part : e ≤ length l → smallPart (take (e - s) (drop s l)) ≡ smallAt s e l
-    unfolding smallAt part
-    at-part k = rw (lt-leb e s h, le-leb e (length l) k)
+  at-grows : (d d′ : ℕ) → d ≤ d′ → deepAt d s e l ≡ true → deepAt d′ s e l ≡ true
+  unfolding deepAt
+  at-grows d d′ h y = go (leb e s) refl
+    where
+      go : (b : Bool) → leb e s ≡ b → pick (leb e s) true (leb e (length l) && deepPart d′ (part s e l)) ≡ true
+      go true q = rw q
+      go false q =
+          let z = rw q at y in
+          rw (q, and-left (leb e (length l)) (deepPart d (part s e l)) z) (deep-grows d d′ (part s e l) h (and-right (leb e (length l)) (deepPart d (part s e l)) z))
 
--- one part more, from the last to the first
-module _ (s e l : List ℕ) (i : ℕ) (h : 0 < i) where
-  last-small : smallParts s e l i ≡ (smallAt (getD s (i - 1) 0) (getD e (i - 1) 0) l && smallParts s e l (i - 1))
-  unfolding smallParts
-  last-small = let n : i ≡ suc (i - 1) = omega arith in ap (λ (k : ℕ). smallParts s e l k) n
+-- one part more
+pub parts-none : (s e l : List ℕ) → PartsDepth s e l 0 1
+parts-none s e l = record { least = omega arith; most = omega arith; each = λ h i k. absurd (omega arith) }
 
-  module _ (b : Bool) (is : b ≡ smallAt (getD s (i - 1) 0) (getD e (i - 1) 0) l) where
-    pub small-not : b ≡ false → smallParts s e l i ≡ false
-    small-not q = last-small ∙ rw (← is, q)
-
-    pub small-more : b ≡ true → smallParts s e l i ≡ smallParts s e l (i - 1)
-    small-more q = last-small ∙ rw (← is, q)
-
-pub small-none : (s e l : List ℕ) (i : ℕ) → i ≤ 0 → smallParts s e l i ≡ true
-unfolding smallParts
-small-none s e l zero h = refl
-small-none s e l (suc i) h = absurd (omega arith)
-
--- the whole test
-module _ (b : Bool) (t : Table) (list : List ℕ) where
-  pub sure-not : b ≡ false → false ≡ isSure b t list
-  unfolding isSure
-  sure-not e = rw e
-
-  module _ (e : b ≡ true) where
-    pub sure-many : 32 < t .n → false ≡ isSure b t list
-    unfolding isSure
-    sure-many h = rw (e, lt-leb (t .n) 32 h)
-
-    pub sure-parts : t .n ≤ 32 → smallParts (t .starts) (t .ends) list (t .n) ≡ isSure b t list
-    unfolding isSure
-    sure-parts h = rw (e, le-leb (t .n) 32 h)
-
-  pub sure-shallow : isSure b t list ≡ true → b ≡ true
-  unfolding isSure
-  sure-shallow y = and-left b (leb (t .n) 32 && smallParts (t .starts) (t .ends) list (t .n)) y
-
-  sure-small : isSure b t list ≡ true → smallParts (t .starts) (t .ends) list (t .n) ≡ true
-  unfolding isSure
-  sure-small y =
-      let p = smallParts (t .starts) (t .ends) list (t .n) in
-      and-right (leb (t .n) 32) p (and-right b (leb (t .n) 32 && p) y)
-
--- what the test says of each part
-parts-small : (s e l : List ℕ) (n : ℕ) → smallParts s e l n ≡ true → (i : ℕ) → i < n → smallAt (getD s i 0) (getD e i 0) l ≡ true
-unfolding smallParts
-parts-small s e l zero q i h = absurd (omega arith)
-parts-small s e l (suc n) q i h =
-    let x = smallAt (getD s n 0) (getD e n 0) l in
-    let r = smallParts s e l n in
-    go (eqb i n) refl (and-left x r q) (λ k. parts-small s e l n (and-right x r q) i k)
+pub parts-more : (s e l : List ℕ) (i d d′ : ℕ) → PartsDepth s e l i d → Depth d (λ k. deepAt k (getD s i 0) (getD e i 0) l) d′ → PartsDepth s e l (i + 1) d′
+parts-more s e l i d d′ p h =
+    let a = p .least in
+    let b = p .most in
+    let u = h .least b in
+    record { least = omega arith; most = h .most b; each = λ k j z. go k j z (eqb j i) refl }
   where
-    go : (z : Bool) → eqb i n ≡ z → smallAt (getD s n 0) (getD e n 0) l ≡ true → (i < n → smallAt (getD s i 0) (getD e i 0) l ≡ true) → smallAt (getD s i 0) (getD e i 0) l ≡ true
-    go true k x f = rw (eqb-true i n k) x
-    go false k x f = let ne = eqb-false i n k in f (omega (arith, ne))
+    go : d′ ≤ 64 → (j : ℕ) → j < i + 1 → (b : Bool) → eqb j i ≡ b → deepAt d′ (getD s j 0) (getD e j 0) l ≡ true
+    go k j z true q = rw (eqb-true j i q) (h .holds k)
+    go k j z false q =
+        let ne = eqb-false j i q in
+        let u = h .least (p .most) in
+        at-grows (getD s j 0) (getD e j 0) l d d′ u (p .each (omega arith) j (omega (arith, ne)))
+
+pub parts-all : (s e l : List ℕ) (i n d : ℕ) → PartsDepth s e l i d → i ≤ n → n ≤ i → PartsDepth s e l n d
+parts-all s e l i n d p h k = let z : i ≡ n = omega arith in rw z at p
+
+-- the depth that is left
+pub leaves-none : (row : List ℕ) → Leaves row 0
+leaves-none row = record { most = omega arith; words = λ h. absurd (omega arith); deep = λ h. absurd (omega arith) }
+
+pub leaves : (row : List ℕ) (d : ℕ) → smallWords row ≡ true → Depth 1 (λ k. deepPart k row) d → Leaves row (65 - d)
+leaves row d w h =
+    let a = h .least (omega arith) in
+    record { most = omega arith; words = λ k. w; deep = λ k. go (h .holds (omega arith)) (omega arith) }
+  where
+    go : deepPart d row ≡ true → 65 - (65 - d) ≡ d → deepPart (65 - (65 - d)) row ≡ true
+    go y e = rw e y
+
+module _ (t : Table) (list : List ℕ) where
+  pub leaves-by-none : LeavesBy t list 0
+  leaves-by-none = record { most = omega arith; words = λ h. absurd (omega arith); each = λ h. absurd (omega arith) }
+
+  pub leaves-by : (d : ℕ) → smallWords list ≡ true → PartsDepth (t .starts) (t .ends) list (t .n) d → LeavesBy t list (65 - d)
+  leaves-by d w h =
+      let a = h .least in
+      record { most = omega arith; words = λ k. w; each = λ k i l. go i (h .each (omega arith) i l) (omega arith) }
+    where
+      go : (i : ℕ) → deepAt d (getD (t .starts) i 0) (getD (t .ends) i 0) list ≡ true → 65 - (65 - d) ≡ d → deepAt (65 - (65 - d)) (getD (t .starts) i 0) (getD (t .ends) i 0) list ≡ true
+      go i y e = rw e y
 
 -- a form's row that is small
-pub small-form : (x : Form) → Ok 64 expr x → smallPart (encode x) ≡ true → Small x
-unfolding smallPart
-small-form x ok y = go (whole (decode 7 expr (encode x))) refl
+pub small-form : (m : ℕ) (x : Form) → Ok 64 expr x → m ≤ 63 → deepPart (suc m) (encode x) ≡ true → smallWords (encode x) ≡ true → Small m x
+small-form m x ok l y w =
+    let (f, e, o) = deep-form (suc m) (encode x) y in
+    record { ok = rw (same f e o) at o; words = w }
   where
-    same : (f : Form) → encode x ≡ encode f → Ok 7 expr f → f ≡ x
+    same : (f : Form) → encode x ≡ encode f → Ok (suc m) expr f → f ≡ x
     same f e o =
         let a = decode-encode ok [] in
         let b = decode-encode (ok-deep o 64 (omega arith)) [] in
         let c : got x [] ≡ got f [] = sym a ∙ (rw e b) in
         cc
-
-    go : (w : Whole) → whole (decode 7 expr (encode x)) ≡ w → Small x
-    go (one f) q =
-        let (e, o) = whole-exact 7 expr (encode x) f q in
-        record { ok = rw (same f e o) at o; words = and-right (isOne (whole (decode 7 expr (encode x)))) (smallWords (encode x)) y }
-    go not-one q = let z = rw q at y in absurd (clash cc)
 
 no-words : (x : Form) → encode x ≡ [] → ⊥
 unfolding encode
@@ -156,13 +167,22 @@ no-words (leaf (free n)) e = clash cc
 no-words (leaf (bound n)) e = clash cc
 no-words (node t o ds ks) e = clash cc
 
-at-small : (s e : ℕ) (l : List ℕ) (x : Form) → Ok 64 expr x → part s e l ≡ encode x → smallAt s e l ≡ true → Small x
-unfolding smallAt part
-at-small s e l x ok w y = go (leb e s) refl
+words-part : (s e : ℕ) (l : List ℕ) → smallWords l ≡ true → smallWords (part s e l) ≡ true
+unfolding part
+words-part s e l h =
+    let (a, b) = small-split (take s l) (drop s l) (rw take-append-drop h) in
+    small-split (take (e - s) (drop s l)) (drop (e - s) (drop s l)) (rw take-append-drop b) .0
+
+at-small : (m s e : ℕ) (l : List ℕ) (x : Form) → Ok 64 expr x → m ≤ 63 → part s e l ≡ encode x → smallWords l ≡ true → deepAt (suc m) s e l ≡ true → Small m x
+unfolding deepAt part
+at-small m s e l x ok k w h y = go (leb e s) refl
   where
-    go : (b : Bool) → leb e s ≡ b → Small x
-    go true q = let h = leb-true e s q in let n : e - s ≡ 0 = omega arith in absurd (no-words x (rw n at (sym w)))
-    go false q = small-form x ok (rw w at (and-right (leb e (length l)) (smallPart (part s e l)) (rw q at y)))
+    none-there : e ≤ s → encode x ≡ []
+    none-there h = let n : e - s ≡ 0 = omega arith in rw n at (sym w)
+
+    go : (b : Bool) → leb e s ≡ b → Small m x
+    go true q = absurd (no-words x (none-there (leb-true e s q)))
+    go false q = small-form m x ok k (rw w at (and-right (leb e (length l)) (deepPart (suc m) (part s e l)) (rw q at y))) (rw w at (words-part s e l h))
 
 -- the entries of a list
 abbrev OkPlace : Place → Type 0
@@ -176,16 +196,18 @@ ok-place Pairs (entry w (filled x) ∷ es) g zero h = g .0
 ok-place Places (entry w (filled x) ∷ es) g zero h = g .0 .1
 ok-place kind (entry w p ∷ es) g (suc i) h = ok-place kind es (g .1) i (omega arith)
 
-place-small : (s e : ℕ) (l : List ℕ) (p : Place) → OkPlace p → part s e l ≡ placeWords p → smallAt s e l ≡ true → SmallPlace p
-place-small s e l kept ok w y = tt
-place-small s e l (filled x) ok w y = at-small s e l x ok w y
+place-small : (m s e : ℕ) (l : List ℕ) (p : Place) → OkPlace p → m ≤ 63 → part s e l ≡ placeWords p → smallWords l ≡ true → deepAt (suc m) s e l ≡ true → SmallPlace m p
+place-small m s e l kept ok k w h y = tt
+place-small m s e l (filled x) ok k w h y = at-small m s e l x ok k w h y
 
-pub listed-small : (kind : ListKind) (list : List ℕ) (es : List Entry) → listOf kind list ≡ some es → length es ≤ 32 → (b : Bool) → isSure b (tabled es 0 emptyTable) list ≡ true → SmallPlaces (map placeOf es)
-listed-small kind list es is few b y = small-places (map placeOf es) (λ i h. each i (rw (length-map es placeOf) at h))
+pub listed-small : (kind : ListKind) (list : List ℕ) (es : List Entry) → listOf kind list ≡ some es → length es ≤ 32 → (r : ℕ) → LeavesBy (tabled es 0 emptyTable) list r → 0 < r → SmallPlaces (64 - r) (map placeOf es)
+listed-small kind list es is few r y some-left = small-places (64 - r) (map placeOf es) (λ i h. each i (rw (length-map es placeOf) at h))
   where
-    each : (i : ℕ) → i < length es → SmallPlace (getD (map placeOf es) i kept)
+    each : (i : ℕ) → i < length es → SmallPlace (64 - r) (getD (map placeOf es) i kept)
     each i h =
         let t = tabled es 0 emptyTable in
         let n = listed-n es in
-        place-small (getD (t .starts) i 0) (getD (t .ends) i 0) list (getD (map placeOf es) i kept) (ok-place kind es (list-sound kind list es is .1) i h) (listed-part kind list es is few i h)
-        (parts-small (t .starts) (t .ends) list (t .n) (sure-small b t list y) i (omega arith))
+        let a = y .most in
+        let q : 65 - r ≡ suc (64 - r) = omega arith in
+        place-small (64 - r) (getD (t .starts) i 0) (getD (t .ends) i 0) list (getD (map placeOf es) i kept) (ok-place kind es (list-sound kind list es is .1) i h) (omega arith) (listed-part kind list es is few i h) (y .words some-left)
+        (rw q at (y .each some-left i (omega arith)))

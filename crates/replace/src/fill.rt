@@ -3,9 +3,10 @@ use crate::build::replace;
 use crate::marks::Reading;
 use crate::marks::mark_entries;
 use crate::marks::mark_row;
+use crate::marks::refuse_list;
 use crate::pieces::Plan;
 use crate::pieces::filled_from;
-use crate::small::is_sure;
+use crate::small::depth_left_by;
 use form::answer::Answer;
 use form::answer::Kind;
 use form::answer::Limit;
@@ -18,7 +19,7 @@ ghost use lib.ListN.{length, getD, take, drop};
 ghost use Rattle.form.specs.Answer.{told, written};
 ghost use Rattle.subst.specs.Internal.Items.{store};
 ghost use Rattle.replace.specs.Fill.{fillOutcome};
-ghost use Rattle.replace.specs.Internal.Pieces.{Ready, fillPlan, keptWords, headWords, declaredIn, isSure, filledRow};
+ghost use Rattle.replace.specs.Internal.Pieces.{Ready, fillPlan, keptWords, headWords, declaredIn, filledRow};
 
 // The number of declarations of a row that is a quantified predicate; 0 for any other.
 pub fn declared(row: &[u32]) -> u32
@@ -84,7 +85,7 @@ pub(crate) fn write_head(words: &[u32], row: &[u32], head: &mut [u32]) -> usize
 
 // The quantified predicate with its declarations filled by the places of the table.
 fn fill_with(
-    shallow: bool,
+    sure: bool,
     list: &[u32],
     list_marks: &[u32],
     row: &[u32],
@@ -94,8 +95,8 @@ fn fill_with(
 ) -> Answer
     requires { ⌜ Ready (fillPlan table) (now list) (now «list_marks») ⌝ }
     requires { ⌜ 2 + table .n ≤ length (now row) ⌝ }
-    ensures { λ r. ⌜ r ≡ told (filledRow (isSure shallow table (now (list .entry))) (now (list .entry)) (now («list_marks» .entry)) (now (row .entry)) (now (marks .entry)) table (length (now (out .entry)))) ⌝ }
-    ensures { λ _. ⌜ now (out .exit) ≡ written (filledRow (isSure shallow table (now (list .entry))) (now (list .entry)) (now («list_marks» .entry)) (now (row .entry)) (now (marks .entry)) table (length (now (out .entry)))) (now (out .entry)) ⌝ }
+    ensures { λ r. ⌜ r ≡ told (filledRow sure (now (list .entry)) (now («list_marks» .entry)) (now (row .entry)) (now (marks .entry)) table (length (now (out .entry)))) ⌝ }
+    ensures { λ _. ⌜ now (out .exit) ≡ written (filledRow sure (now (list .entry)) (now («list_marks» .entry)) (now (row .entry)) (now (marks .entry)) table (length (now (out .entry)))) (now (out .entry)) ⌝ }
 {
     let n = table.n;
     let words = table.words;
@@ -108,7 +109,7 @@ fn fill_with(
     let mut head = [0u32; 34];
     let h = write_head(&words[..n], row, &mut head);
     replace(
-        is_sure(shallow, table, list),
+        sure,
         Kind::Predicate,
         &head[..h],
         plan,
@@ -123,7 +124,7 @@ fn fill_with(
 
 // Fill where the form's marks stand at the start of the work row, and the list's from word 8,192 on.
 fn fill_marked(
-    shallow: bool,
+    sure: bool,
     list: &[u32],
     row: &[u32],
     table: Table,
@@ -133,10 +134,10 @@ fn fill_marked(
     requires { ⌜ 8192 ≤ length (now work) ⌝ }
     requires { ⌜ Ready (fillPlan table) (now list) (drop 8192 (now work)) ⌝ }
     requires { ⌜ 2 + table .n ≤ length (now row) ⌝ }
-    ensures { λ r. ⌜ r ≡ told (filledRow (isSure shallow table (now (list .entry))) (now (list .entry)) (drop 8192 (now (work .entry))) (now (row .entry)) (now (work .entry)) table (length (now (out .entry)))) ⌝ }
-    ensures { λ _. ⌜ now (out .exit) ≡ written (filledRow (isSure shallow table (now (list .entry))) (now (list .entry)) (drop 8192 (now (work .entry))) (now (row .entry)) (now (work .entry)) table (length (now (out .entry)))) (now (out .entry)) ⌝ }
+    ensures { λ r. ⌜ r ≡ told (filledRow sure (now (list .entry)) (drop 8192 (now (work .entry))) (now (row .entry)) (now (work .entry)) table (length (now (out .entry)))) ⌝ }
+    ensures { λ _. ⌜ now (out .exit) ≡ written (filledRow sure (now (list .entry)) (drop 8192 (now (work .entry))) (now (row .entry)) (now (work .entry)) table (length (now (out .entry)))) (now (out .entry)) ⌝ }
 {
-    fill_with(shallow, list, &work[8192..], row, work, table, out)
+    fill_with(sure, list, &work[8192..], row, work, table, out)
 }
 
 // Replaces the filled declarations of a quantified predicate by their expressions.
@@ -150,13 +151,15 @@ pub fn instantiate(list: &[u32], row: &[u32], work: &mut [u32], out: &mut [u32])
     if Limit::WORDS < row.len() {
         return Answer::No(1);
     }
-    let Reading::Taken(shallow) = mark_row(row, Kind::Predicate, work) else {
-        return Answer::No(2);
-    };
     if Limit::WORDS < list.len() {
-        return Answer::No(1);
+        return refuse_list(row, Kind::Predicate);
     }
     let listed = mark_entries(list, ListKind::Places, work);
+    let table = listed.table;
+    let depth = depth_left_by(table, list);
+    let Reading::Taken(sure) = mark_row(row, Kind::Predicate, depth, work) else {
+        return Answer::No(2);
+    };
     if !listed.ok {
         return Answer::No(2);
     }
@@ -164,9 +167,8 @@ pub fn instantiate(list: &[u32], row: &[u32], work: &mut [u32], out: &mut [u32])
     if n == 0 {
         return Answer::No(3);
     }
-    let table = listed.table;
     if table.n != n as usize {
         return Answer::No(5);
     }
-    fill_marked(shallow, list, row, table, work, out)
+    fill_marked(sure, list, row, table, work, out)
 }

@@ -3,8 +3,9 @@ use crate::build::replace;
 use crate::marks::Reading;
 use crate::marks::mark_entries;
 use crate::marks::mark_row;
+use crate::marks::refuse_list;
 use crate::pieces::Plan;
-use crate::small::is_sure;
+use crate::small::depth_left_by;
 use form::answer::Answer;
 use form::answer::Kind;
 use form::answer::Limit;
@@ -18,7 +19,7 @@ ghost use Rattle.form.specs.Answer.{told, written};
 ghost use Rattle.form.specs.Internal.Reads.{asExpr};
 ghost use Rattle.form.specs.declared.answer.Kind.the-variants.{Either};
 ghost use Rattle.replace.specs.Free.{freeOutcome};
-ghost use Rattle.replace.specs.Internal.Pieces.{Ready, replaced, isSure, kindFor, freePlan};
+ghost use Rattle.replace.specs.Internal.Pieces.{Ready, replaced, kindFor, freePlan};
 
 fn kind_of(row: &[u32]) -> Kind
     ensures { λ r. ⌜ r ≡ kindFor (asExpr Either (now (row .entry))) ⌝ }
@@ -32,7 +33,7 @@ fn kind_of(row: &[u32]) -> Kind
 // The names of a form replaced by the entries of a table; the form's marks stand at the start of the work row, the list's from word
 // 8,192 on.
 fn substitute_marked(
-    shallow: bool,
+    sure: bool,
     list: &[u32],
     row: &[u32],
     table: Table,
@@ -41,8 +42,8 @@ fn substitute_marked(
 ) -> Answer
     requires { ⌜ 8192 ≤ length (now work) ⌝ }
     requires { ⌜ Ready (freePlan table) (now list) (drop 8192 (now work)) ⌝ }
-    ensures { λ r. ⌜ r ≡ told (replaced (isSure shallow table (now (list .entry))) (kindFor (asExpr Either (now (row .entry)))) [] (freePlan table) (now (list .entry)) (drop 8192 (now (work .entry))) (now (row .entry)) (now (work .entry)) (length (now (out .entry)))) ⌝ }
-    ensures { λ _. ⌜ now (out .exit) ≡ written (replaced (isSure shallow table (now (list .entry))) (kindFor (asExpr Either (now (row .entry)))) [] (freePlan table) (now (list .entry)) (drop 8192 (now (work .entry))) (now (row .entry)) (now (work .entry)) (length (now (out .entry)))) (now (out .entry)) ⌝ }
+    ensures { λ r. ⌜ r ≡ told (replaced sure (kindFor (asExpr Either (now (row .entry)))) [] (freePlan table) (now (list .entry)) (drop 8192 (now (work .entry))) (now (row .entry)) (now (work .entry)) (length (now (out .entry)))) ⌝ }
+    ensures { λ _. ⌜ now (out .exit) ≡ written (replaced sure (kindFor (asExpr Either (now (row .entry)))) [] (freePlan table) (now (list .entry)) (drop 8192 (now (work .entry))) (now (row .entry)) (now (work .entry)) (length (now (out .entry)))) (now (out .entry)) ⌝ }
 {
     let plan = Plan {
         table: table,
@@ -51,7 +52,7 @@ fn substitute_marked(
         down: 0,
     };
     replace(
-        is_sure(shallow, table, list),
+        sure,
         kind_of(row),
         &row[..0],
         plan,
@@ -80,18 +81,19 @@ pub fn substitute_free_idents(
     if Limit::WORDS < row.len() {
         return Answer::No(1);
     }
-    let Reading::Taken(shallow) = mark_row(row, Kind::Either, work) else {
-        return Answer::No(2);
-    };
     if Limit::WORDS < list.len() {
-        return Answer::No(1);
+        return refuse_list(row, Kind::Either);
     }
     let listed = mark_entries(list, ListKind::Pairs, work);
+    let depth = depth_left_by(listed.table, list);
+    let Reading::Taken(sure) = mark_row(row, Kind::Either, depth, work) else {
+        return Answer::No(2);
+    };
     if !listed.ok {
         return Answer::No(2);
     }
     if !form::lists::good_table(listed.table) {
         return Answer::No(4);
     }
-    substitute_marked(shallow, list, row, listed.table, work, out)
+    substitute_marked(sure, list, row, listed.table, work, out)
 }

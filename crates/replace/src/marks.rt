@@ -1,5 +1,4 @@
 // Marks in the work row: the form's at its start, the list's from word 8,192 on.
-use crate::small::Margin;
 use form::answer::Answer;
 use form::answer::Kind;
 use form::check::is_expr;
@@ -17,10 +16,11 @@ ghost use Rattle.form.specs.Decode.{decode, formOf};
 ghost use Rattle.form.specs.Lists.{listOf};
 ghost use Rattle.form.specs.Answer.{told, checkOutcome};
 ghost use Rattle.form.specs.Internal.Reads.{Told, Marked, Listing};
+ghost use Rattle.form.specs.declared.answer.Answer.the-variants.{No};
 ghost use Rattle.subst.specs.Internal.Items.{Fresh, store};
 ghost use Rattle.replace.specs.Internal.Pieces.{isFound, shallowForm, readingOf};
 
-// A row that is a form, and whether it is at most 58 deep; or one that is none.
+// A row that is a form, and whether it is at most as deep as was asked first; or one that is none.
 pub enum Reading {
     Taken(bool),
     Refused,
@@ -37,22 +37,24 @@ fn clear(work: &mut [u32], at: usize, n: usize)
     }
 }
 
-fn shallow_form(row: &[u32], is_expr: bool, marks: &mut [u32]) -> Step
-    ensures { λ r. ⌜ Told 0 0 (decode 58 (pick «is_expr» expr pred) (now (row .entry))) (now (marks .entry)) (now (marks .exit)) r ⌝ }
+fn shallow_form(row: &[u32], is_expr: bool, depth: u32, marks: &mut [u32]) -> Step
+    requires { ⌜ depth ≤ 64 ⌝ }
+    ensures { λ r. ⌜ Told 0 0 (decode depth (pick «is_expr» expr pred) (now (row .entry))) (now (marks .entry)) (now (marks .exit)) r ⌝ }
 {
     if is_expr {
-        expr_at(row, marks, 0, Margin::ROW, 0)
+        expr_at(row, marks, 0, depth, 0)
     } else {
-        pred_at(row, marks, 0, Margin::ROW, 0)
+        pred_at(row, marks, 0, depth, 0)
     }
 }
 
-// Whether the row is exactly one form of the kind at most 58 deep, which is then marked.
-fn mark_shallow(row: &[u32], kind: Kind, marks: &mut [u32]) -> bool
-    ensures { λ r. ⌜ r ≡ isFound (shallowForm kind (now (row .entry))) ⌝ }
-    ensures { λ _. ⌜ Marked (shallowForm kind (now (row .entry))) (now (marks .entry)) (now (marks .exit)) ⌝ }
+// Whether the row is exactly one form of the kind at most so deep, which is then marked.
+fn mark_shallow(row: &[u32], kind: Kind, depth: u32, marks: &mut [u32]) -> bool
+    requires { ⌜ depth ≤ 64 ⌝ }
+    ensures { λ r. ⌜ r ≡ isFound (shallowForm depth kind (now (row .entry))) ⌝ }
+    ensures { λ _. ⌜ Marked (shallowForm depth kind (now (row .entry))) (now (marks .entry)) (now (marks .exit)) ⌝ }
 {
-    let Step::End(p) = shallow_form(row, is_expr(row, kind), marks) else {
+    let Step::End(p) = shallow_form(row, is_expr(row, kind), depth, marks) else {
         return false;
     };
     if p == row.len() {
@@ -61,22 +63,46 @@ fn mark_shallow(row: &[u32], kind: Kind, marks: &mut [u32]) -> bool
     false
 }
 
-// The check of the row, which marks it at the start of the work row: first as a form at most 58 deep.
-pub(crate) fn mark_row(row: &[u32], kind: Kind, work: &mut [u32]) -> Reading
-    requires { ⌜ length (now row) ≤ length (now work) ⌝ }
+// The check of the row, which marks it at the start of the marks: first as a form at most so deep.
+fn mark_front(row: &[u32], kind: Kind, depth: u32, marks: &mut [u32]) -> Reading
+    requires { ⌜ depth ≤ 64 ⌝ }
+    requires { ⌜ length (now row) ≤ length (now marks) ⌝ }
     requires { ⌜ length (now row) ≤ 8192 ⌝ }
-    ensures { λ r. ⌜ r ≡ readingOf (shallowForm kind (now (row .entry))) (formOf kind (now (row .entry))) ⌝ }
-    ensures { λ _. ⌜ Marked (formOf kind (now (row .entry))) (replicate (length (now (row .entry))) 0) (take (length (now (row .entry))) (now (work .exit))) ⌝ }
+    ensures { λ r. ⌜ r ≡ readingOf (shallowForm depth kind (now (row .entry))) (formOf kind (now (row .entry))) ⌝ }
+    ensures { λ _. ⌜ Marked (formOf kind (now (row .entry))) (replicate (length (now (row .entry))) 0) (take (length (now (row .entry))) (now (marks .exit))) ⌝ }
 {
-    clear(work, 0, row.len());
-    if mark_shallow(row, kind, work) {
+    clear(marks, 0, row.len());
+    if mark_shallow(row, kind, depth, marks) {
         return Reading::Taken(true);
     }
-    clear(work, 0, row.len());
-    let Answer::Done(n) = form::check::mark(row, kind, work) else {
+    clear(marks, 0, row.len());
+    let Answer::Done(n) = form::check::mark(row, kind, marks) else {
         return Reading::Refused;
     };
     Reading::Taken(false)
+}
+
+// The same in the first 8,192 words of the work row.
+pub(crate) fn mark_row(row: &[u32], kind: Kind, depth: u32, work: &mut [u32]) -> Reading
+    requires { ⌜ depth ≤ 64 ⌝ }
+    requires { ⌜ 8192 ≤ length (now work) ⌝ }
+    requires { ⌜ length (now row) ≤ 8192 ⌝ }
+    ensures { λ r. ⌜ r ≡ readingOf (shallowForm depth kind (now (row .entry))) (formOf kind (now (row .entry))) ⌝ }
+    ensures { λ _. ⌜ Marked (formOf kind (now (row .entry))) (replicate (length (now (row .entry))) 0) (take (length (now (row .entry))) (now (work .exit))) ⌝ }
+    ensures { λ _. ⌜ drop 8192 (now (work .exit)) ≡ drop 8192 (now (work .entry)) ⌝ }
+{
+    mark_front(row, kind, depth, &mut work[..8192])
+}
+
+// The refusal of a list that is too long: the row's own comes first.
+pub(crate) fn refuse_list(row: &[u32], kind: Kind) -> Answer
+    requires { ⌜ length (now row) ≤ 8192 ⌝ }
+    ensures { λ r. ⌜ r ≡ No (pick (isFound (formOf kind (now (row .entry)))) 1 2) ⌝ }
+{
+    let Answer::Done(n) = form::check::check(row, kind) else {
+        return Answer::No(2);
+    };
+    Answer::No(1)
 }
 
 // The check of the row, which marks it at the start of marks that hold 0.

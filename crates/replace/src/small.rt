@@ -1,21 +1,19 @@
-// Expressions that can be put anywhere into a form that is not deep, so that the result is within the limits.
+// How deep a form may be so that it stays within the limits wherever expressions are put into it.
 use form::head::Step;
 use form::lists::Table;
 use form::reader::expr_at;
 ghost use mathlib.Core.Path.{_≡_};
 ghost use Prim.Native.Nat.{_≤_};
 ghost use lib.ListN.{length};
-ghost use Rattle.replace.specs.Internal.Pieces.{smallWords, smallPart, smallAt, smallParts, isSure};
+ghost use Rattle.replace.specs.Internal.Pieces.{smallWords, deepPart, deepAt, Depth, PartsDepth, Leaves, LeavesBy};
 
-// Depths and words that leave room for a replacement: 58 + 7 - 1 = 64 deep, and 63,487 + 2,048 = 65,535.
+// What leaves room for a replacement: the depths of the form and of the expression are together at most 65, and 63,487 + 2,048 = 65,535.
 pub struct Margin {
     pub value: usize,
 }
 
 impl Margin {
-    pub const ROW: u32 = 58;
-
-    pub const DEPTH: u32 = 7;
+    pub const DEPTHS: u32 = 65;
 
     pub const WORD: u32 = 63487;
 }
@@ -34,61 +32,85 @@ fn are_low(words: &[u32]) -> bool
     true
 }
 
-// Whether the row is exactly one expression at most 7 deep, and no word of it over 63,487.
-pub fn is_small(row: &[u32]) -> bool
-    ensures { λ r. ⌜ r ≡ smallPart (now (row .entry)) ⌝ }
+// Whether the row is exactly one expression at most so deep.
+fn is_within(row: &[u32], depth: u32) -> bool
+    requires { ⌜ depth ≤ 64 ⌝ }
+    ensures { λ r. ⌜ r ≡ deepPart depth (now (row .entry)) ⌝ }
 {
     let mut marks = [0u32; 1];
-    let Step::End(p) = expr_at(row, &mut marks, 0, Margin::DEPTH, 0) else {
+    let Step::End(p) = expr_at(row, &mut marks, 0, depth, 0) else {
         return false;
     };
     if p != row.len() {
         return false;
     }
-    are_low(row)
-}
-
-// Whether the words from `start` up to `end` are, where there are any.
-fn is_small_at(start: usize, end: usize, list: &[u32]) -> bool
-    ensures { λ r. ⌜ r ≡ smallAt start end (now (list .entry)) ⌝ }
-{
-    if end <= start {
-        return true;
-    }
-    if list.len() < end {
-        return false;
-    }
-    is_small(&list[start..end])
-}
-
-// Whether each of the first n parts of the list is.
-fn are_small(starts: &[usize], ends: &[usize], list: &[u32], n: usize) -> bool
-    requires { ⌜ n ≤ length (now starts) ⌝ }
-    requires { ⌜ n ≤ length (now ends) ⌝ }
-    ensures { λ r. ⌜ r ≡ smallParts (now (starts .entry)) (now (ends .entry)) (now (list .entry)) n ⌝ }
-{
-    let mut i = n;
-    while 0 < i {
-        i -= 1;
-        if !is_small_at(starts[i], ends[i], list) {
-            return false;
-        }
-    }
     true
 }
 
-// Whether a form is sure to stay one when the parts of the table are put into it: it is at most 58 deep, and the parts are small.
-pub(crate) fn is_sure(shallow: bool, table: Table, list: &[u32]) -> bool
-    ensures { λ r. ⌜ r ≡ isSure shallow table (now (list .entry)) ⌝ }
+// The first of `from`, one more than twice that, and so on within which the row is exactly one expression; 65 where none is.
+fn depth_from(row: &[u32], from: u32) -> u32
+    ensures { λ r. ⌜ Depth from (λ d. deepPart d (now (row .entry))) r ⌝ }
 {
-    if !shallow {
-        return false;
+    let mut d = from;
+    while d < Margin::DEPTHS {
+        if is_within(row, d) {
+            return d;
+        }
+        d = 2 * d + 1;
     }
+    Margin::DEPTHS
+}
+
+// The same of the words from `start` up to `end`, where there are any.
+fn depth_at(start: usize, end: usize, list: &[u32], from: u32) -> u32
+    ensures { λ r. ⌜ Depth from (λ d. deepAt d start end (now (list .entry))) r ⌝ }
+{
+    if end <= start {
+        return from;
+    }
+    if list.len() < end {
+        return Margin::DEPTHS;
+    }
+    depth_from(&list[start..end], from)
+}
+
+// A depth within which each of the first n parts of the list is an expression; 65 where none was found.
+fn parts_depth(starts: &[usize], ends: &[usize], list: &[u32], n: usize) -> u32
+    requires { ⌜ n ≤ length (now starts) ⌝ }
+    requires { ⌜ n ≤ length (now ends) ⌝ }
+    ensures { λ r. ⌜ PartsDepth (now (starts .entry)) (now (ends .entry)) (now (list .entry)) n r ⌝ }
+{
+    let mut d = 1;
+    let mut i = 0;
+    while i < n {
+        d = depth_at(starts[i], ends[i], list, d);
+        i += 1;
+    }
+    d
+}
+
+// How deep a form may be that is sure to stay one when the row is put into it; 0 where none is.
+pub fn depth_left(row: &[u32]) -> u32
+    ensures { λ r. ⌜ Leaves (now (row .entry)) r ⌝ }
+{
+    if !are_low(row) {
+        return 0;
+    }
+    Margin::DEPTHS - depth_from(row, 1)
+}
+
+// How deep a form may be that is sure to stay one when the parts of the table are put into it; 0 where none is.
+pub(crate) fn depth_left_by(table: Table, list: &[u32]) -> u32
+    ensures { λ r. ⌜ LeavesBy table (now (list .entry)) r ⌝ }
+{
     let n = table.n;
     if Table::LIMIT < n {
-        return false;
+        return 0;
+    }
+    if !are_low(list) {
+        return 0;
     }
     let starts = table.starts;
     let ends = table.ends;
-    are_small(&starts, &ends, list, n)
+    Margin::DEPTHS - parts_depth(&starts, &ends, list, n)
 }

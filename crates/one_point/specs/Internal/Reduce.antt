@@ -11,7 +11,7 @@ use Rattle.form.specs.Decode.{Got, got, no-form, decode}
 use Rattle.form.specs.Answer.{Outcome, refusal, finish}
 use Rattle.form.specs.Internal.Reads.{mark}
 use Rattle.form.specs.declared.lists.Table.{Table}
-use Rattle.replace.specs.Internal.Pieces.{declaredIn, areNames}
+use Rattle.replace.specs.Internal.Pieces.{declaredIn, areNames, Leaves}
 use Rattle.one_point.specs.Replacement.{above}
 use Rattle.one_point.specs.Scan.{scan}
 use Rattle.one_point.specs.Partial.{noPlaces, setPlace, instantiatePartial}
@@ -79,6 +79,15 @@ pub record Cleared (row marks : List ℕ) : Type 0 where
 pub record Marking (part pm : List ℕ) : Type 0 where
   pub enough : length part ≤ length pm
   pub are : (e : Form) → decode 63 expr part ≡ got e [] → pm ≡ mark e 0 0 (replicate (length pm) 0)
+
+-- a body at most r deep stays within the limits under one quantifier if the part is put into it
+pub record RestLeaves (part : List ℕ) (r : ℕ) : Type 0 where
+  pub most : r ≤ 63
+  pub left : 0 < r → Leaves part (r + 1)
+
+-- the depth at which the rest is read first
+abbrev pub readingDepth : ℕ → ℕ
+readingDepth r = pick (eqb r 0) 63 r
 
 -- the word of an emptied body
 abbrev pub emptyWord : ℕ → ℕ

@@ -138,9 +138,9 @@ shortWords ws room = needs 7 (leb (length ws) 8192) (fitted ws room)
 unfoldable pub emitted : Bool → Kind → List ℕ → ℕ → Outcome
 emitted sure kind ws room = needs 7 (pick sure (leb (length ws) 8192) (isFound (formOf kind ws))) (fitted ws room)
 
--- a row as a form at most 58 deep, and how it was read
-unfoldable pub shallowForm : Kind → List ℕ → Found
-shallowForm kind row = let s = pick (asExpr kind row) expr pred in asSort s (whole (decode 58 s row))
+-- a row as a form at most d deep, and how it was read: whether so, or only as any form
+unfoldable pub shallowForm : ℕ → Kind → List ℕ → Found
+shallowForm d kind row = let s = pick (asExpr kind row) expr pred in asSort s (whole (decode d s row))
 
 abbrev pub readingOf : Found → Found → Reading
 readingOf (found s f) o = Taken true
@@ -152,20 +152,35 @@ abbrev pub smallWords : List ℕ → Bool
 smallWords [] = true
 smallWords (w ∷ ws) = leb w 63487 && smallWords ws
 
--- exactly one expression at most 7 deep, of such words; the words from s up to e, where there are any; the first n parts of a row
-unfoldable pub smallPart : List ℕ → Bool
-smallPart ws = isOne (whole (decode 7 expr ws)) && smallWords ws
+-- exactly one expression at most d deep; the words from s up to e, where there are any
+unfoldable pub deepPart : ℕ → List ℕ → Bool
+deepPart d ws = isOne (whole (decode d expr ws))
 
-unfoldable pub smallAt : ℕ → ℕ → List ℕ → Bool
-smallAt s e l = pick (leb e s) true (leb e (length l) && smallPart (part s e l))
+unfoldable pub deepAt : ℕ → ℕ → ℕ → List ℕ → Bool
+deepAt d s e l = pick (leb e s) true (leb e (length l) && deepPart d (part s e l))
 
-unfoldable pub smallParts : List ℕ → List ℕ → List ℕ → ℕ → Bool
-smallParts starts ends l zero = true
-smallParts starts ends l (suc n) = smallAt (getD starts n 0) (getD ends n 0) l && smallParts starts ends l n
+-- a depth from `from` on at which the test holds; 65 where none was found
+pub record Depth (from : ℕ) (test : ℕ → Bool) (r : ℕ) : Type 0 where
+  pub least : from ≤ 65 → from ≤ r
+  pub most : from ≤ 65 → r ≤ 65
+  pub holds : r ≤ 64 → test r ≡ true
 
--- whether replacement by the expressions of a table is sure to give a form: in a form at most 58 deep, by small ones
-unfoldable pub isSure : Bool → Table → List ℕ → Bool
-isSure shallow t list = shallow && (leb (t .n) 32 && smallParts (t .starts) (t .ends) list (t .n))
+-- a depth at which each of the first n parts is an expression; 65 where none was found
+pub record PartsDepth (starts ends l : List ℕ) (n r : ℕ) : Type 0 where
+  pub least : 1 ≤ r
+  pub most : r ≤ 65
+  pub each : r ≤ 64 → (i : ℕ) → i < n → deepAt r (getD starts i 0) (getD ends i 0) l ≡ true
+
+-- a form at most r deep stays one if expressions so deep and of such words are put into it: a row alone, the parts of a table
+pub record Leaves (row : List ℕ) (r : ℕ) : Type 0 where
+  pub most : r ≤ 64
+  pub words : 0 < r → smallWords row ≡ true
+  pub deep : 0 < r → deepPart (65 - r) row ≡ true
+
+pub record LeavesBy (t : Table) (list : List ℕ) (r : ℕ) : Type 0 where
+  pub most : r ≤ 64
+  pub words : 0 < r → smallWords list ≡ true
+  pub each : 0 < r → (i : ℕ) → i < t .n → deepAt (65 - r) (getD (t .starts) i 0) (getD (t .ends) i 0) list ≡ true
 
 -- a head, and what a plan puts for the items of a row
 abbrev pub replacedWords : List ℕ → Plan → List ℕ → List ℕ → List ℕ → List ℕ → List ℕ

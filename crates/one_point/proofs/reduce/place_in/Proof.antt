@@ -4,19 +4,15 @@ use Prim.Native.Nat.{_+_}
 use native.Mathlib.Omega.{arith}
 use borrow.Author.Needs.{needs}
 use Rattle.subst.proofs.CheckedLaws.{passed}
-use Rattle.one_point.proofs.PlaceLaws.{shallow-rest, part-small, resting, placed-row}
-use borrow.Author.Needs.{needs}
+use Rattle.one_point.proofs.PlaceLaws.{reading-most, shallow-rest, fitting, resting, placed-row}
 use Rattle.one_point.proofs.reduce.place_in.Statement.{statement}
 use Rattle.one_point.proofs.reduce.place_in.Tie as tie
-use Rattle.one_point.proofs.reduce.place_in.Reads as reads
-use Rattle.one_point.proofs.reduce.place_in.Lts as lts
-use Rattle.form.proofs.reader.pred_at.Reads as pred-at-reads
-use Rattle.one_point.proofs.reduce.place_deep.Reads as place-deep-reads
-use Rattle.one_point.proofs.rest.put_rest.Reads as put-rest-reads
-use Rattle.replace.proofs.small.is_small.Reads as is-small-reads
 
-sub-pred-at : tie.Need-sub-pred-at
-sub-pred-at c = search needs
+rest-depth-requires : tie.Need-rest-depth-requires
+rest-depth-requires c κs = search needs
+
+reading-depth-requires : tie.Need-reading-depth-requires
+reading-depth-requires c κs = search needs
 
 add-pred-at : tie.Need-add-pred-at
 add-pred-at c = search needs
@@ -48,11 +44,8 @@ sub-p c = search needs
 sub-p-2 : tie.Need-sub-p-2
 sub-p-2 c = search needs
 
-is-small-requires : tie.Need-is-small-requires
-is-small-requires c κs = search needs
-
 put-rest-requires : tie.Need-put-rest-requires
-put-rest-requires c κs = let b16 = c .before .before .before .before .before .before .before .before .before .before .before .before .before .before .before .before in resting (b16 .args .tag) (b16 .args .names .now) (b16 .args .target) (b16 .args .part .now) (b16 .args .rest .now) (b16 .pre .0) _ _ refl (b16 .pre .1 .enough)
+put-rest-requires c κs = let b17 = c .before .before .before .before .before .before .before .before .before .before .before .before .before .before .before .before .before in resting (b17 .args .tag) (b17 .args .names .now) (b17 .args .target) (b17 .args .part .now) (b17 .args .rest .now) (b17 .pre .0) _ _ refl (b17 .pre .1 .enough)
 
 same-length-3 : tie.Need-same-length-3
 same-length-3 c = search needs
@@ -61,13 +54,14 @@ same-length-4 : tie.Need-same-length-4
 same-length-4 c = search needs
 
 returns-2 : tie.Need-returns-2
-returns-2 c = let b11 = c .before .before .before .before .before .before .before .before .before .before .before in let b19 = b11 .before .before .before .before .before .before .before .before in let s = (shallow-rest (b19 .args .target + 1) (omega arith) (b19 .args .rest .now) (b19 .pre .0 .form) (b19 .pre .0 .is-rest) _ _ _ _ (b11 .pred-at .ensures) (c .before .before .before .before .before .before .before .end .given .1)) in passed _ _ _ _ _ (placed-row (b19 .args .tag) (b19 .args .names .now) (b19 .args .target) (b19 .args .part .now) (b19 .args .rest .now) (b19 .pre .0) (b19 .args .part-marks .now) (b19 .pre .1) (b19 .args .marks .now) _ (b19 .pre .2) (s .1) _ (λ y. (part-small _ _ (b19 .pre .0 .is-part) _ (c .before .before .before .before .before .is-small .ensures) y, s .0)) _ refl _) (c .before .before .put-rest .ensures)
+returns-2 c = let b6 = c .before .before .before .before .before .before in let b10 = b6 .before .before .before .before in let b13 = b10 .before .before .before in let b20 = b13 .before .before .before .before .before .before .before in let s = shallow-rest (b20 .args .target + 1) (omega arith) _ (reading-most _ _ (b13 .rest-depth .ensures .most) (b10 .before .reading-depth .ensures)) (b20 .args .rest .now) (b20 .pre .0 .form) (b20 .pre .0 .is-rest) _ _ _ _ (b10 .pred-at .ensures) (b6 .end .given .1) in passed _ _ _ _ _ (placed-row (b20 .args .tag) (b20 .args .names .now) (b20 .args .target) (b20 .args .part .now) (b20 .args .rest .now) (b20 .pre .0) (b20 .args .part-marks .now) (b20 .pre .1) (b20 .args .marks .now) _ (b20 .pre .2) (s .1) _ (λ y. fitting _ _ (b20 .pre .0 .is-part) _ _ (b13 .rest-depth .ensures) _ (b10 .before .reading-depth .ensures) (s .0) y) _ refl _) (c .before .before .put-rest .ensures)
 
 pub place-in-spec : {M : Type 1} → statement M
 place-in-spec =
     tie.close
     (tie.spec
-    sub-pred-at
+    rest-depth-requires
+    reading-depth-requires
     add-pred-at
     pred-at-requires
     enum-known-end
@@ -78,7 +72,6 @@ place-in-spec =
     returns
     sub-p
     sub-p-2
-    is-small-requires
     put-rest-requires
     same-length-3
     same-length-4

@@ -1,10 +1,10 @@
 -- `replace::fill::fill_with` meets its contract. Assumes nothing.
 use mathlib.Core.Path.{refl, sym}
-use native.Mathlib.Omega.{arith}
-use borrow.Author.Needs.{needs}
 use Prim.Native.Nat.{_+_, _≤_}
+use native.Mathlib.Omega.{arith}
 use lib.ListN.{length, take}
 use lib.Seq.{length-take-le}
+use borrow.Author.Needs.{needs}
 use Rattle.subst.proofs.CheckedLaws.{passed}
 use Rattle.replace.proofs.BuildLaws.{built-fits}
 use Rattle.replace.proofs.FillLaws.{ready-gone, filled-same}
@@ -15,7 +15,6 @@ use Rattle.replace.proofs.fill.fill_with.Lts as lts
 use Rattle.replace.proofs.build.replace.Reads as replace-reads
 use Rattle.replace.proofs.fill.write_head.Reads as write-head-reads
 use Rattle.replace.proofs.pieces.filled_from.Reads as filled-from-reads
-use Rattle.replace.proofs.small.is_sure.Reads as is-sure-reads
 
 array-share-prefix-words : tie.Need-array-share-prefix-words
 array-share-prefix-words c = search needs
@@ -38,26 +37,23 @@ slice-aggregate-write-head-2 c = search needs
 write-head-requires : tie.Need-write-head-requires
 write-head-requires c κs = let b10 = c .before .before .before .before .before .before .before .before .before .before in let l = length-take-le (b10 .args .table .n) (b10 .args .table .words) (let a = b10 .pre .0 .tabled .few in let b = b10 .pre .0 .tabled .words in let h : b10 .args .table .n ≤ length (b10 .args .table .words) = omega arith in h) in let a = b10 .pre .0 .tabled .few in let b = b10 .pre .1 in let x : 2 + length (take (b10 .args .table .n) (b10 .args .table .words)) ≤ length (b10 .args .row .now) = omega arith in let y : 2 + length (take (b10 .args .table .n) (b10 .args .table .words)) ≤ 34 = omega arith in let z : length (take (b10 .args .table .n) (b10 .args .table .words)) ≤ 32 = omega arith in (x, (y, z))
 
-is-sure-requires : tie.Need-is-sure-requires
-is-sure-requires c κs = search needs
-
 array-share-prefix-head : tie.Need-array-share-prefix-head
 array-share-prefix-head c = search needs
 
 slice-aggregate-replace : tie.Need-slice-aggregate-replace
-slice-aggregate-replace c = sym (length-take-le _ _ (built-fits (c .before .before .before .write-head .kept .1 .1 .0) refl (c .before .before .before .write-head .ensures .0)))
+slice-aggregate-replace c = sym (length-take-le _ _ (built-fits (c .before .before .write-head .kept .1 .1 .0) refl (c .before .before .write-head .ensures .0)))
 
 add-replace : tie.Need-add-replace
 add-replace c = search needs
 
 replace-requires : tie.Need-replace-requires
-replace-requires c κs = let b15 = c .before .before .before .before .before .before .before .before .before .before .before .before .before .before .before in ready-gone _ _ _ _ (c .before .before .before .before .before .before .before .filled-from .ensures) (b15 .pre .0)
+replace-requires c κs = let b6 = c .before .before .before .before .before .before in let b14 = b6 .before .before .before .before .before .before .before .before in ready-gone _ _ _ _ (b6 .filled-from .ensures) (b14 .pre .0)
 
 same-length : tie.Need-same-length
 same-length c = search needs
 
 returns : tie.Need-returns
-returns c = let b10 = c .before .before .before .before .before .before .before .before .before .before in passed _ _ _ _ _ (filled-same _ _ _ _ _ _ _ _ _ _ (c .before .before .before .before .before .is-sure .ensures) (c .before .before .before .before .before .before .before .write-head .ensures .1) (b10 .filled-from .ensures)) (c .before .before .replace .ensures)
+returns c = let b6 = c .before .before .before .before .before .before in let b9 = b6 .before .before .before in passed _ _ _ _ _ (filled-same _ _ _ _ _ _ _ _ _ _ refl (b6 .write-head .ensures .1) (b9 .filled-from .ensures)) (c .before .before .replace .ensures)
 
 pub fill-with-spec : {M : Type 1} → statement M
 fill-with-spec =
@@ -70,7 +66,6 @@ fill-with-spec =
     slice-aggregate-write-head
     slice-aggregate-write-head-2
     write-head-requires
-    is-sure-requires
     array-share-prefix-head
     slice-aggregate-replace
     add-replace

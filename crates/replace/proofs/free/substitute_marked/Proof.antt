@@ -1,7 +1,8 @@
 -- `replace::free::substitute_marked` meets its contract. Assumes nothing.
-use borrow.Author.Needs.{needs}
+use mathlib.Core.Path.{refl}
 use Prim.Native.Nat.{_-_}
 use lib.ListN.{length, take, drop}
+use borrow.Author.Needs.{needs}
 use Rattle.subst.proofs.CheckedLaws.{passed}
 use Rattle.replace.specs.Internal.Pieces.{Ready, freePlan}
 use Rattle.replace.proofs.BuildLaws.{rest-part, same-replaced}
@@ -11,10 +12,6 @@ use Rattle.replace.proofs.free.substitute_marked.Reads as reads
 use Rattle.replace.proofs.free.substitute_marked.Lts as lts
 use Rattle.replace.proofs.build.replace.Reads as replace-reads
 use Rattle.replace.proofs.free.kind_of.Reads as kind-of-reads
-use Rattle.replace.proofs.small.is_sure.Reads as is-sure-reads
-
-is-sure-requires : tie.Need-is-sure-requires
-is-sure-requires c κs = search needs
 
 kind-of-requires : tie.Need-kind-of-requires
 kind-of-requires c κs = search needs
@@ -32,19 +29,18 @@ part-replace-end : tie.Need-part-replace-end
 part-replace-end c = search needs
 
 replace-requires : tie.Need-replace-requires
-replace-requires c κs = let b9 = c .before .before .before .before .before .before .before .before .before in let h : Ready (freePlan (b9 .args .table)) (b9 .args .list .now) (take (length (b9 .args .work .now) - 8192) (drop 8192 (b9 .args .work .now))) = rw (rest-part (b9 .args .work .now) 8192) (b9 .pre .1) in h
+replace-requires c κs = let b8 = c .before .before .before .before .before .before .before .before in let h : Ready (freePlan (b8 .args .table)) (b8 .args .list .now) (take (length (b8 .args .work .now) - 8192) (drop 8192 (b8 .args .work .now))) = rw (rest-part (b8 .args .work .now) 8192) (b8 .pre .1) in h
 
 same-length : tie.Need-same-length
 same-length c = search needs
 
 returns : tie.Need-returns
-returns c = let b12 = c .before .before .before .before .before .before .before .before .before .before .before .before in passed _ _ _ _ _ (same-replaced _ _ _ _ _ _ _ _ _ _ _ _ (c .before .before .before .before .before .before .before .is-sure .ensures) (c .before .before .before .before .before .before .kind-of .ensures) (rest-part (b12 .args .work .now) 8192)) (c .before .before .replace .ensures)
+returns c = let b6 = c .before .before .before .before .before .before in let b11 = b6 .before .before .before .before .before in passed _ _ _ _ _ (same-replaced _ _ _ _ _ _ _ _ _ _ _ _ refl (b6 .kind-of .ensures) (rest-part (b11 .args .work .now) 8192)) (c .before .before .replace .ensures)
 
 pub substitute-marked-spec : {M : Type 1} → statement M
 substitute-marked-spec =
     tie.close
     (tie.spec
-    is-sure-requires
     kind-of-requires
     slice-aggregate-replace
     sub-replace

@@ -1,66 +1,38 @@
 -- `replace::marks::mark_row` meets its contract. Assumes nothing.
 use mathlib.Core.Path.{sym, _∙_}
+use Prim.Native.Nat.{_≤_}
 use native.Mathlib.Omega.{arith}
-use Rattle.replace.proofs.MarkLaws.{marked-front}
-use Rattle.replace.proofs.ShallowLaws.{taken-shallow, taken-deep, refused-row}
+use lib.ListN.{length, take}
+use lib.Seq.{length-take-le}
 use borrow.Author.Needs.{needs}
+use Rattle.replace.proofs.MarkLaws.{front-kept}
 use Rattle.replace.proofs.marks.mark_row.Statement.{statement}
 use Rattle.replace.proofs.marks.mark_row.Tie as tie
 use Rattle.replace.proofs.marks.mark_row.Reads as reads
 use Rattle.replace.proofs.marks.mark_row.Lts as lts
-use Rattle.form.proofs.check.mark.Reads as mark-reads
-use Rattle.replace.proofs.marks.clear.Reads as clear-reads
-use Rattle.replace.proofs.marks.mark_shallow.Reads as mark-shallow-reads
+use Rattle.replace.proofs.marks.mark_front.Reads as mark-front-reads
 
-clear-requires : tie.Need-clear-requires
-clear-requires c κs = search needs
+slice-relend-prefix-mark-front : tie.Need-slice-relend-prefix-mark-front
+slice-relend-prefix-mark-front c = search needs
 
-mark-shallow-requires : tie.Need-mark-shallow-requires
-mark-shallow-requires c κs = search needs
+slice-aggregate-mark-front : tie.Need-slice-aggregate-mark-front
+slice-aggregate-mark-front c = let b3 = c .before .before .before in sym (length-take-le 8192 (b3 .args .work .now) (b3 .pre .1 .0))
+
+mark-front-requires : tie.Need-mark-front-requires
+mark-front-requires c κs = let b3 = c .before .before .before in let l = length-take-le 8192 (b3 .args .work .now) (b3 .pre .1 .0) in let e = b3 .pre .1 .1 in let h : length (b3 .args .row .now) ≤ length (take 8192 (b3 .args .work .now)) = omega arith in (b3 .pre .0, (h, b3 .pre .1 .1))
 
 same-length : tie.Need-same-length
 same-length c = search needs
 
 returns : tie.Need-returns
-returns c = let b11 = c .before .before .before .before .before .before .before .before .before .before .before in taken-shallow _ _ (b11 .pre .1) (sym (c .before .before .before .mark-shallow .ensures .0) ∙ c .if1 .taken) _ _ _ (b11 .pre .0) (c .before .before .before .before .before .before .before .clear .ensures) (c .before .before .before .mark-shallow .ensures .1)
-
-clear-requires-2 : tie.Need-clear-requires-2
-clear-requires-2 c κs = search needs
-
-mark-requires : tie.Need-mark-requires
-mark-requires c κs = search needs
-
-enum-known-n : tie.Need-enum-known-n
-enum-known-n c = search needs
-
-enum-told : tie.Need-enum-told
-enum-told c = search needs
-
-same-length-2 : tie.Need-same-length-2
-same-length-2 c = search needs
-
-returns-2 : tie.Need-returns-2
-returns-2 c = let b4 = c .before .before .before .before in let b8 = b4 .before .before .before .before in let b10 = b8 .before .before in let b13 = b10 .before .before .before in let b21 = b13 .before .before .before .before .before .before .before .before in (refused-row _ _ (b21 .pre .1) (sym (b13 .mark-shallow .ensures .0) ∙ b10 .if1 .left) _ _ (b4 .mark .ensures .0) (c .enum-told .given .1), marked-front _ _ _ _ _ (omega arith) (b8 .clear2 .ensures) (b4 .mark .ensures .1))
-
-same-length-3 : tie.Need-same-length-3
-same-length-3 c = search needs
-
-returns-3 : tie.Need-returns-3
-returns-3 c = let b5 = c .before .before .before .before .before in let b9 = b5 .before .before .before .before in let b11 = b9 .before .before in let b14 = b11 .before .before .before in let b22 = b14 .before .before .before .before .before .before .before .before in (taken-deep _ _ (b22 .pre .1) (sym (b14 .mark-shallow .ensures .0) ∙ b11 .if1 .left) _ _ (b5 .mark .ensures .0) (c .before .n .given .1), marked-front _ _ _ _ _ (omega arith) (b9 .clear2 .ensures) (b5 .mark .ensures .1))
+returns c = let b6 = c .before .before .before .before .before .before in (c .before .before .mark-front .ensures .0, front-kept _ _ _ _ _ (c .before .before .mark-front .kept .1 .1 .1 .0 ∙ length-take-le 8192 (b6 .args .work .now) (b6 .pre .1 .0)) (b6 .pre .1 .1) (c .before .before .mark-front .ensures .1))
 
 pub mark-row-spec : {M : Type 1} → statement M
 mark-row-spec =
     tie.close
     (tie.spec
-    clear-requires
-    mark-shallow-requires
+    slice-relend-prefix-mark-front
+    slice-aggregate-mark-front
+    mark-front-requires
     same-length
-    returns
-    clear-requires-2
-    mark-requires
-    enum-known-n
-    enum-told
-    same-length-2
-    returns-2
-    same-length-3
-    returns-3)
+    returns)

@@ -1,7 +1,6 @@
 -- `replace::marks::mark_shallow` meets its contract. Assumes nothing.
 use borrow.Author.Needs.{needs}
 use Rattle.replace.proofs.ShallowLaws.{shallow-bad, shallow-whole, shallow-part}
-use borrow.Author.Needs.{needs}
 use Rattle.replace.proofs.marks.mark_shallow.Statement.{statement}
 use Rattle.replace.proofs.marks.mark_shallow.Tie as tie
 use Rattle.replace.proofs.marks.mark_shallow.Reads as reads
@@ -25,19 +24,19 @@ same-length : tie.Need-same-length
 same-length c = search needs
 
 returns : tie.Need-returns
-returns c = shallow-bad _ _ _ _ _ (c .before .before .before .before .before .before .is-expr .ensures) _ (c .before .before .before .before .shallow-form .ensures) (c .enum-told .given .1)
+returns c = let b4 = c .before .before .before .before in let b9 = b4 .before .before .before .before .before in shallow-bad _ (b9 .pre) _ _ _ _ _ (b4 .before .before .is-expr .ensures) _ (b4 .shallow-form .ensures) (c .enum-told .given .1)
 
 same-length-2 : tie.Need-same-length-2
 same-length-2 c = search needs
 
 returns-2 : tie.Need-returns-2
-returns-2 c = shallow-whole _ _ _ _ _ (c .before .before .before .before .before .before .before .before .is-expr .ensures) _ (c .before .before .before .before .before .before .shallow-form .ensures) _ (c .before .before .p .given .1) (c .if1 .taken)
+returns-2 c = let b6 = c .before .before .before .before .before .before in let b11 = b6 .before .before .before .before .before in shallow-whole _ (b11 .pre) _ _ _ _ _ (b6 .before .before .is-expr .ensures) _ (b6 .shallow-form .ensures) _ (c .before .before .p .given .1) (c .if1 .taken)
 
 same-length-3 : tie.Need-same-length-3
 same-length-3 c = search needs
 
 returns-3 : tie.Need-returns-3
-returns-3 c = shallow-part _ _ _ _ _ (c .before .before .before .before .before .before .before .before .is-expr .ensures) _ (c .before .before .before .before .before .before .shallow-form .ensures) _ (c .before .before .p .given .1) (c .if1 .left)
+returns-3 c = let b6 = c .before .before .before .before .before .before in let b11 = b6 .before .before .before .before .before in shallow-part _ (b11 .pre) _ _ _ _ _ (b6 .before .before .is-expr .ensures) _ (b6 .shallow-form .ensures) _ (c .before .before .p .given .1) (c .if1 .left)
 
 pub mark-shallow-spec : {M : Type 1} → statement M
 mark-shallow-spec =

@@ -1,7 +1,6 @@
 -- `replace::marks::shallow_form` meets its contract. Assumes nothing.
 use borrow.Author.Needs.{needs}
 use Rattle.replace.proofs.ShallowLaws.{told-shallow}
-use borrow.Author.Needs.{needs}
 use Rattle.replace.proofs.marks.shallow_form.Statement.{statement}
 use Rattle.replace.proofs.marks.shallow_form.Tie as tie
 use Rattle.replace.proofs.marks.shallow_form.Reads as reads
@@ -19,13 +18,13 @@ same-length : tie.Need-same-length
 same-length c = search needs
 
 returns : tie.Need-returns
-returns c = rw (c .before .before .before .before .if1 .taken) (told-shallow _ _ _ _ _ (c .before .before .expr-at .ensures))
+returns c = let b4 = c .before .before .before .before in let b7 = b4 .before .before .before in rw (b4 .if1 .taken) (told-shallow _ (b7 .pre) _ _ _ _ _ (c .before .before .expr-at .ensures))
 
 same-length-2 : tie.Need-same-length-2
 same-length-2 c = search needs
 
 returns-2 : tie.Need-returns-2
-returns-2 c = rw (c .before .before .before .before .if1 .left) (told-shallow _ _ _ _ _ (c .before .before .pred-at .ensures))
+returns-2 c = let b4 = c .before .before .before .before in let b7 = b4 .before .before .before in rw (b4 .if1 .left) (told-shallow _ (b7 .pre) _ _ _ _ _ (c .before .before .pred-at .ensures))
 
 pub shallow-form-spec : {M : Type 1} → statement M
 shallow-form-spec =
