@@ -8,6 +8,7 @@ use Prim.Native.Nat.{ℕ, _≤_, _<_}
 use native.Mathlib.Omega.{arith}
 use borrow.Author.Tests.{le-leb, lt-leb}
 use lib.Dec.{leb}
+use lib.IntN.{ℤ}
 use lib.ListN.{length, take}
 use Rattle.tree.specs.Form.{Form, pick}
 use Rattle.tree.specs.Tag.{Sort}
@@ -20,6 +21,7 @@ use Rattle.form.specs.declared.answer.Kind.the-variants.{Either}
 use Rattle.form.specs.declared.answer.Answer.{Answer}
 use Rattle.form.specs.declared.answer.Answer.the-variants.{Done, No}
 use Rattle.form.specs.declared.lists.ListKind.{ListKind}
+use Rattle.form.specs.declared.lists.ListKind.the-variants.{Pairs, Places}
 use Rattle.form.specs.declared.lists.Listed.{Listed}
 use Rattle.form.proofs.DecodeLaws.{clash}
 use Rattle.form.proofs.CheckLaws.{form-of}
@@ -27,9 +29,13 @@ use Rattle.form.proofs.RowLaws.{row-short, found-exact}
 use Rattle.tree.proofs.Ranges.{split}
 use Rattle.form.proofs.TableLaws.{listing-no, listing-yes}
 use Rattle.spell.specs.Spell.{spells, fitsForm, fitsList, fitsNames}
+use Rattle.line.specs.Line.{listRow}
+use Rattle.line.specs.declared.head.Head.{Head}
+use Rattle.line.specs.declared.head.Head.the-variants.{Shift, Free, Bind, Fill, Prune, Point, Member}
 use Rattle.line.specs.declared.line.Part.{Part}
-use Rattle.reply.specs.Reply.{spelledForm, spelledList, spelledNames}
-use Rattle.reply.specs.Internal.Parts.{Held}
+use Rattle.line.specs.declared.line.Parts.{Parts}
+use Rattle.reply.specs.Reply.{textOf, spelledForm, spelledList, spelledNames}
+use Rattle.reply.specs.Internal.Parts.{Held, HeldBoth, formWords, kindOf, listTest, partsTest, runOutcome}
 
 -- a test before a command: it passes every outcome on, or refuses them all by one number
 pub data Gate (g : Outcome → Outcome) : Type 0 where
@@ -150,6 +156,9 @@ module _ (line row ws : List ℕ) (p : Part) (h : Held line row ws p) where
   pub held-fits : p .count ≤ 8192 → p .count ≤ length row
   held-fits l = let c = h .room in omega arith
 
+pub row-holds : (line row ws : List ℕ) (p : Part) → Held line row ws p → (n : ℕ) → n ≤ 8192 → n ≤ length row
+row-holds line row ws p h n l = let c = h .room in omega arith
+
 -- what a command answers and writes
 abbrev pub Said : Answer → Outcome → List ℕ → List ℕ → Type 0
 Said r o result result′ = (r ≡ told o) × (result′ ≡ written o result)
@@ -160,14 +169,83 @@ said-no o n result e = rw e (refl, refl)
 pub said-same : (o p : Outcome) (r : Answer) (result result′ : List ℕ) → o ≡ p → Said r o result result′ → Said r p result result′
 said-same o p r result result′ e h = rw e at h
 
--- a command after a test
-module _ (row : List ℕ) (g : Outcome → Outcome) (t : Tests row g) (r : Answer) (n : ℕ) (e : r ≡ told (g (answer []))) where
-  pub test-refused : r ≡ No n → (o : Outcome) (result : List ℕ) → Said r (g o) result result
-  test-refused q o result = rw q (said-no (g o) n result (gate-refused g r n e (t .gate) q o))
+pub run-said : (h x : Head) → h ≡ x → (z : ℤ) (list row : List ℕ) (work room : ℕ) (r : Answer) (result result′ : List ℕ)
+    → Said r (runOutcome x z list row work room) result result′ → Said r (runOutcome h z list row work room) result result′
+run-said h x e z list row work room r result result′ s = rw e s
+
+-- one test after another
+after-gate : (f g : Outcome → Outcome) → Gate f → Gate g → Gate (λ o. f (g o))
+after-gate f g (refuses m h) k = refuses m (λ o. h (g o))
+after-gate f g (passes h) (passes k) = passes (λ o. h (g o) ∙ k o)
+after-gate f g (passes h) (refuses m k) = refuses m (λ o. h (g o) ∙ k o)
+
+pub test-no : (row : List ℕ) (g : Outcome → Outcome) → Tests row g → (r : Answer) → r ≡ told (g (answer [])) → (n : ℕ) → r ≡ No n → (o : Outcome) → r ≡ told (g o)
+test-no row g t r e n q o = q ∙ sym (ap told (gate-refused g r n e (t .gate) q o))
+
+pub test-yes : (row : List ℕ) (g : Outcome → Outcome) → Tests row g → (r : Answer) → r ≡ told (g (answer [])) → (n : ℕ) → r ≡ Done n → (o : Outcome) (r′ : Answer) → r′ ≡ told o → r′ ≡ told (g o)
+test-yes row g t r e n q o r′ k = k ∙ sym (ap told (gate-done g r n e (t .gate) q o))
+
+-- a command's list
+list-gate : (h : Head) (text list : List ℕ) → Gate (listTest h text list)
+list-gate Shift text list = passes (λ o. refl)
+list-gate Free text list = list-tests Pairs text list .gate
+list-gate Bind text list = names-tests text list .gate
+list-gate Fill text list = list-tests Places text list .gate
+list-gate Prune text list = passes (λ o. refl)
+list-gate Point text list = passes (λ o. refl)
+list-gate Member text list = passes (λ o. refl)
+
+test-short : (row : List ℕ) (g : Outcome → Outcome) → Tests row g → (r : Answer) (n : ℕ) → r ≡ told (g (answer [])) → r ≡ Done n → length row ≤ 8192
+test-short row g t r n e q = ⊎-elim (λ low. omega arith) (λ high. absurd (clash (let z = told-long row g t (omega arith) (answer []) in cc))) (split 8193 (length row))
+
+-- the words of a list that is not checked are not used
+list-run : (h : Head) (z : ℤ) (text list part row : List ℕ) (work room : ℕ) (r : Answer) (n : ℕ) → r ≡ told (listTest h text list (answer [])) → r ≡ Done n
+    → (length list ≤ 8192 → part ≡ list) → runOutcome h z part row work room ≡ runOutcome h z list row work room
+list-run Shift z text list part row work room r n e q f = refl
+list-run Free z text list part row work room r n e q f = rw (f (test-short list _ (list-tests Pairs text list) r n e q))
+list-run Bind z text list part row work room r n e q f = rw (f (test-short list _ (names-tests text list) r n e q))
+list-run Fill z text list part row work room r n e q f = rw (f (test-short list _ (list-tests Places text list) r n e q))
+list-run Prune z text list part row work room r n e q f = refl
+list-run Point z text list part row work room r n e q f = refl
+list-run Member z text list part row work room r n e q f = refl
+
+-- a command after its checks
+module _ (line : List ℕ) (p : Parts) (r : Answer) (n : ℕ) (e : r ≡ told (partsTest line p (answer []))) where
+  parts-tests : Tests (formWords line) (partsTest line p)
+  parts-tests =
+      let t = form-tests (kindOf (p .head)) (textOf line (p .form)) (formWords line) in
+      record { gate = after-gate _ _ (t .gate) (list-gate (p .head) (textOf line (p .list)) (listRow line)); long = λ l o. t .long l _ }
+
+  pub parts-refused : r ≡ No n → (o : Outcome) (result : List ℕ) → Said r (partsTest line p o) result result
+  parts-refused q o result = rw q (said-no _ n result (gate-refused _ r n e (parts-tests .gate) q o))
 
   module _ (q : r ≡ Done n) where
-    pub test-passed : (o : Outcome) (r′ : Answer) (result result′ : List ℕ) → Said r′ o result result′ → Said r′ (g o) result result′
-    test-passed o r′ result result′ h = said-same o (g o) r′ result result′ (sym (gate-done g r n e (t .gate) q o)) h
+    -- the list's checks pass too
+    listed : r ≡ told (listTest (p .head) (textOf line (p .list)) (listRow line) (answer []))
+    listed = go (form-tests (kindOf (p .head)) (textOf line (p .form)) (formWords line) .gate)
+      where
+        go : Gate (spelledForm (kindOf (p .head)) (textOf line (p .form)) (formWords line)) → r ≡ told (listTest (p .head) (textOf line (p .list)) (listRow line) (answer []))
+        go (passes h) = e ∙ ap told (h _)
+        go (refuses m h) = let z = rw h at e in absurd (clash cc)
 
-    pub test-short : (m : ℕ) → m ≡ length row → m ≤ 8192
-    test-short m k = ⊎-elim (λ low. omega arith) (λ high. absurd (clash (let z = told-long row g t (omega arith) (answer []) in cc))) (split 8193 m)
+    module _ (z : ℤ) (list row : List ℕ) (held : HeldBoth line list row (p .list) (p .form)) (work room a b : ℕ) (la : p .list .count ≤ 8192 → a ≡ p .list .count) (lb : p .form .count ≤ 8192 → b ≡ p .form .count) where
+      form-part : take b row ≡ formWords line
+      form-part =
+          let s = test-short (formWords line) _ parts-tests r n e q in
+          let c = held .formed .counted in
+          let k : p .form .count ≤ 8192 = omega arith in
+          rw (lb k) (held-row line row (formWords line) (p .form) (held .formed) k)
+
+      list-part : length (listRow line) ≤ 8192 → take a list ≡ listRow line
+      list-part s =
+          let c = held .listed .counted in
+          let k : p .list .count ≤ 8192 = omega arith in
+          rw (la k) (held-row line list (listRow line) (p .list) (held .listed) k)
+
+      run-is : runOutcome (p .head) z (take a list) (take b row) work room ≡ partsTest line p (runOutcome (p .head) z (listRow line) (formWords line) work room)
+      run-is =
+          rw form-part (list-run (p .head) z (textOf line (p .list)) (listRow line) (take a list) (formWords line) work room r n listed q list-part ∙ sym (gate-done _ r n e (parts-tests .gate) q _))
+
+      pub parts-passed : (r′ : Answer) (result result′ : List ℕ) → Said r′ (runOutcome (p .head) z (take a list) (take b row) work room) result result′
+          → Said r′ (partsTest line p (runOutcome (p .head) z (listRow line) (formWords line) work room)) result result′
+      parts-passed r′ result result′ h = said-same _ _ r′ result result′ run-is h

@@ -1,162 +1,97 @@
-// The commands, with the list and the form where they lie in the line, and their words at the front of two rows.
+// The commands: the checks of their list and form, where they lie in the line, and their calls on the rows.
 use crate::late::check_form_part;
 use crate::late::check_list_part;
 use crate::late::check_names_part;
 use form::answer::Answer;
 use form::answer::Kind;
+use form::answer::Limit;
 use form::lists::ListKind;
+use line::head::Head;
 use line::line::Part;
+use line::line::Parts;
 ghost use mathlib.Core.Path.{_≡_};
-ghost use lib.IntN.{pos};
+ghost use mathlib.Core.List.{[]};
+ghost use Prim.Native.Nat.{_≤_};
 ghost use lib.ListN.{length};
-ghost use Rattle.form.specs.Answer.{told, written};
-ghost use Rattle.line.specs.Line.{noList};
-ghost use Rattle.line.specs.declared.head.Head.the-variants.{Shift, Free, Bind, Fill, Prune, Point, Member};
-ghost use Rattle.reply.specs.Internal.Parts.{Held, HeldBoth, formWords, partsOutcome};
+ghost use Rattle.form.specs.Answer.{told, written, answer};
+ghost use Rattle.line.specs.Line.{listRow};
+ghost use Rattle.reply.specs.Reply.{textOf};
+ghost use Rattle.reply.specs.Internal.Parts.{Held, HeldBoth, kindOf, listTest, partsTest, runOutcome};
 
-pub(crate) fn shift_part(
-    line: &[u8],
-    row: &[u32],
-    part: Part,
+// Which kind of form a command takes.
+fn kind_of(head: Head) -> Kind
+    ensures { λ r. ⌜ r ≡ kindOf head ⌝ }
+{
+    match head {
+        Head::Shift => Kind::Either,
+        Head::Free => Kind::Either,
+        Head::Bind => Kind::Either,
+        Head::Fill => Kind::Predicate,
+        Head::Prune => Kind::Predicate,
+        Head::Point => Kind::Predicate,
+        Head::Member => Kind::Predicate,
+    }
+}
+
+// The list's check, where the command has one.
+fn check_list(line: &[u8], list: &[u32], head: Head, part: Part) -> Answer
+    requires { ⌜ Held (now line) (now list) (listRow (now line)) part ⌝ }
+    ensures { λ r. ⌜ r ≡ told (listTest head (textOf (now (line .entry)) part) (listRow (now (line .entry))) (answer [])) ⌝ }
+{
+    match head {
+        Head::Free => check_list_part(line, list, part, ListKind::Pairs),
+        Head::Bind => check_names_part(line, list, part),
+        Head::Fill => check_list_part(line, list, part, ListKind::Places),
+        Head::Shift => Answer::Done(0),
+        Head::Prune => Answer::Done(0),
+        Head::Point => Answer::Done(0),
+        Head::Member => Answer::Done(0),
+    }
+}
+
+// The form's check, and then the list's.
+pub(crate) fn check_parts(line: &[u8], list: &[u32], row: &[u32], parts: Parts) -> Answer
+    requires { ⌜ HeldBoth (now line) (now list) (now row) (parts .list) (parts .form) ⌝ }
+    ensures { λ r. ⌜ r ≡ told (partsTest (now (line .entry)) parts (answer [])) ⌝ }
+{
+    let head = parts.head;
+    let checked = check_form_part(line, row, parts.form, kind_of(head));
+    let Answer::Done(m) = checked else {
+        return checked;
+    };
+    check_list(line, list, head, parts.list)
+}
+
+// The number of a part's words, as far as a row can hold them.
+pub(crate) fn words_of(part: Part) -> usize
+    ensures { λ r. ⌜ (r ≤ 8192) × (part .count ≤ 8192 → r ≡ part .count) ⌝ }
+{
+    let count = part.count;
+    if Limit::WORDS < count {
+        return Limit::WORDS;
+    }
+    count
+}
+
+// The call of a command whose list and form are these rows.
+pub(crate) fn run_command(
+    head: Head,
     offset: i32,
-    result: &mut [u32],
-) -> Answer
-    requires { ⌜ Held (now line) (now row) (formWords (now line)) part ⌝ }
-    ensures { λ r. ⌜ r ≡ told (partsOutcome Shift offset (now (line .entry)) noList part 0 (length (now (result .entry)))) ⌝ }
-    ensures { λ _. ⌜ now (result .exit) ≡ written (partsOutcome Shift offset (now (line .entry)) noList part 0 (length (now (result .entry)))) (now (result .entry)) ⌝ }
-{
-    let count = part.count;
-    let checked = check_form_part(line, row, part, Kind::Either);
-    let Answer::Done(m) = checked else {
-        return checked;
-    };
-    subst::shift::shift_bound_identifiers(&row[..count], offset, result)
-}
-
-pub(crate) fn prune_part(line: &[u8], row: &[u32], part: Part, result: &mut [u32]) -> Answer
-    requires { ⌜ Held (now line) (now row) (formWords (now line)) part ⌝ }
-    ensures { λ r. ⌜ r ≡ told (partsOutcome Prune (pos 0) (now (line .entry)) noList part 0 (length (now (result .entry)))) ⌝ }
-    ensures { λ _. ⌜ now (result .exit) ≡ written (partsOutcome Prune (pos 0) (now (line .entry)) noList part 0 (length (now (result .entry)))) (now (result .entry)) ⌝ }
-{
-    let count = part.count;
-    let checked = check_form_part(line, row, part, Kind::Predicate);
-    let Answer::Done(m) = checked else {
-        return checked;
-    };
-    replace::prune::remove_unused_decls(&row[..count], result)
-}
-
-pub(crate) fn bind_part(
-    line: &[u8],
     list: &[u32],
     row: &[u32],
-    names: Part,
-    part: Part,
-    result: &mut [u32],
-) -> Answer
-    requires { ⌜ HeldBoth (now line) (now list) (now row) names part ⌝ }
-    ensures { λ r. ⌜ r ≡ told (partsOutcome Bind (pos 0) (now (line .entry)) names part 0 (length (now (result .entry)))) ⌝ }
-    ensures { λ _. ⌜ now (result .exit) ≡ written (partsOutcome Bind (pos 0) (now (line .entry)) names part 0 (length (now (result .entry)))) (now (result .entry)) ⌝ }
-{
-    let n = names.count;
-    let count = part.count;
-    let checked = check_form_part(line, row, part, Kind::Either);
-    let Answer::Done(m) = checked else {
-        return checked;
-    };
-    let listed = check_names_part(line, list, names);
-    let Answer::Done(k) = listed else {
-        return listed;
-    };
-    subst::bind::bind_idents(&list[..n], &row[..count], result)
-}
-
-pub(crate) fn free_part(
-    line: &[u8],
-    list: &[u32],
-    row: &[u32],
-    pairs: Part,
-    part: Part,
     work: &mut [u32],
     result: &mut [u32],
 ) -> Answer
-    requires { ⌜ HeldBoth (now line) (now list) (now row) pairs part ⌝ }
-    ensures { λ r. ⌜ r ≡ told (partsOutcome Free (pos 0) (now (line .entry)) pairs part (length (now (work .entry))) (length (now (result .entry)))) ⌝ }
-    ensures { λ _. ⌜ now (result .exit) ≡ written (partsOutcome Free (pos 0) (now (line .entry)) pairs part (length (now (work .entry))) (length (now (result .entry)))) (now (result .entry)) ⌝ }
+    ensures { λ r. ⌜ r ≡ told (runOutcome head offset (now (list .entry)) (now (row .entry)) (length (now (work .entry))) (length (now (result .entry)))) ⌝ }
+    ensures { λ _. ⌜ now (result .exit) ≡ written (runOutcome head offset (now (list .entry)) (now (row .entry)) (length (now (work .entry))) (length (now (result .entry)))) (now (result .entry)) ⌝ }
 {
-    let n = pairs.count;
-    let count = part.count;
-    let checked = check_form_part(line, row, part, Kind::Either);
-    let Answer::Done(m) = checked else {
-        return checked;
-    };
-    let listed = check_list_part(line, list, pairs, ListKind::Pairs);
-    let Answer::Done(k) = listed else {
-        return listed;
-    };
-    replace::free::substitute_free_idents(&list[..n], &row[..count], work, result)
-}
-
-pub(crate) fn fill_part(
-    line: &[u8],
-    list: &[u32],
-    row: &[u32],
-    places: Part,
-    part: Part,
-    work: &mut [u32],
-    result: &mut [u32],
-) -> Answer
-    requires { ⌜ HeldBoth (now line) (now list) (now row) places part ⌝ }
-    ensures { λ r. ⌜ r ≡ told (partsOutcome Fill (pos 0) (now (line .entry)) places part (length (now (work .entry))) (length (now (result .entry)))) ⌝ }
-    ensures { λ _. ⌜ now (result .exit) ≡ written (partsOutcome Fill (pos 0) (now (line .entry)) places part (length (now (work .entry))) (length (now (result .entry)))) (now (result .entry)) ⌝ }
-{
-    let n = places.count;
-    let count = part.count;
-    let checked = check_form_part(line, row, part, Kind::Predicate);
-    let Answer::Done(m) = checked else {
-        return checked;
-    };
-    let listed = check_list_part(line, list, places, ListKind::Places);
-    let Answer::Done(k) = listed else {
-        return listed;
-    };
-    replace::fill::instantiate(&list[..n], &row[..count], work, result)
-}
-
-pub(crate) fn point_part(
-    line: &[u8],
-    row: &[u32],
-    part: Part,
-    work: &mut [u32],
-    result: &mut [u32],
-) -> Answer
-    requires { ⌜ Held (now line) (now row) (formWords (now line)) part ⌝ }
-    ensures { λ r. ⌜ r ≡ told (partsOutcome Point (pos 0) (now (line .entry)) noList part (length (now (work .entry))) (length (now (result .entry)))) ⌝ }
-    ensures { λ _. ⌜ now (result .exit) ≡ written (partsOutcome Point (pos 0) (now (line .entry)) noList part (length (now (work .entry))) (length (now (result .entry)))) (now (result .entry)) ⌝ }
-{
-    let count = part.count;
-    let checked = check_form_part(line, row, part, Kind::Predicate);
-    let Answer::Done(m) = checked else {
-        return checked;
-    };
-    one_point::one_point_inference::one_point_inference(&row[..count], work, result)
-}
-
-pub(crate) fn member_part(
-    line: &[u8],
-    row: &[u32],
-    part: Part,
-    work: &mut [u32],
-    result: &mut [u32],
-) -> Answer
-    requires { ⌜ Held (now line) (now row) (formWords (now line)) part ⌝ }
-    ensures { λ r. ⌜ r ≡ told (partsOutcome Member (pos 0) (now (line .entry)) noList part (length (now (work .entry))) (length (now (result .entry)))) ⌝ }
-    ensures { λ _. ⌜ now (result .exit) ≡ written (partsOutcome Member (pos 0) (now (line .entry)) noList part (length (now (work .entry))) (length (now (result .entry)))) (now (result .entry)) ⌝ }
-{
-    let count = part.count;
-    let checked = check_form_part(line, row, part, Kind::Predicate);
-    let Answer::Done(m) = checked else {
-        return checked;
-    };
-    one_point::rewrite_in_compset::rewrite_in_compset(&row[..count], work, result)
+    match head {
+        Head::Shift => subst::shift::shift_bound_identifiers(row, offset, result),
+        Head::Free => replace::free::substitute_free_idents(list, row, work, result),
+        Head::Bind => subst::bind::bind_idents(list, row, result),
+        Head::Fill => replace::fill::instantiate(list, row, work, result),
+        Head::Prune => replace::prune::remove_unused_decls(row, result),
+        Head::Point => one_point::one_point_inference::one_point_inference(row, work, result),
+        Head::Member => one_point::rewrite_in_compset::rewrite_in_compset(row, work, result),
+    }
 }

@@ -1,14 +1,9 @@
 // The answer to a line of commands: a row, and its bytes.
-use crate::commands::bind_part;
-use crate::commands::fill_part;
-use crate::commands::free_part;
-use crate::commands::member_part;
-use crate::commands::point_part;
-use crate::commands::prune_part;
-use crate::commands::shift_part;
+use crate::commands::check_parts;
+use crate::commands::run_command;
+use crate::commands::words_of;
 use form::answer::Answer;
 use form::answer::Limit;
-use line::head::Head;
 use line::line::Line;
 use spell::answer::print_form;
 use spell::answer::print_no;
@@ -47,16 +42,14 @@ pub fn answer_line(
     let Line::Command(parts) = line::line::read_line(line, list, form) else {
         return Answer::No(8);
     };
+    let checked = check_parts(line, list, form, parts);
+    let Answer::Done(k) = checked else {
+        return checked;
+    };
     let head = parts.head;
-    match head {
-        Head::Shift => shift_part(line, form, parts.form, parts.offset, result),
-        Head::Free => free_part(line, list, form, parts.list, parts.form, work, result),
-        Head::Bind => bind_part(line, list, form, parts.list, parts.form, result),
-        Head::Fill => fill_part(line, list, form, parts.list, parts.form, work, result),
-        Head::Prune => prune_part(line, form, parts.form, result),
-        Head::Point => point_part(line, form, parts.form, work, result),
-        Head::Member => member_part(line, form, parts.form, work, result),
-    }
+    let n = words_of(parts.list);
+    let m = words_of(parts.form);
+    run_command(head, parts.offset, &list[..n], &form[..m], work, result)
 }
 
 // The bytes that answer the line, at the front of the buffer. All other rows are work rows.
