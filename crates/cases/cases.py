@@ -557,10 +557,16 @@ def cases():
         yield one("offer, %s" % name, op, "/".join(rows), "", 0, 0, n)
 
 
+CALLS = ["shift", "bind", "free", "fill", "prune", "point", "dangling", "lift", "new", "forced"]
+SIGNS = {-1: 1, -2: 2, -2147483648: 3}
+
+
 def line(case):
     name, op, out, work, by, lst, row = case
-    sign = " 1" if by < 0 else ""
-    return "%s;%s;%d %d %d%s;%s;%s" % (name, op, out, work, abs(by), sign, lst, " ".join(row.split()))
+    rows = row.split("/") if op in ("new", "forced") and row else []
+    words = [CALLS.index(op) + 1, out, work, abs(by), SIGNS.get(by, 0), len(w(lst)), lst]
+    words += [x for r in rows for x in (len(w(r)), r)] if rows else [row]
+    return "%s;%s" % (name, "".join(x + " " for x in " ".join(str(x) for x in words).split()))
 
 
 def expected(case):

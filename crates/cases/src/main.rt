@@ -1,232 +1,140 @@
 // The library cases: calls with rows of given lengths and old contents, one case a line on standard input, one line printed a case.
 //
-// A case is: name; call; length of the output row, length of the work row, parameter, sign; list; row. A word may stand behind how often
-// it is repeated and a star. The output row holds 88 everywhere before the call and the work row 77. What is printed: the name, document
-// 01's number, the length, and every word of the output row. For lift it is the part that it answers; for a set of places its number,
-// the numbers of the offers, the number of declarations, and place, start and end of each filled place.
+// A case is: name; and then in words the call, the length of the output row, the length of the work row, the parameter, its sign, the
+// number of words of the list, the list, the row. A space ends each word, which may stand behind how often it is repeated and a star. The
+// calls: 1 shift, 2 bind, 3 free, 4 fill, 5 prune, 6 point, 7 dangling, 8 lift, 9 a new set of places, 10 a set that no constructor makes.
+// The rows that are offered to a set stand in the row, each behind the number of its words. The sign is 1, 2 or 3 for the offsets -1, -2
+// and -2147483648. The output row holds 88 everywhere before the call and the work row 77. What is printed: the name, document 01's number,
+// the length, and every word of the output row. For lift it is the part that it answers; for a set of places its number, the numbers of the
+// offers, the number of declarations, and place, start and end of each filled place.
 mod places;
 mod print;
 mod text;
 
-use crate::text::field;
 use crate::text::find;
+use crate::text::part;
 use crate::text::read_words;
-use crate::text::set_words;
+use crate::text::size_at;
+use crate::text::word_at;
+use crate::text::words_part;
 use form::answer::Answer;
 use libc::STDIN_FILENO;
+use one_point::replacements::Replacements;
 
-enum Call {
-    Shift,
-    Bind,
-    Free,
-    Fill,
-    Prune,
-    Point,
-    Dangling,
-    Lift,
-    New,
-    Forced,
-    Unknown,
-}
-
-// The third field.
-struct Settings {
-    out: usize,
-    work: usize,
-    param: u32,
-    negative: bool,
-}
-
-fn call_of(name: &[u8]) -> Call {
-    if check::same(name, b"shift") {
-        return Call::Shift;
-    }
-    if check::same(name, b"bind") {
-        return Call::Bind;
-    }
-    if check::same(name, b"free") {
-        return Call::Free;
-    }
-    if check::same(name, b"fill") {
-        return Call::Fill;
-    }
-    if check::same(name, b"prune") {
-        return Call::Prune;
-    }
-    if check::same(name, b"point") {
-        return Call::Point;
-    }
-    other_call(name)
-}
-
-fn other_call(name: &[u8]) -> Call {
-    if check::same(name, b"dangling") {
-        return Call::Dangling;
-    }
-    if check::same(name, b"lift") {
-        return Call::Lift;
-    }
-    if check::same(name, b"new") {
-        return Call::New;
-    }
-    if check::same(name, b"forced") {
-        return Call::Forced;
-    }
-    Call::Unknown
-}
-
-fn usize_of(w: u32) -> usize {
-    w as usize
-}
-
-fn settings_of(text: &[u8]) -> Settings {
-    let mut words = [0u32; 4];
-    read_words(text, &mut words);
-    Settings {
-        out: usize_of(words[0]),
-        work: usize_of(words[1]),
-        param: words[2],
-        negative: words[3] == 1,
-    }
-}
-
-// Of the negative offsets the cases use the first two and the last.
-fn offset(s: Settings) -> i32 {
-    let m = s.param;
-    if s.negative {
-        if m == 1 {
-            return -1;
+fn offset(param: u32, sign: u32) -> i32 {
+    match sign {
+        1 => -1,
+        2 => -2,
+        3 => -2147483648,
+        _ => {
+            if 2147483647 < param {
+                return 2147483647;
+            }
+            param as i32
         }
-        if m == 2 {
-            return -2;
-        }
-        return -2147483648;
     }
-    if 2147483647 < m {
-        return 2147483647;
-    }
-    m as i32
 }
 
 // The number and length of a call, and its output row.
 fn answer_of(
-    call: Call,
-    s: Settings,
+    call: u32,
+    by: i32,
     list: &[u32],
     row: &[u32],
     work: &mut [u32],
     out: &mut [u32],
 ) -> Answer {
     match call {
-        Call::Shift => subst::shift::shift_bound_identifiers(row, offset(s), out),
-        Call::Bind => subst::bind::bind_idents(list, row, out),
-        Call::Free => replace::free::substitute_free_idents(list, row, work, out),
-        Call::Fill => replace::fill::instantiate(list, row, work, out),
-        Call::Prune => replace::prune::remove_unused_decls(row, out),
-        Call::Point => one_point::one_point_inference::one_point_inference(row, work, out),
-        Call::Dangling => subst::dangling::dangling_bound_indices(row, out),
-        Call::Lift => Answer::No(99),
-        Call::New => Answer::No(99),
-        Call::Forced => Answer::No(99),
-        Call::Unknown => Answer::No(99),
+        1 => subst::shift::shift_bound_identifiers(row, by, out),
+        2 => subst::bind::bind_idents(list, row, out),
+        3 => replace::free::substitute_free_idents(list, row, work, out),
+        4 => replace::fill::instantiate(list, row, work, out),
+        5 => replace::prune::remove_unused_decls(row, out),
+        6 => one_point::one_point_inference::one_point_inference(row, work, out),
+        7 => subst::dangling::dangling_bound_indices(row, out),
+        _ => Answer::No(99),
     }
 }
 
-fn print_answer(
-    call: Call,
-    s: Settings,
+// The call on rows of the asked lengths.
+fn run_call(
+    call: u32,
+    by: i32,
     list: &[u32],
     row: &[u32],
     work: &mut [u32],
+    w: usize,
     out: &mut [u32],
+    o: usize,
 ) {
-    let a = answer_of(call, s, list, row, work, out);
-    print::answer(a);
-    print::words(out);
-}
-
-fn print_lift(base: &[u32], work: &mut [u32], depth: u32) {
-    let part = subst::lift::at_depth(base, work, depth);
-    print::count(part.len());
-    print::words(part);
-}
-
-// The call on rows of the asked lengths.
-fn run_call(call: Call, s: Settings, list: &[u32], row: &[u32], work: &mut [u32], out: &mut [u32]) {
-    let w = s.work;
-    let o = s.out;
     if work.len() < w {
         return;
     }
     if out.len() < o {
         return;
     }
-    match call {
-        Call::Lift => print_lift(row, &mut work[..w], s.param),
-        _ => print_answer(call, s, list, row, &mut work[..w], &mut out[..o]),
-    }
-}
-
-// The rows of a case, and its call.
-fn run_rows(
-    line: &[u8],
-    call: Call,
-    s: Settings,
-    list: &mut [u32],
-    row: &mut [u32],
-    work: &mut [u32],
-    out: &mut [u32],
-) {
-    let n = read_words(field(line, 3), list);
-    let m = read_words(field(line, 4), row);
-    set_words(work, 0, work.len(), 77);
-    set_words(out, 0, out.len(), 88);
-    if list.len() < n {
-        return;
-    }
-    if row.len() < m {
-        return;
-    }
-    run_call(call, s, &list[..n], &row[..m], work, out);
+    let a = answer_of(call, by, list, row, &mut work[..w], &mut out[..o]);
+    print::answer(a);
+    print::words(words_part(out, 0, o));
 }
 
 // A call with rows of its own.
-fn run_fresh(line: &[u8], call: Call, s: Settings) {
-    let mut list = [0u32; 8200];
-    let mut row = [0u32; 8200];
-    let mut work = [0u32; 16400];
-    let mut out = [0u32; 8200];
-    run_rows(line, call, s, &mut list, &mut row, &mut work, &mut out);
+fn run_fresh(call: u32, by: i32, list: &[u32], row: &[u32], w: usize, o: usize) {
+    let mut work = [77u32; 16400];
+    let mut out = [88u32; 8200];
+    run_call(call, by, list, row, &mut work, w, &mut out, o);
 }
 
-fn run_places(line: &[u8], n: usize, force: bool) {
-    let mut row = [0u32; 8200];
-    places::run(field(line, 4), &mut row, n, force);
+fn run_lift(base: &[u32], work: &mut [u32], w: usize, depth: u32) {
+    if work.len() < w {
+        return;
+    }
+    let part = subst::lift::at_depth(base, &mut work[..w], depth);
+    print::count(part.len());
+    print::words(part);
 }
 
-// A set of places, or a call with rows.
-fn run_kind(line: &[u8], call: Call, s: Settings) {
-    let n = usize_of(s.param);
+fn lift_fresh(base: &[u32], w: usize, depth: u32) {
+    let mut work = [77u32; 16400];
+    run_lift(base, &mut work, w, depth);
+}
+
+// The case that these words say.
+fn run_words(words: &[u32]) {
+    let call = word_at(words, 0);
+    let w = size_at(words, 2);
+    let param = word_at(words, 3);
+    let n = size_at(words, 5);
+    let row = words_part(words, 6 + n, words.len());
     match call {
-        Call::New => run_places(line, n, false),
-        Call::Forced => run_places(line, n, true),
-        _ => run_fresh(line, call, s),
+        8 => lift_fresh(row, w, param),
+        9 => places::run(row, Replacements::new(param as usize)),
+        10 => places::run(row, places::forced(param as usize)),
+        _ => run_fresh(
+            call,
+            offset(param, word_at(words, 4)),
+            words_part(words, 6, 6 + n),
+            row,
+            w,
+            size_at(words, 1),
+        ),
     }
 }
 
-fn run_case(line: &[u8]) {
-    print::text(field(line, 0));
+fn run_case(name: &[u8], text: &[u8]) {
+    let mut words = [0u32; 16400];
+    let n = read_words(text, &mut words);
+    print::text(name);
     print::text(b":");
-    let call = call_of(field(line, 1));
-    let s = settings_of(field(line, 2));
-    run_kind(line, call, s);
+    run_words(words_part(&words, 0, n));
     print::text(b"\n");
 }
 
 // The case that starts here: where the next one does.
 fn step(input: &[u8], at: usize) -> usize {
-    let end = find(input, at, b'\n');
-    run_case(text::part(input, at, end));
+    let middle = find(input, at, b';');
+    let end = find(input, middle, b'\n');
+    run_case(part(input, at, middle), part(input, middle, end));
     if input.len() <= end {
         return input.len();
     }

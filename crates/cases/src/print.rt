@@ -7,31 +7,17 @@ pub(crate) fn text(bytes: &[u8]) {
 }
 
 // A space and a number.
-pub(crate) fn number(n: u64) {
+fn number(n: u64) {
     text(b" ");
     io::print_decimal(STDOUT_FILENO, n);
 }
 
-fn wide(w: u32) -> u64 {
-    w as u64
-}
-
-fn long(n: usize) -> u64 {
-    n as u64
-}
-
 pub(crate) fn count(n: usize) {
-    number(long(n));
+    number(n as u64);
 }
 
 pub(crate) fn word(w: u32) {
-    number(wide(w));
-}
-
-fn word_at(row: &[u32], i: usize) {
-    if i < row.len() {
-        word(row[i]);
-    }
+    number(w as u64);
 }
 
 // Every word of the row behind a bar.
@@ -39,7 +25,7 @@ pub(crate) fn words(row: &[u32]) {
     text(b" |");
     let mut i = 0;
     while i < row.len() {
-        word_at(row, i);
+        word(row[i]);
         i += 1;
     }
 }

@@ -1,16 +1,10 @@
-// A case in text: fields between semicolons, and words in decimals.
+// A case in text: its parts, and words in decimals.
+ghost use Prim.Native.Nat.{_<_};
 
-// The bytes of a field, from start to end.
-struct Span {
-    start: usize,
-    end: usize,
-}
-
-// A word that is being read: its value so far, how often it is to be written, and where.
+// A word that is being read: its value so far, and how often it is to be written.
 struct Word {
     value: u32,
     times: usize,
-    at: usize,
 }
 
 // The place of the first such byte from here on, or the end.
@@ -25,22 +19,6 @@ pub(crate) fn find(text: &[u8], at: usize, stop: u8) -> usize {
     text.len()
 }
 
-// The field behind this one.
-fn next_field(line: &[u8], span: Span) -> Span {
-    let end = span.end;
-    if line.len() <= end {
-        return Span {
-            start: line.len(),
-            end: line.len(),
-        };
-    }
-    let start = end + 1;
-    Span {
-        start: start,
-        end: find(line, start, b';'),
-    }
-}
-
 // The bytes from start to end, or none.
 pub(crate) fn part<'a>(text: &'a [u8], start: usize, end: usize) -> &'a [u8] {
     if text.len() < end {
@@ -52,56 +30,62 @@ pub(crate) fn part<'a>(text: &'a [u8], start: usize, end: usize) -> &'a [u8] {
     &text[start..end]
 }
 
-// The field with this number, from 0.
-pub(crate) fn field<'a>(line: &'a [u8], k: usize) -> &'a [u8] {
-    let mut span = Span {
-        start: 0,
-        end: find(line, 0, b';'),
-    };
-    let mut left = k;
-    while left > 0 {
-        span = next_field(line, span);
+// The words from start to end, or none.
+pub(crate) fn words_part<'a>(words: &'a [u32], start: usize, end: usize) -> &'a [u32] {
+    if words.len() < end {
+        return &words[..0];
+    }
+    if end < start {
+        return &words[..0];
+    }
+    &words[start..end]
+}
+
+// The word here, or 0.
+pub(crate) fn word_at(words: &[u32], i: usize) -> u32 {
+    if words.len() <= i {
+        return 0;
+    }
+    words[i]
+}
+
+pub(crate) fn size_at(words: &[u32], i: usize) -> usize
+    ensures { λ r. ⌜ r < 4294967296 ⌝ }
+{
+    word_at(words, i) as usize
+}
+
+// Writes a word so often, as far as there is room: where the next one goes.
+fn put_words(row: &mut [u32], from: usize, value: u32, times: usize) -> usize {
+    let mut at = from;
+    let mut left = times;
+    while left > 0 && at < row.len() {
+        row[at] = value;
+        at += 1;
         left -= 1;
     }
-    part(line, span.start, span.end)
+    at
 }
 
-// The word here, set to a value.
-fn set_word(row: &mut [u32], i: usize, value: u32) {
-    if i < row.len() {
-        row[i] = value;
+// How often the word is written at this byte: a space ends it.
+fn times_at(w: Word, b: u8) -> usize {
+    if b == b' ' {
+        return w.times;
     }
+    0
 }
 
-// The words from `from` to `to`, set to a value.
-pub(crate) fn set_words(row: &mut [u32], from: usize, to: usize, value: u32) {
-    let mut i = from;
-    while i < to {
-        set_word(row, i, value);
-        i += 1;
+// Behind this byte: a digit is the word's; what stands before a star says how often the word behind it is written.
+fn put_byte(w: Word, b: u8) -> Word {
+    if b == b' ' {
+        return Word { value: 0, times: 1 };
     }
-}
-
-// The word is whole, and written.
-fn put_word(row: &mut [u32], w: Word) -> Word {
-    let at = w.at;
-    let times = w.times;
-    if row.len() < at {
-        return w;
+    if b == b'*' {
+        return Word {
+            value: 0,
+            times: w.value as usize,
+        };
     }
-    if row.len() - at < times {
-        return w;
-    }
-    let end = at + times;
-    set_words(row, at, end, w.value);
-    Word {
-        value: 0,
-        times: 1,
-        at: end,
-    }
-}
-
-fn put_digit(w: Word, b: u8) -> Word {
     if b < 48 {
         return w;
     }
@@ -112,46 +96,24 @@ fn put_digit(w: Word, b: u8) -> Word {
         return Word {
             value: 4294967295,
             times: w.times,
-            at: w.at,
         };
     }
     Word {
         value: w.value * 10 + ((b - 48) as u32),
         times: w.times,
-        at: w.at,
     }
-}
-
-// A space ends a word; what stands before a star says how often the word behind it is written.
-fn put_byte(row: &mut [u32], w: Word, b: u8) -> Word {
-    if b == b' ' {
-        return put_word(row, w);
-    }
-    if b == b'*' {
-        return Word {
-            value: 0,
-            times: w.value as usize,
-            at: w.at,
-        };
-    }
-    put_digit(w, b)
 }
 
 // Writes the words of the text to the front of the row: how many.
 pub(crate) fn read_words(text: &[u8], row: &mut [u32]) -> usize {
-    let mut w = Word {
-        value: 0,
-        times: 1,
-        at: 0,
-    };
+    let mut w = Word { value: 0, times: 1 };
+    let mut at = 0;
     let mut i = 0;
     while i < text.len() {
-        w = put_byte(row, w, text[i]);
+        let b = text[i];
+        at = put_words(row, at, w.value, times_at(w, b));
+        w = put_byte(w, b);
         i += 1;
     }
-    if text.len() == 0 {
-        return 0;
-    }
-    w = put_word(row, w);
-    w.at
+    at
 }

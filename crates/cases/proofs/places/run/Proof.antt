@@ -1,28 +1,40 @@
 -- `cases::places::run` meets its contract. Assumes nothing.
-use mathlib.Core.Path.{_≡_, refl, _∙_}
 use native.Mathlib.Omega.{arith}
-use lib.ListN.{length}
+use borrow.Author.Tests.{ltb-true}
 use borrow.Author.Needs.{needs}
+use Prim.Native.Nat.{_≤_}
 use Rattle.cases.proofs.places.run.Statement.{statement}
 use Rattle.cases.proofs.places.run.Tie as tie
 
 abbrev Inv-loop : tie.InvT-loop
-Inv-loop rows row₀ n force t₀ left₀ row t left = length row ≡ length row₀
+Inv-loop rows places₀ at₀ left₀ places at left = 0 ≤ left
 
 abbrev μ-loop : tie.MeasureT-loop
-μ-loop rows row₀ n force t₀ left₀ row t left = left
-
-first-requires : tie.Need-first-requires Inv-loop μ-loop
-first-requires c κs = search needs
+μ-loop rows places₀ at₀ left₀ places at left = left
 
 word-requires : tie.Need-word-requires Inv-loop μ-loop
 word-requires c κs = search needs
 
 loop-holds : tie.Need-loop-holds Inv-loop μ-loop
-loop-holds c = refl
+loop-holds c = omega arith
 
-step-requires : tie.Need-step-requires Inv-loop μ-loop
-step-requires c κs = search needs
+add-start : tie.Need-add-start Inv-loop μ-loop
+add-start c = omega (arith, ltb-true)
+
+size-at-requires : tie.Need-size-at-requires Inv-loop μ-loop
+size-at-requires c κs = search needs
+
+wrapping-add-usize-requires : tie.Need-wrapping-add-usize-requires Inv-loop μ-loop
+wrapping-add-usize-requires c κs = search needs
+
+words-part-requires : tie.Need-words-part-requires Inv-loop μ-loop
+words-part-requires c κs = search needs
+
+offer-once-requires : tie.Need-offer-once-requires Inv-loop μ-loop
+offer-once-requires c κs = search needs
+
+word-requires-2 : tie.Need-word-requires-2 Inv-loop μ-loop
+word-requires-2 c κs = search needs
 
 sub-left : tie.Need-sub-left Inv-loop μ-loop
 sub-left c = omega arith
@@ -31,13 +43,10 @@ loop-less : tie.Need-loop-less Inv-loop μ-loop
 loop-less c = omega arith
 
 loop-again : tie.Need-loop-again Inv-loop μ-loop
-loop-again c = c .before .before .step .kept .1 .0 ∙ c .before .before .before .before .before .before .before .loop .inv
+loop-again c = omega arith
 
 show-requires : tie.Need-show-requires Inv-loop μ-loop
 show-requires c κs = search needs
-
-same-length : tie.Need-same-length Inv-loop μ-loop
-same-length c = c .before .before .before .loop .inv
 
 returns : tie.Need-returns Inv-loop μ-loop
 returns c = tt
@@ -48,13 +57,16 @@ run-spec =
     (tie.spec
     Inv-loop
     μ-loop
-    first-requires
     word-requires
     loop-holds
-    step-requires
+    add-start
+    size-at-requires
+    wrapping-add-usize-requires
+    words-part-requires
+    offer-once-requires
+    word-requires-2
     sub-left
     loop-less
     loop-again
     show-requires
-    same-length
     returns)

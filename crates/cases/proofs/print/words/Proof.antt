@@ -1,8 +1,8 @@
 -- `cases::print::words` meets its contract. Assumes nothing.
 use native.Mathlib.Omega.{arith}
+use borrow.Author.Needs.{needs}
 use Prim.Native.Nat.{_-_, _≤_}
 use lib.ListN.{length}
-use borrow.Author.Needs.{needs}
 use Rattle.cases.proofs.print.words.Statement.{statement}
 use Rattle.cases.proofs.print.words.Tie as tie
 
@@ -21,8 +21,14 @@ text-requires c κs = search needs
 loop-holds : tie.Need-loop-holds Inv-loop μ-loop
 loop-holds c = omega arith
 
-word-at-requires : tie.Need-word-at-requires Inv-loop μ-loop
-word-at-requires c κs = search needs
+mul-word : tie.Need-mul-word Inv-loop μ-loop
+mul-word c = omega arith
+
+shared-slice-read-word : tie.Need-shared-slice-read-word Inv-loop μ-loop
+shared-slice-read-word c = omega arith
+
+word-requires : tie.Need-word-requires Inv-loop μ-loop
+word-requires c κs = search needs
 
 add-i : tie.Need-add-i Inv-loop μ-loop
 add-i c = omega arith
@@ -45,7 +51,9 @@ words-spec =
     slice-aggregate-text
     text-requires
     loop-holds
-    word-at-requires
+    mul-word
+    shared-slice-read-word
+    word-requires
     add-i
     loop-less
     loop-again

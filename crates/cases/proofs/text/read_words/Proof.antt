@@ -1,23 +1,29 @@
 -- `cases::text::read_words` meets its contract. Assumes nothing.
-use mathlib.Core.Path.{_≡_, refl, _∙_}
 use native.Mathlib.Omega.{arith}
+use borrow.Author.Needs.{needs}
+use mathlib.Core.Path.{_≡_, refl, _∙_}
 use Prim.Native.Nat.{_-_}
 use lib.ListN.{length}
-use borrow.Author.Needs.{needs}
 use Rattle.cases.proofs.text.read_words.Statement.{statement}
 use Rattle.cases.proofs.text.read_words.Tie as tie
 
 abbrev Inv-loop : tie.InvT-loop
-Inv-loop text row₀ w₀ i₀ row w i = length row ≡ length row₀
+Inv-loop text row₀ w₀ at₀ i₀ row w at i = length row ≡ length row₀
 
 abbrev μ-loop : tie.MeasureT-loop
-μ-loop text row₀ w₀ i₀ row w i = length text - i
+μ-loop text row₀ w₀ at₀ i₀ row w at i = length text - i
 
 loop-holds : tie.Need-loop-holds Inv-loop μ-loop
 loop-holds c = refl
 
-shared-slice-read-put-byte : tie.Need-shared-slice-read-put-byte Inv-loop μ-loop
-shared-slice-read-put-byte c = omega arith
+shared-slice-read-b : tie.Need-shared-slice-read-b Inv-loop μ-loop
+shared-slice-read-b c = omega arith
+
+times-at-requires : tie.Need-times-at-requires Inv-loop μ-loop
+times-at-requires c κs = search needs
+
+put-words-requires : tie.Need-put-words-requires Inv-loop μ-loop
+put-words-requires c κs = search needs
 
 put-byte-requires : tie.Need-put-byte-requires Inv-loop μ-loop
 put-byte-requires c κs = search needs
@@ -29,22 +35,13 @@ loop-less : tie.Need-loop-less Inv-loop μ-loop
 loop-less c = omega arith
 
 loop-again : tie.Need-loop-again Inv-loop μ-loop
-loop-again c = c .before .before .put-byte .kept .0 ∙ c .before .before .before .before .before .before .loop .inv
+loop-again c = c .before .before .before .put-words .kept .0 ∙ c .before .before .before .before .before .before .before .before .loop .inv
 
 same-length : tie.Need-same-length Inv-loop μ-loop
-same-length c = c .before .before .loop .inv
+same-length c = c .before .loop .inv
 
 returns : tie.Need-returns Inv-loop μ-loop
 returns c = tt
-
-put-word-requires : tie.Need-put-word-requires Inv-loop μ-loop
-put-word-requires c κs = search needs
-
-same-length-2 : tie.Need-same-length-2 Inv-loop μ-loop
-same-length-2 c = c .before .before .put-word .kept .0 ∙ c .before .before .before .before .before .before .loop .inv
-
-returns-2 : tie.Need-returns-2 Inv-loop μ-loop
-returns-2 c = tt
 
 pub read-words-spec : {M : Type 1} → statement M
 read-words-spec =
@@ -53,13 +50,12 @@ read-words-spec =
     Inv-loop
     μ-loop
     loop-holds
-    shared-slice-read-put-byte
+    shared-slice-read-b
+    times-at-requires
+    put-words-requires
     put-byte-requires
     add-i
     loop-less
     loop-again
     same-length
-    returns
-    put-word-requires
-    same-length-2
-    returns-2)
+    returns)
