@@ -43,7 +43,8 @@ offerSides p l r (offer i s) =
 
 abbrev pub offerForm : Replacements → Form → Offered
 offerForm p (leaf x) = says p 10
-offerForm p (node t o ds ks) = ofTwo (says p 10) (λ l r. pick (eqb t 101) (offerSides p l r (offered l r)) (says p 10)) ks
+offerForm p (node t o ds ks) =
+    ofTwo (says p 10) (λ l r. pick (eqb t 101) (offerSides p l r (offered l r)) (says p 10)) ks
 
 abbrev pub offerFound : Replacements → Found → Offered
 offerFound p = elim [ found s f ↦ pick (leb (p .n) 32) (offerForm p f) (says p 5) | missing ↦ says p 2 ]

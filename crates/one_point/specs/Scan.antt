@@ -54,7 +54,8 @@ roleOf t b =
 
 -- 251 and 101 have two children, 8 has one
 abbrev pub suits : Role → Forms → Bool
-suits x ks = elim x [ junction ↦ true | implication ↦ isTwo ks | negation ↦ eqb (count ks) 1 | equality ↦ isTwo ks | other ↦ true ]
+suits x ks =
+    elim x [ junction ↦ true | implication ↦ isTwo ks | negation ↦ eqb (count ks) 1 | equality ↦ isTwo ks | other ↦ true ]
 
 abbrev pub role : ℕ → List ℕ → Forms → Bool → Role
 role t ds ks b = pick (isNil ds && suits (roleOf t b) ks) (roleOf t b) other

@@ -34,4 +34,5 @@ premiseOf R ns (scanned (taken i e) g) = inRange R ns i e
 premiseOf R ns (scanned nothing g) = true
 
 abbrev pub premise : Reading → Form → Bool
-premise R f = elim (quantified f) [ quantifier t ns g ↦ premiseOf R ns (scan (length ns) (polarity t) g) | other ↦ true ]
+premise R f =
+    elim (quantified f) [ quantifier t ns g ↦ premiseOf R ns (scan (length ns) (polarity t) g) | other ↦ true ]
