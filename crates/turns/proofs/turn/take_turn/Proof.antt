@@ -38,7 +38,7 @@ part-reply-end c =
     let (r, a, b, m) = reply-fits _ (b10 .args .st) (length (b10 .args .input .now)) (length (b10 .args .output .now)) _ (b3 .decide .ensures .1) _ _ (c .before .step .given .1) in b
 
 sub-reply-2 : tie.Need-sub-reply-2
-sub-reply-2 c = search needs
+sub-reply-2 c = omega arith
 
 part-reply-start-2 : tie.Need-part-reply-start-2
 part-reply-start-2 c = search needs
@@ -71,16 +71,24 @@ enum-known-step-2 : tie.Need-enum-known-step-2
 enum-known-step-2 c = search needs
 
 same-length : tie.Need-same-length
-same-length c = search needs
+same-length c =
+    let b12 = c .before .before .before .before .before .before .before .before .before .before .before .before in
+    b12 .reply .kept .1 .0
 
 same-length-2 : tie.Need-same-length-2
-same-length-2 c = search needs
+same-length-2 c =
+    let b12 = c .before .before .before .before .before .before .before .before .before .before .before .before in
+    b12 .reply .kept .1 .1 .0
 
 same-length-3 : tie.Need-same-length-3
-same-length-3 c = search needs
+same-length-3 c =
+    let b12 = c .before .before .before .before .before .before .before .before .before .before .before .before in
+    b12 .reply .kept .1 .1 .1 .0
 
 same-length-4 : tie.Need-same-length-4
-same-length-4 c = search needs
+same-length-4 c =
+    let b12 = c .before .before .before .before .before .before .before .before .before .before .before .before in
+    b12 .reply .kept .1 .1 .1 .1 .0
 
 same-length-5 : tie.Need-same-length-5
 same-length-5 c = search needs
