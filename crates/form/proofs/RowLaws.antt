@@ -79,3 +79,12 @@ one-form row pred pred f f′ p q = (refl, cc)
 
 pub at-most-one : (kind kind′ : Kind) (row : List ℕ) (s s′ : Sort) (f f′ : Form) → formOf kind row ≡ found s f → formOf kind′ row ≡ found s′ f′ → (s ≡ s′) × (f ≡ f′)
 at-most-one kind kind′ row s s′ f f′ p q = one-form row s s′ f f′ (found-exact kind row s f p) (found-exact kind′ row s′ f′ q)
+
+-- a row that is one form: its length, its words, its limits
+pub row-one : (s : Sort) (row : List ℕ) (f : Form) → rowForm s row ≡ one f → (length row ≤ 8192) × (row ≡ encode f) × Ok 64 s f
+row-one s row f e =
+    let (w, o) = row-exact s row f e in
+    (row-short s row f e, w, o)
+
+pub found-row : (row : List ℕ) (s : Sort) (f : Form) (kind : Kind) → formOf kind row ≡ found s f → (length row ≤ 8192) × (row ≡ encode f) × Ok 64 s f
+found-row row s f kind e = row-one s row f (found-exact kind row s f e)

@@ -16,7 +16,8 @@ use Rattle.form.specs.declared.answer.Kind.the-variants.{Predicate}
 use Rattle.form.specs.declared.answer.Answer.{Answer}
 use Rattle.form.specs.declared.answer.Answer.the-variants.{Done, No}
 use Rattle.form.proofs.DecodeLaws.{clash, Ok, decode-encode}
-use Rattle.subst.proofs.CheckedLaws.{row-one, is-missing}
+use Rattle.subst.proofs.CheckedLaws.{is-missing}
+use Rattle.form.proofs.RowLaws.{row-one}
 use Rattle.replace.proofs.OkLaws.{ok-deep}
 use Rattle.one_point.specs.Replacement.{left, right, Offer, offer, no-offer, offered}
 use Rattle.one_point.specs.Split.{equal}

@@ -19,7 +19,7 @@ use Rattle.form.specs.declared.answer.Answer.{Answer}
 use Rattle.form.specs.declared.answer.Answer.the-variants.{Done, No}
 use Rattle.form.proofs.DecodeLaws.{clash}
 use Rattle.subst.specs.Internal.Items.{items, store}
-use Rattle.subst.proofs.CheckedLaws.{found-row}
+use Rattle.form.proofs.RowLaws.{found-row}
 use Rattle.subst.proofs.ItemLaws.{stored, store-append}
 use Rattle.replace.specs.Internal.Pieces.{sizes, lengthRefusal, InRow, isFound, shortWords, emitted, replacedWords, replaced}
 use Rattle.replace.specs.declared.pieces.Plan.{Plan}

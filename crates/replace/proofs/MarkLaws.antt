@@ -17,7 +17,7 @@ use Rattle.form.proofs.HeadLaws.{here, gone}
 use Rattle.form.proofs.ListLaws.{list-sound}
 use Rattle.subst.specs.Internal.Items.{Fresh, items, store}
 use Rattle.subst.specs.declared.items.Item.the-variants.{Plain, Ident}
-use Rattle.subst.proofs.CheckedLaws.{found-row}
+use Rattle.form.proofs.RowLaws.{found-row}
 use Rattle.subst.proofs.ItemLaws.{stored, store-front}
 use Rattle.subst.proofs.RowLaws.{zeros, marksOf, zeros-append, zeros-length, marks-length, mark-zeros}
 

@@ -18,10 +18,9 @@ use Rattle.form.specs.declared.answer.Kind.{Kind}
 use Rattle.form.specs.declared.answer.Kind.the-variants.{Predicate, Either}
 use Rattle.form.specs.declared.lists.ListKind.{ListKind}
 use Rattle.form.specs.declared.lists.ListKind.the-variants.{Pairs, Places}
-use Rattle.form.proofs.RowLaws.{found-exact}
+use Rattle.form.proofs.RowLaws.{found-exact, row-one}
 use Rattle.subst.specs.Shift.{shift, ofShifted, shiftOutcome}
 use Rattle.subst.specs.Bind.{bind, bindOutcome}
-use Rattle.subst.proofs.CheckedLaws.{row-one}
 use Rattle.replace.specs.Free.{substitute, freeOutcome}
 use Rattle.replace.specs.Fill.{Quantified, quantifier, other, quantified, ofQuantified, keptCount, fill, fillOutcome}
 use Rattle.replace.specs.Prune.{usedPlaces, prune, pruneOutcome}

@@ -14,15 +14,7 @@ use Rattle.form.specs.declared.answer.Answer.{Answer}
 use Rattle.form.specs.declared.answer.Answer.the-variants.{Done, No}
 use Rattle.subst.specs.Internal.Items.{Fresh}
 use Rattle.form.proofs.DecodeLaws.{clash, Ok}
-use Rattle.form.proofs.RowLaws.{found-exact, row-exact, row-short}
-
-pub row-one : (s : Sort) (row : List ℕ) (f : Form) → rowForm s row ≡ one f → (length row ≤ 8192) × (row ≡ encode f) × Ok 64 s f
-row-one s row f e =
-    let (w, o) = row-exact s row f e in
-    (row-short s row f e, w, o)
-
-pub found-row : (row : List ℕ) (s : Sort) (f : Form) (kind : Kind) → formOf kind row ≡ found s f → (length row ≤ 8192) × (row ≡ encode f) × Ok 64 s f
-found-row row s f kind e = row-one s row f (found-exact kind row s f e)
+use Rattle.form.proofs.RowLaws.{found-row}
 
 -- what is known of a row that the check took: m are its marks, made in n words that held 0
 pub record Checked (kind : Kind) (row m : List ℕ) (n : ℕ) : Type 0 where

@@ -16,12 +16,11 @@ use Rattle.form.specs.Decode.{found, formOf}
 use Rattle.form.specs.Answer.{answer, finish}
 use Rattle.form.specs.declared.answer.Kind.the-variants.{Either}
 use Rattle.form.proofs.DecodeLaws.{clash}
-use Rattle.form.proofs.RowLaws.{row-encode}
+use Rattle.form.proofs.RowLaws.{row-encode, found-row}
 use Rattle.subst.specs.Walk.{Binding, inside, outside, binding, Outer, named, dangling, walkIndex, walk, walkAll, up, lift, put, collectIndex, collect, each}
 use Rattle.subst.specs.Dangling.{isNamed, closed}
 use Rattle.subst.specs.Shift.{reaches, fall, lower, shift, shiftOutcome}
 use Rattle.subst.proofs.WalkLaws.{eachAll, binding-add, binding-back, fuse-level, shift-shift, self, each-agree, each-all, walk-agree}
-use Rattle.subst.proofs.CheckedLaws.{found-row}
 
 -- the walk that puts each identifier for itself
 self-index : (k i : ℕ) (z : Binding) → binding k i ≡ z → walkIndex self k i z ≡ leaf (bound i)
