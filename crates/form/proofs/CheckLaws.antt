@@ -2,14 +2,14 @@
 use mathlib.Core.Path.{_≡_, refl, ap, sym, _∙_}
 use mathlib.Core.Bool.{Bool, true, false}
 use mathlib.Core.List.{List, [], _∷_}
-use Prim.Native.Nat.{ℕ, zero, suc, _≤_, _<_}
+use Prim.Native.Nat.{ℕ, _≤_, _<_}
 use native.Mathlib.Omega.{arith}
 use borrow.Author.Tests.{le-leb, lt-leb}
 use lib.Dec.{leb}
 use lib.ListN.{length, getD, length-append}
 use Rattle.tree.specs.Form.{Form, pick, encode}
-use Rattle.tree.specs.Tag.{Sort, expr, pred, own, ownOf, shapeOf}
-use Rattle.form.specs.Decode.{read, got, no-form, decode, Whole, one, not-one, whole, rowForm, Found, found, missing, asSort, either, formOf}
+use Rattle.tree.specs.Tag.{Sort, expr, pred, shapeOf}
+use Rattle.form.specs.Decode.{got, decode, Whole, one, not-one, whole, rowForm, Found, found, missing, asSort, either, formOf}
 use Rattle.form.specs.Answer.{Outcome, answer, refusal, told, ofFound, checkOutcome}
 use Rattle.form.specs.Internal.Reads.{mark, Told, Marked, known, asExpr}
 use Rattle.form.specs.declared.answer.Kind.{Kind}
@@ -21,13 +21,8 @@ use Rattle.form.specs.declared.head.Step.{Step}
 use Rattle.form.specs.declared.head.Step.the-variants.{End, Bad}
 use Rattle.form.proofs.DecodeLaws.{clash, decode-sound}
 use Rattle.form.proofs.ReaderLaws.{told-end, told-bad}
+use Rattle.form.proofs.RowLaws.{unknown-no, no-whole}
 use Rattle.tree.proofs.Ranges.{one-table}
-
--- a tag that begins expressions begins no predicate: a row is read as the sort that its first tag says
-pub unknown-no : (s : Sort) (d t : ℕ) (ws : List ℕ) → shapeOf s t ≡ Unknown → decode d s (t ∷ ws) ≡ no-form
-unfolding decode own ownOf read
-unknown-no s zero t ws e = refl
-unknown-no s (suc d) t ws e = rw e
 
 known-not : (x : Shape) → known x ≡ false → x ≡ Unknown
 known-not Unknown e = refl
@@ -42,14 +37,6 @@ known-not Quant e = absurd (clash cc)
 
 known-is : (x : Shape) → known x ≡ true → x ≡ Unknown → ⊥
 known-is x e q = let z : _≡_ {A = ℕ} 0 1 = cc in omega arith
-
-pub no-whole : (s : Sort) (row : List ℕ) → decode 64 s row ≡ no-form → rowForm s row ≡ not-one
-unfolding rowForm
-no-whole s row e = rw e (go (leb (length row) 8192))
-  where
-    go : (b : Bool) → pick b not-one not-one ≡ not-one
-    go true = refl
-    go false = refl
 
 either-missing : (o : Found) → either o missing ≡ o
 either-missing (found s f) = refl

@@ -13,7 +13,7 @@ use lib.Seq.{drop-cons, drop-drop}
 use Rattle.tree.specs.Form.{pick, between}
 use Rattle.tree.specs.Tag.{Sort, Own, ask, kids, wrong, own, ownOf, shapeOf}
 use Rattle.form.specs.Decode.{Head, head, bad, addWord, addName, only, names, read}
-use Rattle.form.specs.Internal.Reads.{wordAt, headAt, namesAt}
+use Rattle.form.specs.Internal.Heads.{wordAt, headAt, namesAt}
 use Rattle.tree.specs.declared.tag.Shape.{Shape}
 use Rattle.tree.specs.declared.tag.Shape.the-variants.{Unknown, Plain, Name, Value, Exprs, Preds, Apply, Compr, Quant}
 use Rattle.form.specs.declared.head.Step.the-variants.{End, Bad}

@@ -9,8 +9,8 @@ use Rattle.tree.specs.Form.{Form}
 use Rattle.tree.specs.Tag.{expr}
 use Rattle.form.specs.Decode.{Got, got, no-form, decode}
 use Rattle.form.specs.Lists.{kept, filled, Entry, entry, withExpr, placeEntry, entryOf, addEntry, andThen, entries, listOf, entryWords, encodeList}
-use Rattle.form.specs.declared.lists.ListKind.{ListKind}
-use Rattle.form.specs.declared.lists.ListKind.the-variants.{Pairs, Places}
+use Rattle.form.specs.declared.answer.ListKind.{ListKind}
+use Rattle.form.specs.declared.answer.ListKind.the-variants.{Pairs, Places}
 use Rattle.form.proofs.DecodeLaws.{clash, Ok, decode-encode, decode-sound}
 
 -- an entry that the kind can have: with a pair an expression, at a place 0 alone or 1 and an expression

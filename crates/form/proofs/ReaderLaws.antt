@@ -11,7 +11,8 @@ use lib.ListN.{length, getD, drop, set, replicate, length-append, length-drop}
 use Rattle.tree.specs.Form.{Leaf, Form, leaf, node, Forms, none, pick, encode, encodeAll}
 use Rattle.tree.specs.Tag.{Sort, expr, own, ownOf, shapeOf, exprTags, sorts}
 use Rattle.form.specs.Decode.{Head, head, bad, read, Got, got, no-form, Gots, gots, no-forms, leafAt, isLeaf, make, addForm, close, chain, decodeAll, branch, decode}
-use Rattle.form.specs.Internal.Reads.{headAt, mark, markAll, markTag, startsLeaf, Told, ToldAll, decodeIn}
+use Rattle.form.specs.Internal.Heads.{headAt}
+use Rattle.form.specs.Internal.Reads.{mark, markAll, markTag, startsLeaf, Told, ToldAll, decodeIn}
 use Rattle.form.specs.declared.head.Step.{Step}
 use Rattle.form.specs.declared.head.Step.the-variants.{End, Bad}
 use Rattle.form.specs.declared.head.Head as code

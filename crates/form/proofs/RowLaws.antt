@@ -2,18 +2,32 @@
 use mathlib.Core.Path.{_≡_, refl, _∙_}
 use mathlib.Core.Bool.{Bool, true, false}
 use mathlib.Core.List.{List, [], _∷_, append-nil}
-use Prim.Native.Nat.{ℕ, _≤_}
+use Prim.Native.Nat.{ℕ, zero, suc, _≤_}
 use borrow.Author.Tests.{le-leb, leb-true}
 use lib.Dec.{leb}
 use lib.ListN.{length}
 use Rattle.tree.specs.Form.{Form, pick, encode}
-use Rattle.tree.specs.Tag.{Sort, expr, pred}
-use Rattle.form.specs.Decode.{Got, got, no-form, decode, Whole, one, not-one, whole, rowForm, found, asSort, either, formOf}
+use Rattle.tree.specs.Tag.{Sort, expr, pred, own, ownOf, shapeOf}
+use Rattle.form.specs.Decode.{read, Got, got, no-form, decode, Whole, one, not-one, whole, rowForm, found, asSort, either, formOf}
 use Rattle.form.specs.declared.answer.Kind.{Kind}
+use Rattle.tree.specs.declared.tag.Shape.the-variants.{Unknown}
 use Rattle.form.specs.declared.answer.Kind.the-variants.{Expression, Predicate, Either}
 use Rattle.form.proofs.DecodeLaws.{clash, Ok, decode-encode, decode-sound}
-use Rattle.form.proofs.CheckLaws.{unknown-no, no-whole}
 use Rattle.tree.proofs.Ranges.{one-table}
+
+-- a tag that begins expressions begins no predicate: a row is read as the sort that its first tag says
+pub unknown-no : (s : Sort) (d t : ℕ) (ws : List ℕ) → shapeOf s t ≡ Unknown → decode d s (t ∷ ws) ≡ no-form
+unfolding decode own ownOf read
+unknown-no s zero t ws e = refl
+unknown-no s (suc d) t ws e = rw e
+
+pub no-whole : (s : Sort) (row : List ℕ) → decode 64 s row ≡ no-form → rowForm s row ≡ not-one
+unfolding rowForm
+no-whole s row e = rw e (go (leb (length row) 8192))
+  where
+    go : (b : Bool) → pick b not-one not-one ≡ not-one
+    go true = refl
+    go false = refl
 
 within : (b : Bool) (w : Whole) (f : Form) → pick b w not-one ≡ one f → (b ≡ true) × (w ≡ one f)
 within true w f e = (refl, e)

@@ -17,8 +17,8 @@ use Rattle.form.specs.Lists.{Entry, entry, wordOf, withExpr, placeEntry,
 use Rattle.form.specs.Answer.{told, answer, needs, namesOutcome, pairsOutcome, placesOutcome}
 use Rattle.form.specs.Internal.Reads.{Told, markEntry, markEntries, ToldEntry, emptyTable, addRow, tabled, ListingFrom, Listing, memberOf, goodTable}
 use Rattle.form.specs.declared.answer.Answer.the-variants.{Done, No}
-use Rattle.form.specs.declared.lists.ListKind.{ListKind}
-use Rattle.form.specs.declared.lists.ListKind.the-variants.{Pairs, Places}
+use Rattle.form.specs.declared.answer.ListKind.{ListKind}
+use Rattle.form.specs.declared.answer.ListKind.the-variants.{Pairs, Places}
 use Rattle.form.specs.declared.lists.Table.{Table}
 use Rattle.form.specs.declared.lists.Listed.{Listed}
 use Rattle.form.specs.declared.head.Step.{Step}

@@ -1,2 +1,3 @@
 -- What the contracts of private functions cite: positions and marks. Nothing here is needed to read a public contract.
+pub mod Heads
 pub mod Reads

@@ -8,8 +8,8 @@ use lib.ListN.{length}
 use Rattle.tree.specs.Form.{Form, member, encode}
 use Rattle.tree.specs.Tag.{expr}
 use Rattle.form.specs.Decode.{Got, got, no-form, decode}
-use Rattle.form.specs.declared.lists.ListKind.{ListKind}
-use Rattle.form.specs.declared.lists.ListKind.the-variants.{Pairs, Places}
+use Rattle.form.specs.declared.answer.ListKind.{ListKind}
+use Rattle.form.specs.declared.answer.ListKind.the-variants.{Pairs, Places}
 
 pub data Place : Type 0 where
   kept : Place

@@ -13,6 +13,12 @@ pub enum Kind {
     Either,
 }
 
+// Which list of entries: name and expression in turn, or one place for each declaration.
+pub enum ListKind {
+    Pairs,
+    Places,
+}
+
 // The limits of a row: words, depth, a name or index, declarations of one quantifier.
 pub struct Limit {
     pub value: usize,

@@ -7,7 +7,7 @@ ghost use mathlib.Core.Path.{_≡_};
 ghost use lib.ListN.{drop};
 ghost use Rattle.tree.specs.Tag.{expr, pred, own, ownOf, ask, kids};
 ghost use Rattle.form.specs.Decode.{read, names};
-ghost use Rattle.form.specs.Internal.Reads.{wordAt, headAt, namesAt};
+ghost use Rattle.form.specs.Internal.Heads.{wordAt, headAt, namesAt};
 
 // Where a part of a row ends, or that it is no such part.
 pub enum Step {

@@ -1,6 +1,7 @@
 // The lists: names; name and expression in turn; for each declaration 0, or 1 and an expression.
 use crate::answer::Answer;
 use crate::answer::Limit;
+use crate::answer::ListKind;
 use crate::head::Step;
 use crate::reader::mark_child;
 ghost use mathlib.Core.Path.{_≡_};
@@ -9,12 +10,6 @@ ghost use lib.ListN.{length, take, drop};
 ghost use Rattle.form.specs.Lists.{placeEntry, entryOf, listOf, distinct, goodNames};
 ghost use Rattle.form.specs.Answer.{told, namesOutcome, pairsOutcome, placesOutcome};
 ghost use Rattle.form.specs.Internal.Reads.{ToldEntry, Listing, emptyTable, memberOf, goodTable};
-
-// Which list of entries: name and expression in turn, or one place for each declaration.
-pub enum ListKind {
-    Pairs,
-    Places,
-}
 
 // The entries of a list: of the first 32 the word, and where its expression starts and ends in the row (at one place where it has
 // none); and the number of all.

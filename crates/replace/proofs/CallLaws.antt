@@ -13,7 +13,7 @@ use Rattle.form.specs.Answer.{Outcome, refusal, told, written, withWork, withFo
 use Rattle.form.specs.declared.answer.Kind.{Kind}
 use Rattle.form.specs.declared.answer.Answer.{Answer}
 use Rattle.form.specs.declared.answer.Answer.the-variants.{No}
-use Rattle.form.specs.declared.lists.ListKind.{ListKind}
+use Rattle.form.specs.declared.answer.ListKind.{ListKind}
 use Rattle.subst.proofs.CheckedLaws.{Checked}
 use Rattle.replace.specs.Internal.Pieces.{isFound}
 

@@ -14,8 +14,8 @@ use lib.Seq.{take-at, drop-at, take-suc-set, getD-take}
 use Rattle.tree.specs.Form.{Form, pick, encode}
 use Rattle.form.specs.Lists.{Place, kept, filled, Entry, entry, placeOf, placeWords, entryWords, encodeList, wordOf, listOf}
 use Rattle.form.specs.Internal.Reads.{markEntries, emptyTable, addRow, tabled}
-use Rattle.form.specs.declared.lists.ListKind.{ListKind}
-use Rattle.form.specs.declared.lists.ListKind.the-variants.{Pairs, Places}
+use Rattle.form.specs.declared.answer.ListKind.{ListKind}
+use Rattle.form.specs.declared.answer.ListKind.the-variants.{Pairs, Places}
 use Rattle.form.specs.declared.lists.Table.{Table}
 use Rattle.form.proofs.ListLaws.{Good, GoodAll, list-sound}
 use Rattle.form.proofs.TableLaws.{row-more, listed-n}

@@ -15,7 +15,7 @@ use Rattle.form.specs.Lists.{Place, kept, filled, Entry, entry, wordOf, placeOf
 use Rattle.form.specs.Answer.{Outcome, refusal, needs, isOne, finish}
 use Rattle.form.specs.Internal.Reads.{mark, markEntries, emptyTable, tabled, Listing}
 use Rattle.form.specs.declared.answer.Kind.the-variants.{Predicate}
-use Rattle.form.specs.declared.lists.ListKind.the-variants.{Places}
+use Rattle.form.specs.declared.answer.ListKind.the-variants.{Places}
 use Rattle.form.specs.declared.lists.Table.{Table}
 use Rattle.form.specs.declared.lists.Listed.{Listed}
 use Rattle.form.proofs.DecodeLaws.{clash, Ok}

@@ -16,7 +16,7 @@ use Rattle.form.specs.Lists.{Place, kept, filled, Entry, entry, wordOf, placeOf
 use Rattle.form.specs.Answer.{Outcome, refusal, needs, isOne, finish}
 use Rattle.form.specs.Internal.Reads.{asExpr, markEntries, emptyTable, tabled, Listing, goodTable}
 use Rattle.form.specs.declared.answer.Kind.the-variants.{Either}
-use Rattle.form.specs.declared.lists.ListKind.the-variants.{Pairs}
+use Rattle.form.specs.declared.answer.ListKind.the-variants.{Pairs}
 use Rattle.form.specs.declared.lists.Table.{Table}
 use Rattle.form.specs.declared.lists.Listed.{Listed}
 use Rattle.form.proofs.DecodeLaws.{clash, Ok}

@@ -11,7 +11,7 @@ use Rattle.form.specs.Decode.{Found, found, missing, formOf}
 use Rattle.form.specs.Lists.{Place, kept, filled, Entry, entry, placeWords, entryWords, encodeList, listOf}
 use Rattle.form.specs.Internal.Reads.{mark, Marked, markPlace, markEntry, markEntries, ListingFrom, Listing}
 use Rattle.form.specs.declared.answer.Kind.{Kind}
-use Rattle.form.specs.declared.lists.ListKind.{ListKind}
+use Rattle.form.specs.declared.answer.ListKind.{ListKind}
 use Rattle.form.specs.declared.lists.Listed.{Listed}
 use Rattle.form.proofs.HeadLaws.{here, gone}
 use Rattle.form.proofs.ListLaws.{list-sound}

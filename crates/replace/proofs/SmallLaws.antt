@@ -14,8 +14,8 @@ use Rattle.form.specs.Decode.{got, decode, Whole, one, not-one, whole}
 use Rattle.form.specs.Answer.{isOne}
 use Rattle.form.specs.Lists.{Place, kept, filled, Entry, entry, placeOf, placeWords, listOf}
 use Rattle.form.specs.Internal.Reads.{Told, decodeIn, emptyTable, tabled}
-use Rattle.form.specs.declared.lists.ListKind.{ListKind}
-use Rattle.form.specs.declared.lists.ListKind.the-variants.{Pairs, Places}
+use Rattle.form.specs.declared.answer.ListKind.{ListKind}
+use Rattle.form.specs.declared.answer.ListKind.the-variants.{Pairs, Places}
 use Rattle.form.specs.declared.lists.Table.{Table}
 use Rattle.form.specs.declared.head.Step.{Step}
 use Rattle.form.specs.declared.head.Step.the-variants.{End, Bad}

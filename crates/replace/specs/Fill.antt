@@ -9,7 +9,7 @@ use Rattle.tree.specs.Tag.{pred}
 use Rattle.form.specs.Lists.{Place, kept, filled, placeOf}
 use Rattle.form.specs.Answer.{Outcome, refusal, withWork, withForm, withList, needs, finish}
 use Rattle.form.specs.declared.answer.Kind.the-variants.{Predicate}
-use Rattle.form.specs.declared.lists.ListKind.the-variants.{Places}
+use Rattle.form.specs.declared.answer.ListKind.the-variants.{Places}
 use Rattle.subst.specs.Walk.{Outer, named, dangling, lift, subst}
 
 -- a quantified predicate: its tag, its declarations, its body

@@ -6,7 +6,7 @@ use Rattle.tree.specs.Form.{free, bound, Form, leaf, pick}
 use Rattle.form.specs.Lists.{Place, kept, filled, Entry, entry, wordOf, goodNames}
 use Rattle.form.specs.Answer.{Outcome, withWork, withForm, withList, needs, finish}
 use Rattle.form.specs.declared.answer.Kind.the-variants.{Either}
-use Rattle.form.specs.declared.lists.ListKind.the-variants.{Pairs}
+use Rattle.form.specs.declared.answer.ListKind.the-variants.{Pairs}
 use Rattle.subst.specs.Walk.{Outer, named, dangling, subst}
 
 abbrev pub orName : ℕ → Place → Form

@@ -10,7 +10,7 @@ use crate::small::depth_left_by;
 use form::answer::Answer;
 use form::answer::Kind;
 use form::answer::Limit;
-use form::lists::ListKind;
+use form::answer::ListKind;
 use form::lists::Table;
 ghost use mathlib.Core.Path.{_≡_};
 ghost use mathlib.Core.List.{[], _∷_};

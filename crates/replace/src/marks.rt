@@ -3,7 +3,7 @@ use form::answer::Answer;
 use form::answer::Kind;
 use form::check::is_expr;
 use form::head::Step;
-use form::lists::ListKind;
+use form::answer::ListKind;
 use form::lists::Listed;
 use form::reader::expr_at;
 use form::reader::pred_at;

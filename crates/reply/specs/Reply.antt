@@ -9,8 +9,8 @@ use lib.ListN.{take, drop}
 use Rattle.form.specs.Answer.{Outcome, answer, refusal, within, withForm, withList, needs}
 use Rattle.form.specs.declared.answer.Kind.{Kind}
 use Rattle.form.specs.declared.answer.Kind.the-variants.{Predicate, Either}
-use Rattle.form.specs.declared.lists.ListKind.{ListKind}
-use Rattle.form.specs.declared.lists.ListKind.the-variants.{Pairs, Places}
+use Rattle.form.specs.declared.answer.ListKind.{ListKind}
+use Rattle.form.specs.declared.answer.ListKind.the-variants.{Pairs, Places}
 use Rattle.subst.specs.Shift.{shiftOutcome}
 use Rattle.subst.specs.Bind.{bindOutcome}
 use Rattle.replace.specs.Free.{freeOutcome}

@@ -5,7 +5,7 @@ use crate::late::check_names_part;
 use form::answer::Answer;
 use form::answer::Kind;
 use form::answer::Limit;
-use form::lists::ListKind;
+use form::answer::ListKind;
 use line::head::Head;
 use line::line::Part;
 use line::line::Parts;

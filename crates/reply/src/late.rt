@@ -3,7 +3,7 @@ use form::answer::Answer;
 use form::answer::Kind;
 use form::answer::Limit;
 use form::check::is_expr;
-use form::lists::ListKind;
+use form::answer::ListKind;
 use form::lists::mark_list;
 use line::line::Part;
 ghost use mathlib.Core.Path.{_≡_};

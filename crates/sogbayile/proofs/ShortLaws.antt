@@ -16,8 +16,8 @@ use Rattle.form.specs.Lists.{Entry, wordOf, placeOf, listOf, goodNames}
 use Rattle.form.specs.Answer.{Outcome, answer, refusal, told, number, lengthOf, ofFound, ofList, withForm, withList, needs, finish}
 use Rattle.form.specs.declared.answer.Kind.{Kind}
 use Rattle.form.specs.declared.answer.Kind.the-variants.{Either, Predicate}
-use Rattle.form.specs.declared.lists.ListKind.{ListKind}
-use Rattle.form.specs.declared.lists.ListKind.the-variants.{Pairs, Places}
+use Rattle.form.specs.declared.answer.ListKind.{ListKind}
+use Rattle.form.specs.declared.answer.ListKind.the-variants.{Pairs, Places}
 use Rattle.form.proofs.RowLaws.{found-exact, row-exact}
 use Rattle.subst.specs.Walk.{Binding, inside, outside, binding, collectIndex, collect, collectAll}
 use Rattle.subst.specs.Dangling.{indexOf, insert, insertAll, danglingSet, danglingOutcome}

@@ -11,8 +11,8 @@ use Rattle.tree.specs.Form.{Form, encode}
 use Rattle.tree.specs.Tag.{expr}
 use Rattle.form.specs.Decode.{Got, got, no-form, decode}
 use Rattle.form.specs.Lists.{kept, filled, Entry, entry, withExpr, placeEntry, entryOf, addEntry, andThen, entries, entryWords}
-use Rattle.form.specs.declared.lists.ListKind.{ListKind}
-use Rattle.form.specs.declared.lists.ListKind.the-variants.{Pairs, Places}
+use Rattle.form.specs.declared.answer.ListKind.{ListKind}
+use Rattle.form.specs.declared.answer.ListKind.the-variants.{Pairs, Places}
 use Rattle.form.proofs.DecodeLaws.{clash, decode-sound}
 use Rattle.form.proofs.HeadLaws.{gone, here}
 use Rattle.spell.specs.Put.{put}

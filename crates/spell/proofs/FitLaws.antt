@@ -13,7 +13,7 @@ use Rattle.tree.specs.Form.{pick}
 use Rattle.form.specs.Decode.{rowForm, formOf}
 use Rattle.form.specs.Lists.{Entry, listOf}
 use Rattle.form.specs.declared.answer.Kind.the-variants.{Either}
-use Rattle.form.specs.declared.lists.ListKind.{ListKind}
+use Rattle.form.specs.declared.answer.ListKind.{ListKind}
 use Rattle.form.proofs.DecodeLaws.{clash}
 use Rattle.spell.specs.Put.{put}
 use Rattle.spell.specs.Spell.{spell, sameBytes, spells, fitsForm, spellList, lists, fitsList, spellNames, fitsNames}

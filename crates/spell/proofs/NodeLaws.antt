@@ -12,7 +12,8 @@ use lib.Seq.{take-at}
 use Rattle.tree.specs.Form.{Leaf, free, bound, leaf, node, Forms, none, pick, encode, encodeAll}
 use Rattle.tree.specs.Tag.{Sort, expr, ownOf, exprTags, shapeOf, own, sorts}
 use Rattle.form.specs.Decode.{Head, head, bad, read, no-form, Gots, gots, no-forms, leafAt, isLeaf, make, close, decodeAll, branch, decode}
-use Rattle.form.specs.Internal.Reads.{headAt, startsLeaf}
+use Rattle.form.specs.Internal.Heads.{headAt}
+use Rattle.form.specs.Internal.Reads.{startsLeaf}
 use Rattle.form.specs.declared.head.Head as code
 use Rattle.form.specs.declared.head.Head.the-variants.{Kids, None}
 use Rattle.form.proofs.DecodeLaws.{clash, high-tag, read-exact, read-at, all-sound, made}

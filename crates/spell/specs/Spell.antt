@@ -10,8 +10,8 @@ use Rattle.form.specs.Decode.{Found, found, missing, formOf}
 use Rattle.form.specs.Lists.{kept, filled, Entry, entry, listOf}
 use Rattle.form.specs.Answer.{Outcome, answer, withForm, needs}
 use Rattle.form.specs.declared.answer.Kind.the-variants.{Either}
-use Rattle.form.specs.declared.lists.ListKind.{ListKind}
-use Rattle.form.specs.declared.lists.ListKind.the-variants.{Pairs, Places}
+use Rattle.form.specs.declared.answer.ListKind.{ListKind}
+use Rattle.form.specs.declared.answer.ListKind.the-variants.{Pairs, Places}
 
 -- the digits of n, at most so many: those of its tenth, then the last
 unfoldable pub digits : ℕ → ℕ → List ℕ

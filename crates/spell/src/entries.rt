@@ -5,11 +5,11 @@ use crate::decimal::put_spaced;
 use crate::print::Ends;
 use crate::print::print_expr;
 use crate::whole::Spelled;
-use form::lists::ListKind;
+use form::answer::ListKind;
 ghost use Prim.Native.Nat.{_+_, _-_, _*_, _^_, _<_, _≤_};
 ghost use lib.ListN.{length, drop};
 ghost use Rattle.form.specs.Lists.{entryOf, listOf};
-ghost use Rattle.form.specs.declared.lists.ListKind.the-variants.{Pairs, Places};
+ghost use Rattle.form.specs.declared.answer.ListKind.the-variants.{Pairs, Places};
 ghost use Rattle.spell.specs.Spell.{spellNames};
 ghost use Rattle.spell.specs.Internal.Writes.{Wrote, PrintedEntry, PrintedEntries, PrintedList, AtMost};
 

@@ -3,7 +3,7 @@ use crate::entries::print_list;
 use crate::entries::print_names;
 use crate::whole::Spelled;
 use crate::whole::print_row;
-use form::lists::ListKind;
+use form::answer::ListKind;
 ghost use mathlib.Core.Path.{_≡_};
 ghost use Prim.Native.Nat.{_≤_};
 ghost use lib.ListN.{length, take};

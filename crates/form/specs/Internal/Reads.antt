@@ -1,4 +1,4 @@
--- What the code's parts answer, by what is read at a position of the row; and the marks of a form: at the tag of each name and index one
+-- What the readers answer, by what is read at a position of the row; and the marks of a form: at the tag of each name and index one
 -- more than the number of declarations that are open there.
 use mathlib.Core.Path.{_≡_}
 use mathlib.Core.List.{List, [], _∷_}
@@ -7,8 +7,8 @@ use mathlib.Core.Bool.{Bool, true, false, _&&_}
 use mathlib.Core.Option.{Option, none as absent, some}
 use lib.Dec.{leb}
 use lib.ListN.{length, set, take, replicate}
-use Rattle.tree.specs.Form.{Form, leaf, node, Forms, none, more, pick, between, member, encode, encodeAll}
-use Rattle.form.specs.Decode.{Head, head, bad, Got, got, no-form, Gots, gots, no-forms, isLeaf, decode, Found, found, missing}
+use Rattle.tree.specs.Form.{Form, leaf, node, Forms, none, more, pick, member, encode, encodeAll}
+use Rattle.form.specs.Decode.{Got, got, no-form, Gots, gots, no-forms, isLeaf, decode, Found, found, missing}
 use Rattle.tree.specs.Tag.{Sort, expr, shapeOf}
 use Rattle.form.specs.Lists.{Place, kept, filled, Entry, entry, wordOf, entryWords, distinct}
 use Rattle.form.specs.declared.answer.Kind.{Kind}
@@ -19,22 +19,6 @@ use Rattle.form.specs.declared.lists.Table.{Table}
 use Rattle.form.specs.declared.lists.Listed.{Listed}
 use Rattle.form.specs.declared.head.Step.{Step}
 use Rattle.form.specs.declared.head.Step.the-variants.{End, Bad}
-use Rattle.form.specs.declared.head.Word.{Word}
-use Rattle.form.specs.declared.head.Word.the-variants.{Is, Not}
-use Rattle.form.specs.declared.head.Head as code
-use Rattle.form.specs.declared.head.Head.the-variants.{Kids, None}
-
-unfoldable pub wordAt : ℕ → ℕ → List ℕ → Word
-wordAt lo hi [] = Not
-wordAt lo hi (w ∷ ws) = pick (between lo hi w) (Is w) Not
-
-unfoldable pub headAt : ℕ → Head → code.Head
-headAt at (head o ds p e r) = Kids (at + (length o + length ds)) p e (length ds)
-headAt at bad = None
-
-unfoldable pub namesAt : ℕ → Head → Step
-namesAt at (head o ds p e r) = End (at + length ds)
-namesAt at bad = Bad
 
 -- the list l with the marks of a form that stands at `at` under u declarations
 unfoldable mutual

@@ -7,7 +7,7 @@ use lib.ListN.{length, take}
 use Rattle.form.specs.Answer.{Outcome}
 use Rattle.form.specs.declared.answer.Kind.{Kind}
 use Rattle.form.specs.declared.answer.Kind.the-variants.{Predicate, Either}
-use Rattle.form.specs.declared.lists.ListKind.the-variants.{Pairs, Places}
+use Rattle.form.specs.declared.answer.ListKind.the-variants.{Pairs, Places}
 use Rattle.subst.specs.Shift.{shiftOutcome}
 use Rattle.subst.specs.Bind.{bindOutcome}
 use Rattle.replace.specs.Free.{freeOutcome}

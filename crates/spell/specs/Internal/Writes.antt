@@ -11,7 +11,7 @@ use Rattle.spell.specs.declared.whole.Spelled.the-variants.{Bytes, NotOn
 use Rattle.spell.specs.Spell.{spell, spellAll, spellEntry, entriesAfter, spellList}
 use mathlib.Core.Option.{Option, none as absent, some}
 use Rattle.form.specs.Lists.{Entry, entryWords}
-use Rattle.form.specs.declared.lists.ListKind.{ListKind}
+use Rattle.form.specs.declared.answer.ListKind.{ListKind}
 use Rattle.spell.specs.declared.print.Ends.{Ends}
 use Rattle.spell.specs.declared.print.Ends.the-variants.{End, Bad}
 

@@ -1,6 +1,6 @@
 -- `form::head::asked` meets its contract. Assumes nothing.
 use borrow.Author.Tests.{le-leb, lt-leb}
-use Rattle.form.specs.Internal.Reads.{wordAt}
+use Rattle.form.specs.Internal.Heads.{wordAt}
 use Rattle.form.proofs.HeadLaws.{gone, here}
 use borrow.Author.Needs.{needs}
 use Rattle.form.proofs.head.asked.Statement.{statement}

@@ -5,7 +5,7 @@ use native.Mathlib.Omega.{arith}
 use borrow.Author.Needs.{needs}
 use lib.ListN.{drop}
 use Rattle.form.specs.Decode.{names}
-use Rattle.form.specs.Internal.Reads.{namesAt}
+use Rattle.form.specs.Internal.Heads.{namesAt}
 use Rattle.form.proofs.HeadLaws.{asked-in, names-more, names-stop, names-none}
 use Rattle.form.proofs.head.names_end.Statement.{statement}
 use Rattle.form.proofs.head.names_end.Tie as tie

@@ -2,7 +2,7 @@
 use mathlib.Core.Path.{sym}
 use Rattle.tree.specs.Tag.{ownOf}
 use Rattle.form.specs.Decode.{read}
-use Rattle.form.specs.Internal.Reads.{headAt}
+use Rattle.form.specs.Internal.Heads.{headAt}
 use Rattle.form.proofs.HeadLaws.{no-kids}
 use borrow.Author.Needs.{needs}
 use Rattle.form.proofs.head.own_words.Statement.{statement}

@@ -11,7 +11,7 @@ use Rattle.replace.proofs.CallLaws.{refused-by}
 use Rattle.replace.proofs.MarkLaws.{listing-kept}
 use Rattle.replace.proofs.ShallowLaws.{reading-missing, reading-checked, reading-shallow}
 use Rattle.form.specs.declared.answer.Kind.the-variants.{Predicate}
-use Rattle.form.specs.declared.lists.ListKind.the-variants.{Places}
+use Rattle.form.specs.declared.answer.ListKind.the-variants.{Places}
 use Rattle.replace.proofs.FillLaws.{fill-small, fill-long, fill-missing, fill-list-long, fill-no-list, fill-other, fill-count, the-quant, the-count, the-length, placing, places-ready, fill-row}
 use Rattle.replace.proofs.fill.instantiate.Statement.{statement}
 use Rattle.replace.proofs.fill.instantiate.Tie as tie

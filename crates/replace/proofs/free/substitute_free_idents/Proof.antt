@@ -11,7 +11,7 @@ use Rattle.replace.proofs.CallLaws.{refused-by}
 use Rattle.replace.proofs.MarkLaws.{listing-kept}
 use Rattle.replace.proofs.ShallowLaws.{reading-missing, reading-checked, reading-shallow}
 use Rattle.form.specs.declared.answer.Kind.the-variants.{Either}
-use Rattle.form.specs.declared.lists.ListKind.the-variants.{Pairs}
+use Rattle.form.specs.declared.answer.ListKind.the-variants.{Pairs}
 use Rattle.replace.proofs.FreeLaws.{free-small, free-long, free-missing, free-list-long, free-no-list, free-bad, pairing, pairs-ready, free-row}
 use Rattle.replace.proofs.free.substitute_free_idents.Statement.{statement}
 use Rattle.replace.proofs.free.substitute_free_idents.Tie as tie

@@ -1,0 +1,24 @@
+-- What stands between a tag and its children, by positions of the row: a word within its limits, own words, declared names.
+use mathlib.Core.List.{List, [], _∷_}
+use Prim.Native.Nat.{ℕ, _+_}
+use lib.ListN.{length}
+use Rattle.tree.specs.Form.{pick, between}
+use Rattle.form.specs.Decode.{Head, head, bad}
+use Rattle.form.specs.declared.head.Step.{Step}
+use Rattle.form.specs.declared.head.Step.the-variants.{End, Bad}
+use Rattle.form.specs.declared.head.Word.{Word}
+use Rattle.form.specs.declared.head.Word.the-variants.{Is, Not}
+use Rattle.form.specs.declared.head.Head as code
+use Rattle.form.specs.declared.head.Head.the-variants.{Kids, None}
+
+unfoldable pub wordAt : ℕ → ℕ → List ℕ → Word
+wordAt lo hi [] = Not
+wordAt lo hi (w ∷ ws) = pick (between lo hi w) (Is w) Not
+
+unfoldable pub headAt : ℕ → Head → code.Head
+headAt at (head o ds p e r) = Kids (at + (length o + length ds)) p e (length ds)
+headAt at bad = None
+
+unfoldable pub namesAt : ℕ → Head → Step
+namesAt at (head o ds p e r) = End (at + length ds)
+namesAt at bad = Bad
