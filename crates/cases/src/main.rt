@@ -45,7 +45,7 @@ fn answer_of(
     out: &mut [u32],
 ) -> Answer {
     match call {
-        1 => subst::shift::shift_bound_identifiers(row, by, out),
+        1 => shift::shift::shift_bound_identifiers(row, by, out),
         2 => subst::bind::bind_idents(list, row, out),
         3 => replace::free::substitute_free_idents(list, row, work, out),
         4 => replace::fill::instantiate(list, row, work, out),

@@ -16,7 +16,7 @@ use Rattle.form.specs.declared.answer.Answer.{Answer}
 use Rattle.form.specs.declared.answer.Answer.the-variants.{Done, No}
 use Rattle.form.proofs.DecodeLaws.{clash, Ok}
 use Rattle.form.proofs.RowLaws.{row-exact}
-use Rattle.replace.specs.Fill.{ofQuantified, quantified}
+use Rattle.rules.specs.Fill.{ofQuantified, quantified}
 use Rattle.replace.specs.Internal.Pieces.{declaredIn}
 use Rattle.replace.proofs.QuantLaws.{Quant, is-quant, not-quant, quant-count}
 use Rattle.cursor.specs.Read.{openingOf, declaredOutcome}

@@ -6,7 +6,7 @@ use lib.ListN.{length, getD}
 use Rattle.tree.specs.Form.{pick}
 use Rattle.form.specs.Answer.{Outcome, answer, withForm}
 use Rattle.form.specs.declared.answer.Kind.the-variants.{Predicate}
-use Rattle.replace.specs.Fill.{ofQuantified, quantified}
+use Rattle.rules.specs.Fill.{ofQuantified, quantified}
 use Rattle.cursor.specs.declared.Opening.{Opening}
 
 -- the position after one word; the end stays where it is

@@ -109,7 +109,7 @@ fn declared(row: &[u32]) -> u32
 pub fn count_declarations(row: &[u32]) -> Answer
     ensures { λ r. ⌜ r ≡ told (declaredOutcome (now (row .entry))) ⌝ }
 {
-    let checked = form::check::check(row, Kind::Predicate);
+    let checked = reader::check::check(row, Kind::Predicate);
     let Answer::Done(length) = checked else {
         return checked;
     };

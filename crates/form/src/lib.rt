@@ -1,6 +1,3 @@
 // Forms as rows of words: the shape check of document 01, for forms and for the three lists.
 pub mod answer;
-pub mod check;
 pub mod head;
-pub mod lists;
-pub mod reader;

@@ -9,7 +9,7 @@ use lib.ListN.{length, take, drop}
 use Rattle.tree.specs.Form.{Form, pick, encode}
 use Rattle.tree.specs.Tag.{expr}
 use Rattle.form.proofs.DecodeLaws.{clash, Ok}
-use Rattle.one_point.specs.Replacement.{left, right, Offer, offer, no-offer, offered, taken, nothing, above, allowed, ofOffer, accept}
+use Rattle.rules.specs.Replacement.{left, right, Offer, offer, no-offer, offered, taken, nothing, above, allowed, ofOffer, accept}
 use Rattle.one_point.specs.Internal.Sides.{indexWords, replaceBy, replacementWords, aboveWords}
 use Rattle.one_point.specs.Internal.Parts.{acceptBy, acceptWords, Within, TookIs}
 use Rattle.one_point.specs.declared.sides.Sides.{Sides}

@@ -8,8 +8,8 @@ use native.Mathlib.Omega.{arith}
 use lib.ListN.{length, take}
 use Rattle.tree.specs.Form.{Form, node, encode}
 use Rattle.form.proofs.DecodeLaws.{clash}
-use Rattle.one_point.specs.Replacement.{Taken}
-use Rattle.one_point.specs.Scan.{Scan, scanned, negate, scan}
+use Rattle.rules.specs.Replacement.{Taken}
+use Rattle.rules.specs.Scan.{Scan, scanned, negate, scan}
 use Rattle.one_point.specs.Internal.Writes.{Wrote, Neat, neat-not, neat-other}
 use Rattle.one_point.specs.Internal.Scans.{Left, Became}
 use Rattle.one_point.specs.declared.scan.Scanned.{Scanned}

@@ -11,20 +11,20 @@ use Rattle.tree.specs.Form.{free, bound, Form, leaf, node, Forms, none, more, p
 use Rattle.tree.specs.Tag.{expr, pred, shapeOf, predTags}
 use Rattle.form.specs.Decode.{got, gots, decode}
 use Rattle.form.specs.Lists.{Place, kept, filled}
-use Rattle.form.specs.Internal.Reads.{mark}
-use Rattle.form.specs.declared.lists.Table.{Table}
+use Rattle.reader.specs.Internal.Reads.{mark}
+use Rattle.reader.specs.declared.lists.Table.{Table}
 use Rattle.form.proofs.DecodeLaws.{Ok, OkAll, ok-none, ok-more, decodeAll-encode, decode-sound}
-use Rattle.subst.specs.Walk.{Binding, inside, outside, binding, Outer, named, dangling, walkIndex, walk, walkAll, up, lift, collect, each}
-use Rattle.subst.proofs.WalkLaws.{eachAll, binding-add, self, always, each-always, each-all, walk-agree}
-use Rattle.subst.proofs.TreeLaws.{walk-self, each-walk}
-use Rattle.subst.proofs.RowLaws.{zeros, marksOf, marksAll, marks-length}
+use Rattle.rules.specs.Walk.{Binding, inside, outside, binding, Outer, named, dangling, walkIndex, walk, walkAll, up, lift, collect, each}
+use Rattle.rules.proofs.WalkLaws.{eachAll, binding-add, self, always, each-always, each-all, walk-agree}
+use Rattle.rules.proofs.TreeLaws.{walk-self, each-walk}
+use Rattle.shift.proofs.RowLaws.{zeros, marksOf, marksAll, marks-length}
 use Rattle.replace.proofs.FillTree.{ok-flat}
 use Rattle.replace.proofs.OkLaws.{ok-deep}
-use Rattle.one_point.specs.Replacement.{indexOf}
-use Rattle.one_point.specs.Split.{equal, parts}
-use Rattle.one_point.specs.Scan.{joinAll, joined}
-use Rattle.one_point.specs.Partial.{noPlaces}
-use Rattle.one_point.specs.Member.{offerAll, anyFilled, fillOffers, memberOf}
+use Rattle.rules.specs.Replacement.{indexOf}
+use Rattle.rules.specs.Split.{equal, parts}
+use Rattle.rules.specs.Scan.{joinAll, joined}
+use Rattle.rules.specs.Partial.{noPlaces}
+use Rattle.rules.specs.Member.{offerAll, anyFilled, fillOffers, memberOf}
 use Rattle.one_point.specs.Internal.Writes.{Wrote, leftWords, isGone}
 use Rattle.one_point.specs.Internal.Parts.{readAll, Beside, partsAt}
 use Rattle.one_point.specs.Internal.Member.{Shares, shares, keepPart, spotAt, share, equalities, MarkedAt, Shared, Sharing, SetIn, BodyTold, lifted, filledBody, shallow, Shaped, well-formed, conjunction, leftParts}

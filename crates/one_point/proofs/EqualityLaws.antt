@@ -8,9 +8,9 @@ use native.Mathlib.Omega.{arith}
 use lib.ListN.{length, take, length-append, length-take}
 use lib.Seq.{length-take-le, take-take, take-append-le}
 use Rattle.tree.specs.Form.{Form, leaf, node, Forms, none, more, pick, count, encode, encodeAll}
-use Rattle.one_point.specs.Replacement.{Taken, taken, nothing, accept}
-use Rattle.one_point.specs.Split.{isPair, parts, partsAll, equal}
-use Rattle.one_point.specs.Scan.{Scans, scans, joined, present, copied, offerPart, offerParts, with, scan}
+use Rattle.rules.specs.Replacement.{Taken, taken, nothing, accept}
+use Rattle.rules.specs.Split.{isPair, parts, partsAll, equal}
+use Rattle.rules.specs.Scan.{Scans, scans, joined, present, copied, offerPart, offerParts, with, scan}
 use Rattle.one_point.specs.Internal.Writes.{Wrote, leftWords, isGone, Neat, neat-other, Neats, no-more, and-more}
 use Rattle.one_point.specs.Internal.Parts.{PartsTold}
 use Rattle.one_point.specs.Internal.Scans.{NeatLeft, Left, Became}

@@ -13,14 +13,14 @@ use Rattle.tree.specs.Tag.{expr, pred}
 use Rattle.form.specs.Decode.{got, decode}
 use Rattle.form.specs.Lists.{Place, kept, filled}
 use Rattle.form.specs.Answer.{finish}
-use Rattle.form.specs.Internal.Reads.{mark}
-use Rattle.form.specs.declared.lists.Table.{Table}
+use Rattle.reader.specs.Internal.Reads.{mark}
+use Rattle.reader.specs.declared.lists.Table.{Table}
 use Rattle.form.proofs.DecodeLaws.{Ok, decode-encode, decode-sound}
-use Rattle.subst.specs.Walk.{walk, put, subst, each}
-use Rattle.subst.specs.Internal.Items.{items, rewritten}
-use Rattle.subst.proofs.LimitLaws.{ok-small}
-use Rattle.subst.proofs.RowLaws.{itemsOf, marksOf, items-encode, marked-items}
-use Rattle.replace.specs.Fill.{quantify, keptNames, fillFor, fill}
+use Rattle.rules.specs.Walk.{walk, put, subst, each}
+use Rattle.shift.specs.Internal.Items.{items, rewritten}
+use Rattle.rules.proofs.LimitLaws.{ok-small}
+use Rattle.shift.proofs.RowLaws.{itemsOf, marksOf, items-encode, marked-items}
+use Rattle.rules.specs.Fill.{quantify, keptNames, fillFor, fill}
 use Rattle.replace.specs.Internal.Pieces.{planned, keptWords, headWords, replaced, InRow, Ready, downPlan, placedRow}
 use Rattle.replace.proofs.EntryLaws.{PlaceAt}
 use Rattle.replace.proofs.BuildLaws.{emit-form}
@@ -29,8 +29,8 @@ use Rattle.replace.proofs.NameLaws.{kept-names, encode-quantify}
 use Rattle.replace.proofs.QuantLaws.{Quant, quant-items-in}
 use Rattle.replace.proofs.ReadyLaws.{ready-is}
 use Rattle.replace.proofs.OkLaws.{ok-deep}
-use Rattle.one_point.specs.Partial.{front, putRound, instantiatePartial}
-use Rattle.one_point.specs.Member.{anyFilled}
+use Rattle.rules.specs.Partial.{front, putRound, instantiatePartial}
+use Rattle.rules.specs.Member.{anyFilled}
 use Rattle.one_point.specs.Internal.Rest.{innerEnd, innerNames}
 use Rattle.one_point.specs.Internal.Reduce.{Inner}
 use Rattle.one_point.specs.Internal.Member.{PlaceIs, TableIs, lifted, filledBody, shallow, Shaped, well-formed, conjunction, Filling, zerosBefore, keptRow}

@@ -11,7 +11,7 @@ use lib.ListN.{length, getD, take, drop, set, length-take, length-drop}
 use lib.Seq.{take-suc-set, length-take-le}
 use Rattle.form.proofs.DecodeLaws.{clash}
 use Rattle.form.proofs.HeadLaws.{here, gone}
-use Rattle.form.specs.declared.lists.Table.{Table}
+use Rattle.reader.specs.declared.lists.Table.{Table}
 use Rattle.replace.specs.Internal.Pieces.{keptWords, headWords, placedRow}
 use Rattle.replace.proofs.BuildLaws.{rest-part}
 use Rattle.one_point.specs.Internal.Rest.{innerEnd}

@@ -9,8 +9,8 @@ use lib.ListN.{length, take, set, length-set}
 use lib.Seq.{take-set-le}
 use Rattle.tree.specs.Form.{Form, encode}
 use Rattle.form.proofs.DecodeLaws.{clash}
-use Rattle.one_point.specs.Replacement.{Taken, taken, nothing}
-use Rattle.one_point.specs.Scan.{scanned, negate, implies, scan}
+use Rattle.rules.specs.Replacement.{Taken, taken, nothing}
+use Rattle.rules.specs.Scan.{scanned, negate, implies, scan}
 use Rattle.one_point.specs.Internal.Writes.{Wrote, leftWords, Neat, neat-other}
 use Rattle.one_point.specs.Internal.Scans.{Left, Became, nextScan}
 use Rattle.one_point.specs.declared.scan.Scanned.{Scanned}

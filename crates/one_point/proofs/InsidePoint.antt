@@ -12,23 +12,23 @@ use Rattle.tree.specs.Tag.{expr, pred}
 use Rattle.form.specs.Decode.{rowForm}
 use Rattle.form.specs.Answer.{isOne, finish}
 use Rattle.form.specs.Lists.{Place, kept, filled}
-use Rattle.form.specs.declared.lists.Table.{Table}
+use Rattle.reader.specs.declared.lists.Table.{Table}
 use Rattle.form.proofs.DecodeLaws.{Ok}
 use Rattle.form.proofs.RowLaws.{row-encode}
-use Rattle.subst.specs.Walk.{walk, put, subst}
-use Rattle.subst.specs.Internal.Items.{items}
-use Rattle.subst.proofs.WalkLaws.{and-left, and-right}
-use Rattle.subst.proofs.RowLaws.{itemsOf, marksOf}
-use Rattle.replace.specs.Fill.{quantified, quantify, keptNames, fillFor, fill}
+use Rattle.rules.specs.Walk.{walk, put, subst}
+use Rattle.shift.specs.Internal.Items.{items}
+use Rattle.rules.proofs.WalkLaws.{and-left, and-right}
+use Rattle.shift.proofs.RowLaws.{itemsOf, marksOf}
+use Rattle.rules.specs.Fill.{quantified, quantify, keptNames, fillFor, fill}
 use Rattle.replace.specs.Internal.Pieces.{part, headWords, areNames}
 use Rattle.replace.proofs.BuildLaws.{emit-sure}
 use Rattle.replace.proofs.OkLaws.{ok-deep}
 use Rattle.replace.proofs.QuantLaws.{Quant, quant-tag}
 use Rattle.replace.proofs.PruneTree.{names-kept, node-names, quantify-ok}
 use Rattle.replace.proofs.InsideLaws.{Small, SmallPlaces, small-append, quant-body, names-take, names-drop, partial-body}
-use Rattle.one_point.specs.Partial.{noPlaces, setPlace, front, lowerPlace, joinWith, putRound, instantiatePartial}
+use Rattle.rules.specs.Partial.{noPlaces, setPlace, front, lowerPlace, joinWith, putRound, instantiatePartial}
 use Rattle.one_point.specs.Internal.Rest.{joins, innerNames, partialHead, partialRow}
-use Rattle.one_point.specs.Replacement.{above}
+use Rattle.rules.specs.Replacement.{above}
 use Rattle.one_point.proofs.PartialLaws.{lower-places, join-same, Heads, ok-heads, inner-are, filled-quant, same-tag, places-are, front-is, from-front, point-stays, point-words}
 
 names-join : (a b : List ℕ) → areNames a ≡ true → areNames b ≡ true → areNames (a ++ b) ≡ true

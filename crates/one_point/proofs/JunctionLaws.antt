@@ -8,8 +8,8 @@ use native.Mathlib.Omega.{arith}
 use lib.ListN.{length}
 use Rattle.tree.specs.Form.{Form, Forms, none, more, count, encode, encodeAll}
 use Rattle.form.proofs.DecodeLaws.{clash}
-use Rattle.one_point.specs.Replacement.{Taken, taken, nothing}
-use Rattle.one_point.specs.Scan.{scanned, Scans, scans, present, copies, before, follow, scan, scanAll}
+use Rattle.rules.specs.Replacement.{Taken, taken, nothing}
+use Rattle.rules.specs.Scan.{scanned, Scans, scans, present, copies, before, follow, scan, scanAll}
 use Rattle.one_point.specs.Internal.Writes.{Wrote, Neats, no-more, and-more}
 use Rattle.one_point.specs.Internal.Parts.{isTaken, TookIs}
 use Rattle.one_point.specs.Internal.Scans.{Left, Became, kidsAt, Kids, oneMore, KidsTold, KidsCopied}

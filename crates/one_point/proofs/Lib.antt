@@ -1,4 +1,3 @@
-pub mod Starred
 pub mod ViewLaws
 pub mod SidesLaws
 pub mod PlacesLaws

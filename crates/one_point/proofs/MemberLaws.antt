@@ -10,26 +10,26 @@ use Rattle.tree.specs.Form.{Form, node, none, more, encode}
 use Rattle.tree.specs.Tag.{Sort, expr, pred}
 use Rattle.form.specs.Decode.{got, decode, formOf}
 use Rattle.form.specs.Answer.{Outcome, refusal, told, finish, checkOutcome}
-use Rattle.form.specs.Internal.Reads.{mark, Marked}
+use Rattle.reader.specs.Internal.Reads.{mark, Marked}
 use Rattle.form.specs.declared.answer.Kind.the-variants.{Predicate}
 use Rattle.form.specs.declared.answer.Answer.{Answer}
 use Rattle.form.specs.declared.answer.Answer.the-variants.{No}
-use Rattle.form.specs.declared.lists.Table.{Table}
+use Rattle.reader.specs.declared.lists.Table.{Table}
 use Rattle.form.proofs.DecodeLaws.{Ok, decode-encode, decode-sound}
-use Rattle.subst.proofs.CheckedLaws.{is-missing, too-long, no-form-there, form-there}
-use Rattle.subst.proofs.RowLaws.{marksOf}
+use Rattle.shift.proofs.CheckedLaws.{is-missing, too-long, no-form-there, form-there}
+use Rattle.shift.proofs.RowLaws.{marksOf}
 use Rattle.replace.proofs.MarkLaws.{only-mark}
 use Rattle.replace.proofs.OkLaws.{ok-deep}
-use Rattle.one_point.specs.Split.{parts}
-use Rattle.one_point.specs.Partial.{noPlaces}
-use Rattle.one_point.specs.Point.{ofResult}
-use Rattle.one_point.specs.Member.{memberOf, membership, memberOutcome}
+use Rattle.rules.specs.Split.{parts}
+use Rattle.rules.specs.Partial.{noPlaces}
+use Rattle.rules.specs.Point.{ofResult}
+use Rattle.rules.specs.Member.{memberOf, membership, memberOutcome}
 use Rattle.one_point.specs.Internal.Writes.{Wrote}
 use Rattle.one_point.specs.Internal.Reduce.{Cleared}
 use Rattle.one_point.specs.Internal.Member.{Shares, shares, share, equalities, formMarks, MarksAre, MarkedAt, SetIn, SetTold, BodyTold, Membering, filledBody, Filling, leftParts, unshifted, Unshifted}
 use Rattle.one_point.specs.declared.member.Comprehension.{Comprehension}
 use Rattle.one_point.specs.declared.member.Membership.{Membership}
-use Rattle.one_point.specs.Scan.{joinAll}
+use Rattle.rules.specs.Scan.{joinAll}
 use Rattle.one_point.specs.declared.member.Membership.the-variants.{In, Not}
 use Rattle.one_point.proofs.EqualityLaws.{wrote-in}
 use Rattle.one_point.proofs.ScanLimits.{OkParts, parts-ok}

@@ -12,16 +12,16 @@ use lib.Dec.{ltb, eqb}
 use lib.ListN.{length, getD, take, drop, set, replicate, List·getD-map}
 use Rattle.tree.specs.Form.{free, bound, Form, leaf, node, Forms, none, more, pick}
 use Rattle.form.specs.Lists.{Place, kept, filled}
-use Rattle.subst.specs.Walk.{Outer, named, dangling, walk, walkAll, up, lift, put, subst, collect, each}
-use Rattle.subst.specs.Shift.{reaches, fall, lower}
-use Rattle.subst.proofs.WalkLaws.{binding-add, fuse-level, shift-shift, self, always, each-always, each-all, walk-agree}
-use Rattle.subst.proofs.TreeLaws.{walk-self, each-walk}
-use Rattle.replace.specs.Fill.{keptCount, keptNames, fillIndex, fillFor}
+use Rattle.rules.specs.Walk.{Outer, named, dangling, walk, walkAll, up, lift, put, subst, collect, each}
+use Rattle.rules.specs.Shift.{reaches, fall, lower}
+use Rattle.rules.proofs.WalkLaws.{binding-add, fuse-level, shift-shift, self, always, each-always, each-all, walk-agree}
+use Rattle.rules.proofs.TreeLaws.{walk-self, each-walk}
+use Rattle.rules.specs.Fill.{keptCount, keptNames, fillIndex, fillFor}
 use Rattle.replace.proofs.FillTree.{kept-reverse}
-use Rattle.one_point.specs.Replacement.{Taken, taken, nothing, indexOf, above, accept}
-use Rattle.one_point.specs.Split.{isTwo, isPair, parts, partsAll, equal}
-use Rattle.one_point.specs.Partial.{front, lowerPlace}
-use Rattle.one_point.specs.Member.{Offers, offers, isFree, leave, offerNext, offerAll}
+use Rattle.rules.specs.Replacement.{Taken, taken, nothing, indexOf, above, accept}
+use Rattle.rules.specs.Split.{isTwo, isPair, parts, partsAll, equal}
+use Rattle.rules.specs.Partial.{front, lowerPlace}
+use Rattle.rules.specs.Member.{Offers, offers, isFree, leave, offerNext, offerAll}
 use Rattle.one_point.specs.Internal.Member.{Shares, shares, keepPart, spotAt, shareNext, share, equalities, lifted}
 use Rattle.one_point.proofs.PlacesLaws.{place-from}
 

@@ -14,9 +14,9 @@ use Rattle.tree.specs.Tag.{pred, sorts, ask, kids as kidsOwn, own, ownOf, shape
 use Rattle.form.specs.Decode.{head, only, read, got, gots, decode, decodeAll}
 use Rattle.tree.specs.declared.tag.Shape.the-variants.{Preds}
 use Rattle.form.proofs.DecodeLaws.{clash, Ok, ok-node, OkAll, decodeAll-encode, all-sound}
-use Rattle.one_point.specs.Replacement.{Taken, taken, nothing}
-use Rattle.one_point.specs.Scan as S
-use Rattle.one_point.specs.Scan.{Scan, scanned, Scans, scans, joined, present, Role, roleOf, with, scan, scanAll}
+use Rattle.rules.specs.Replacement.{Taken, taken, nothing}
+use Rattle.rules.specs.Scan as S
+use Rattle.rules.specs.Scan.{Scan, scanned, Scans, scans, joined, present, Role, roleOf, with, scan, scanAll}
 use Rattle.one_point.specs.Internal.Writes.{Wrote, leftWords, isGone}
 use Rattle.one_point.specs.Internal.Parts.{isTaken, TookIs}
 use Rattle.one_point.specs.Internal.Scans.{Left, Became, nextScan, kidsAt, Kids, KidsTold}

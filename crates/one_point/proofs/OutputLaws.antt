@@ -16,7 +16,7 @@ use Rattle.form.specs.declared.answer.Answer.the-variants.{Done}
 use Rattle.form.proofs.DecodeLaws.{clash, Ok, decode-encode}
 use Rattle.form.proofs.RowLaws.{row-one, found-row}
 use Rattle.replace.proofs.FillLaws.{pred-sort}
-use Rattle.one_point.specs.Point.{onePoint, ofResult, pointOutcome}
+use Rattle.rules.specs.Point.{onePoint, ofResult, pointOutcome}
 use Rattle.one_point.proofs.ShapeLaws.{Shaped, shaped-decode, point-shaped}
 
 -- a row that decodes at all decodes to the form that it was written from

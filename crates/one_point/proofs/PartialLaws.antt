@@ -12,23 +12,23 @@ use lib.Seq.{drop-at, take-at}
 use Rattle.tree.specs.Form.{Form, node, Forms, none, more, pick, encode}
 use Rattle.tree.specs.Tag.{expr, pred}
 use Rattle.form.specs.Lists.{Place, kept, filled}
-use Rattle.form.specs.Internal.Reads.{mark}
-use Rattle.form.specs.declared.lists.Table.{Table}
+use Rattle.reader.specs.Internal.Reads.{mark}
+use Rattle.reader.specs.declared.lists.Table.{Table}
 use Rattle.form.proofs.DecodeLaws.{Ok, ok-node}
-use Rattle.subst.specs.Walk.{walk, walkAll, put, subst}
-use Rattle.subst.specs.Shift.{lower}
-use Rattle.subst.specs.Internal.Items.{items, rewritten}
-use Rattle.subst.proofs.LimitLaws.{ok-small}
-use Rattle.subst.proofs.RowLaws.{itemsOf, zeros, marksOf, items-encode, marks-length, mark-zeros, zeros-replicate}
-use Rattle.replace.specs.Fill.{quantifier, other, quantified, quantify, keptNames, fillFor, fill}
+use Rattle.rules.specs.Walk.{walk, walkAll, put, subst}
+use Rattle.rules.specs.Shift.{lower}
+use Rattle.shift.specs.Internal.Items.{items, rewritten}
+use Rattle.rules.proofs.LimitLaws.{ok-small}
+use Rattle.shift.proofs.RowLaws.{itemsOf, zeros, marksOf, items-encode, marks-length, mark-zeros, zeros-replicate}
+use Rattle.rules.specs.Fill.{quantifier, other, quantified, quantify, keptNames, fillFor, fill}
 use Rattle.replace.specs.Internal.Pieces.{part, planned, headWords}
 use Rattle.replace.proofs.EntryLaws.{PlaceAt}
 use Rattle.replace.proofs.FillTree.{wordFor, lowPlace, low-words, Above, fill-tree-lower}
 use Rattle.replace.proofs.NameLaws.{kept-names, encode-quantify}
 use Rattle.replace.proofs.QuantLaws.{Quant, quant-by-tag, quant-tag, quant-names, quant-items-in}
 use Rattle.replace.proofs.OkLaws.{ok-deep}
-use Rattle.one_point.specs.Replacement.{above}
-use Rattle.one_point.specs.Partial.{noPlaces, setPlace, front, lowerPlace, joinWith, putRound, instantiatePartial}
+use Rattle.rules.specs.Replacement.{above}
+use Rattle.rules.specs.Partial.{noPlaces, setPlace, front, lowerPlace, joinWith, putRound, instantiatePartial}
 use Rattle.one_point.specs.Internal.Rest.{restPlan, restKept, joins, innerEnd, innerNames, partialWords}
 use Rattle.one_point.proofs.SidesLaws.{part-words}
 

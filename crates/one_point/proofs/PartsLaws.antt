@@ -14,10 +14,10 @@ use Rattle.tree.specs.Form.{free, bound, Form, leaf, node, Forms, none, more, e
 use Rattle.tree.specs.Tag.{Sort, expr, shapeOf, exprTags}
 use Rattle.form.specs.Decode.{got, Gots, gots, decode}
 use Rattle.form.proofs.DecodeLaws.{clash, Ok, ok-free, ok-bound, ok-node, OkAll, ok-none, ok-more, decode-encode, decodeAll-encode, all-sound}
-use Rattle.subst.proofs.RowLaws.{marksOf, marks-length}
+use Rattle.shift.proofs.RowLaws.{marksOf, marks-length}
 use Rattle.replace.proofs.MarkLaws.{only-mark}
 use Rattle.replace.proofs.OkLaws.{ok-deep}
-use Rattle.one_point.specs.Split.{isTwo, isNil, parts, partsAll}
+use Rattle.rules.specs.Split.{isTwo, isNil, parts, partsAll}
 use Rattle.one_point.specs.Internal.Parts.{readAll, Beside, partsOf, partsAt, bothPairs}
 use Rattle.one_point.specs.Internal.Member.{formMarks, MarksAre, MarkedAt}
 use Rattle.one_point.proofs.ViewLaws.{plain-node, two-more}

@@ -9,9 +9,9 @@ use lib.ListN.{length, take, drop, length-append}
 use Rattle.tree.specs.Form.{Form, encode, encodeAll}
 use Rattle.form.specs.Decode.{decodeAll}
 use Rattle.form.proofs.DecodeLaws.{clash, decode-encode}
-use Rattle.one_point.specs.Replacement.{Taken, taken, nothing, accept}
-use Rattle.one_point.specs.Split.{parts, equal}
-use Rattle.one_point.specs.Scan.{Scans, scans, present, copied, before, offerPart, offerParts}
+use Rattle.rules.specs.Replacement.{Taken, taken, nothing, accept}
+use Rattle.rules.specs.Split.{parts, equal}
+use Rattle.rules.specs.Scan.{Scans, scans, present, copied, before, offerPart, offerParts}
 use Rattle.one_point.specs.Internal.Sides.{endAt}
 use Rattle.one_point.specs.Internal.Writes.{Wrote}
 use Rattle.one_point.specs.Internal.Parts.{Beside, partsAt, partWords, equalWords, acceptWords, Within, isTaken, TookIs, PartsTold, PartsCopied}

@@ -13,13 +13,13 @@ use Rattle.tree.specs.Form.{Form, encode}
 use Rattle.tree.specs.Tag.{expr, pred}
 use Rattle.form.specs.Decode.{Got, got, decode}
 use Rattle.form.specs.Answer.{finish}
-use Rattle.form.specs.Internal.Reads.{mark, Told, decodeIn}
+use Rattle.reader.specs.Internal.Reads.{mark, Told, decodeIn}
 use Rattle.form.specs.declared.head.Step.{Step}
 use Rattle.form.specs.declared.head.Step.the-variants.{End, Bad}
 use Rattle.form.proofs.DecodeLaws.{clash, Ok, decode-encode, decode-sound}
-use Rattle.form.proofs.ReaderLaws.{told-end}
-use Rattle.subst.specs.Internal.Items.{items}
-use Rattle.subst.proofs.RowLaws.{itemsOf, marksOf}
+use Rattle.reader.proofs.ReaderLaws.{told-end}
+use Rattle.shift.specs.Internal.Items.{items}
+use Rattle.shift.proofs.RowLaws.{itemsOf, marksOf}
 use Rattle.replace.specs.Internal.Pieces.{part as part-of, declaredIn, Leaves}
 use Rattle.replace.proofs.QuantLaws.{Quant, quant-by-tag, quant-long}
 use Rattle.replace.proofs.OkLaws.{ok-deep}

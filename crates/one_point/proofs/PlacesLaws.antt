@@ -16,11 +16,11 @@ use Rattle.form.specs.declared.answer.Kind.the-variants.{Predicate}
 use Rattle.form.specs.declared.answer.Answer.{Answer}
 use Rattle.form.specs.declared.answer.Answer.the-variants.{Done, No}
 use Rattle.form.proofs.DecodeLaws.{clash, Ok, decode-encode}
-use Rattle.subst.proofs.CheckedLaws.{is-missing}
+use Rattle.shift.proofs.CheckedLaws.{is-missing}
 use Rattle.form.proofs.RowLaws.{row-one}
 use Rattle.replace.proofs.OkLaws.{ok-deep}
-use Rattle.one_point.specs.Replacement.{left, right, Offer, offer, no-offer, offered}
-use Rattle.one_point.specs.Split.{equal}
+use Rattle.rules.specs.Replacement.{left, right, Offer, offer, no-offer, offered}
+use Rattle.rules.specs.Split.{equal}
 use Rattle.one_point.specs.Places.{says, offerForm, offerAnswer}
 use Rattle.one_point.specs.Internal.Sides.{endAt, equalityWords, replacementWords, aboveWords, offerPart}
 use Rattle.one_point.specs.declared.sides.Sides.{Sides}

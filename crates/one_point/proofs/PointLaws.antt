@@ -17,15 +17,15 @@ use Rattle.form.specs.declared.answer.Kind.the-variants.{Predicate}
 use Rattle.form.specs.declared.answer.Answer.{Answer}
 use Rattle.form.specs.declared.answer.Answer.the-variants.{No}
 use Rattle.form.proofs.DecodeLaws.{clash, Ok, decode-encode, decode-at}
-use Rattle.subst.proofs.CheckedLaws.{is-missing, too-long, no-form-there, form-there}
-use Rattle.replace.specs.Fill.{quantified, quantifier}
+use Rattle.shift.proofs.CheckedLaws.{is-missing, too-long, no-form-there, form-there}
+use Rattle.rules.specs.Fill.{quantified, quantifier}
 use Rattle.replace.specs.Internal.Pieces.{declaredIn}
 use Rattle.replace.proofs.BuildLaws.{rest-part}
 use Rattle.replace.proofs.QuantLaws.{Quant, is-quant, not-quant, quant-count, quant-tag, quant-names, quant-long}
 use Rattle.replace.proofs.PruneTree.{node-names}
-use Rattle.one_point.specs.Replacement.{Taken, taken, nothing}
-use Rattle.one_point.specs.Scan.{Scan, scanned, scan}
-use Rattle.one_point.specs.Point.{polarity, restOf, reduce, reduceQuantified, onePoint, ofResult, pointOutcome}
+use Rattle.rules.specs.Replacement.{Taken, taken, nothing}
+use Rattle.rules.specs.Scan.{Scan, scanned, scan}
+use Rattle.rules.specs.Point.{polarity, restOf, reduce, reduceQuantified, onePoint, ofResult, pointOutcome}
 use Rattle.one_point.specs.Internal.Writes.{Wrote, leftWords, isGone}
 use Rattle.one_point.specs.Internal.Parts.{TookIs}
 use Rattle.one_point.specs.Internal.Scans.{Left, Became, Room, ScanTold}

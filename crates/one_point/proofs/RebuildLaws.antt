@@ -13,10 +13,10 @@ use Rattle.tree.specs.Form.{Form, node, Forms, none, more, pick, encode}
 use Rattle.tree.specs.Tag.{pred, shapeOf, predTags}
 use Rattle.form.specs.Decode.{got, decode}
 use Rattle.form.proofs.DecodeLaws.{Ok, ok-node, decode-encode}
-use Rattle.one_point.specs.Replacement.{Taken, taken, nothing}
-use Rattle.one_point.specs.Split.{isNil}
-use Rattle.one_point.specs.Scan as S
-use Rattle.one_point.specs.Scan.{scanned, scans, implies, negate, joined, present, roleOf, role, with, scan, scanAll}
+use Rattle.rules.specs.Replacement.{Taken, taken, nothing}
+use Rattle.rules.specs.Split.{isNil}
+use Rattle.rules.specs.Scan as S
+use Rattle.rules.specs.Scan.{scanned, scans, implies, negate, joined, present, roleOf, role, with, scan, scanAll}
 use Rattle.one_point.proofs.ViewLaws.{plain-node, two-more}
 use Rattle.one_point.proofs.PartsLaws.{tagOf, tag-at}
 use Rattle.one_point.proofs.ScanLaws.{one-more, stands-words, stands-ok}

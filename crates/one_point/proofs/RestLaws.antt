@@ -9,9 +9,9 @@ use lib.Dec.{eqb, leb}
 use lib.ListN.{length, getD, take, drop, set, replicate, length-drop, length-take, getD-replicate}
 use lib.Seq.{length-take-le}
 use Rattle.tree.specs.Form.{pick}
-use Rattle.form.specs.declared.lists.Table.{Table}
+use Rattle.reader.specs.declared.lists.Table.{Table}
 use Rattle.form.proofs.HeadLaws.{here}
-use Rattle.subst.proofs.WalkLaws.{and-right}
+use Rattle.rules.proofs.WalkLaws.{and-right}
 use Rattle.replace.specs.Internal.Pieces.{keptWords, headWords, InRow, Ready, replaced, downPlan, placedRow}
 use Rattle.replace.proofs.BuildLaws.{rest-part}
 use Rattle.replace.proofs.NameLaws.{head-none}
@@ -19,7 +19,7 @@ use Rattle.replace.proofs.ReadyLaws.{ready-is}
 use Rattle.one_point.specs.Internal.Writes.{Wrote}
 use Rattle.one_point.specs.Internal.Rest.{restKept, joins, innerEnd, innerNames, partialWords, partialRow}
 use Rattle.one_point.specs.Internal.Reduce.{Inner, innerStart, oneTable}
-use Rattle.one_point.specs.Split.{isNil}
+use Rattle.rules.specs.Split.{isNil}
 use Rattle.one_point.proofs.WriteLaws.{headed, wrote-end, wrote-on}
 use Rattle.one_point.proofs.EqualityLaws.{wrote-self}
 use Rattle.one_point.proofs.PartialLaws.{first-filled}

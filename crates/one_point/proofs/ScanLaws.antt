@@ -16,9 +16,9 @@ use Rattle.form.specs.declared.head.Step.{Step}
 use Rattle.form.specs.declared.head.Step.the-variants.{End, Bad}
 use Rattle.form.proofs.DecodeLaws.{clash, Ok, ok-node, OkAll, ok-none, ok-more, decode-encode, decodeAll-encode, decode-sound}
 use Rattle.replace.proofs.OkLaws.{ok-deep}
-use Rattle.one_point.specs.Replacement.{nothing}
-use Rattle.one_point.specs.Split.{parts, equal}
-use Rattle.one_point.specs.Scan.{scanned}
+use Rattle.rules.specs.Replacement.{nothing}
+use Rattle.rules.specs.Split.{parts, equal}
+use Rattle.rules.specs.Scan.{scanned}
 use Rattle.one_point.specs.Internal.Sides.{endAt}
 use Rattle.one_point.specs.Internal.Writes.{Wrote, Neat, neat-not, neat-other}
 use Rattle.one_point.specs.Internal.Parts.{readAll, Beside, partsAt, partWords, TookIs}

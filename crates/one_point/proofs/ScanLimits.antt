@@ -15,13 +15,13 @@ use Rattle.form.specs.Decode.{head, read, isLeaf}
 use Rattle.tree.specs.declared.tag.Shape.the-variants.{Preds}
 use Rattle.form.proofs.DecodeLaws.{clash, Ok, ok-node, OkAll, ok-none, ok-more}
 use Rattle.form.proofs.HeadLaws.{between-in}
-use Rattle.subst.proofs.WalkLaws.{and-left, and-right}
+use Rattle.rules.proofs.WalkLaws.{and-left, and-right}
 use Rattle.replace.proofs.OkLaws.{ok-deep}
-use Rattle.one_point.specs.Replacement.{left, right, Offer, offer, no-offer, offered, Taken, taken, nothing, above, allowed, ofOffer, accept}
-use Rattle.one_point.specs.Split.{ofTwo, isTwo, isNil, isPair, parts, partsAll, equal}
-use Rattle.one_point.specs.Scan as S
-use Rattle.one_point.specs.Scan.{Scan, scanned, Scans, scans, negate, present, joined, implies, Role, roleOf, suits, role, firstPolarity, copied, offerPart, offerParts, copies, follow, with, rebuild, scan, scanAll}
-use Rattle.one_point.specs.Point.{restOf}
+use Rattle.rules.specs.Replacement.{left, right, Offer, offer, no-offer, offered, Taken, taken, nothing, above, allowed, ofOffer, accept}
+use Rattle.rules.specs.Split.{ofTwo, isTwo, isNil, isPair, parts, partsAll, equal}
+use Rattle.rules.specs.Scan as S
+use Rattle.rules.specs.Scan.{Scan, scanned, Scans, scans, negate, present, joined, implies, Role, roleOf, suits, role, firstPolarity, copied, offerPart, offerParts, copies, follow, with, rebuild, scan, scanAll}
+use Rattle.rules.specs.Point.{restOf}
 use Rattle.one_point.proofs.ViewLaws.{plain-node, two-more}
 use Rattle.one_point.proofs.WriteLaws.{negate-other}
 use Rattle.one_point.proofs.PartsLaws.{some-words}

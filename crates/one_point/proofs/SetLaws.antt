@@ -15,10 +15,10 @@ use Rattle.form.specs.Decode.{head, bad, addWord, only, names, read, got, decod
 use Rattle.form.specs.declared.head.Step.{Step}
 use Rattle.form.specs.declared.head.Step.the-variants.{End, Bad}
 use Rattle.form.proofs.DecodeLaws.{clash, Ok, ok-free, ok-bound, ok-node, OkAll, decode-encode, decode-sound}
-use Rattle.subst.proofs.WalkLaws.{and-left, and-right}
+use Rattle.rules.proofs.WalkLaws.{and-left, and-right}
 use Rattle.replace.proofs.OkLaws.{ok-deep}
 use Rattle.replace.proofs.QuantLaws.{only-word, names-count}
-use Rattle.one_point.specs.Member.{memberOf, inSet, membership}
+use Rattle.rules.specs.Member.{memberOf, inSet, membership}
 use Rattle.one_point.specs.Internal.Sides.{endAt}
 use Rattle.one_point.specs.Internal.Parts.{partWords}
 use Rattle.one_point.specs.Internal.Member.{SetIn}

@@ -14,15 +14,15 @@ use Rattle.tree.specs.Tag.{Sort, expr, pred, own, sorts}
 use Rattle.form.specs.Decode.{Head, head, bad, only, read, Got, got, no-form, Gots, gots, no-forms, isLeaf, close, chain, addForm, branch, decode, decodeAll}
 use Rattle.form.specs.Lists.{Place, kept, filled}
 use Rattle.form.proofs.DecodeLaws.{clash, Ok, ok-free, ok-bound, ok-node, OkAll, ok-none, ok-more, read-exact, read-free, read-bound}
-use Rattle.subst.specs.Walk.{Binding, inside, outside, binding, Outer, named, dangling, walkIndex, walkLeaf, walk, walkAll, up, lift, put, subst}
-use Rattle.subst.specs.Shift.{fall, lower}
-use Rattle.replace.specs.Fill.{Quantified, quantifier, other, quantified, quantify, keptCount, keptNames, fillIndex, fillFor, fill}
+use Rattle.rules.specs.Walk.{Binding, inside, outside, binding, Outer, named, dangling, walkIndex, walkLeaf, walk, walkAll, up, lift, put, subst}
+use Rattle.rules.specs.Shift.{fall, lower}
+use Rattle.rules.specs.Fill.{Quantified, quantifier, other, quantified, quantify, keptCount, keptNames, fillIndex, fillFor, fill}
 use Rattle.replace.specs.Internal.Pieces.{declaredIn}
 use Rattle.replace.proofs.QuantLaws.{Heading, tag-heading, Quant, is-quant, not-quant, quant-names}
-use Rattle.one_point.specs.Replacement.{taken, nothing}
-use Rattle.one_point.specs.Scan.{Scan, scanned, scan}
-use Rattle.one_point.specs.Partial.{noPlaces, setPlace, front, lowerPlace, joinWith, putRound, instantiatePartial}
-use Rattle.one_point.specs.Point.{polarity, restOf, reduce, reduceQuantified, onePoint}
+use Rattle.rules.specs.Replacement.{taken, nothing}
+use Rattle.rules.specs.Scan.{Scan, scanned, scan}
+use Rattle.rules.specs.Partial.{noPlaces, setPlace, front, lowerPlace, joinWith, putRound, instantiatePartial}
+use Rattle.rules.specs.Point.{polarity, restOf, reduce, reduceQuantified, onePoint}
 use Rattle.one_point.proofs.ScanLimits.{OkScan, rest-ok, scan-ok}
 
 -- if the head of a node is read at all, it is read as it stands

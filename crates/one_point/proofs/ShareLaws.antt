@@ -12,20 +12,20 @@ use lib.Seq.{getD-set-same, getD-set-other, length-take-le, take-append-seam}
 use Rattle.tree.specs.Form.{Form, pick, count, encode, encodeAll}
 use Rattle.tree.specs.Tag.{expr}
 use Rattle.form.specs.Lists.{Place, kept, filled}
-use Rattle.form.specs.declared.lists.Table.{Table}
+use Rattle.reader.specs.declared.lists.Table.{Table}
 use Rattle.form.proofs.DecodeLaws.{Ok, decode-encode}
-use Rattle.subst.specs.Walk.{lift}
-use Rattle.subst.specs.Internal.Items.{items, rewritten, movedWords, store}
-use Rattle.subst.proofs.LimitLaws.{ok-small}
-use Rattle.subst.proofs.RowLaws.{marked-items}
-use Rattle.subst.proofs.ItemLaws.{store-front, rewritten-length}
-use Rattle.subst.proofs.ShiftLaws.{keeps}
+use Rattle.rules.specs.Walk.{lift}
+use Rattle.shift.specs.Internal.Items.{items, rewritten, movedWords, store}
+use Rattle.rules.proofs.LimitLaws.{ok-small}
+use Rattle.shift.proofs.RowLaws.{marked-items}
+use Rattle.shift.proofs.ItemLaws.{store-front, rewritten-length}
+use Rattle.shift.proofs.ShiftLaws.{keeps}
 use Rattle.replace.specs.Internal.Pieces.{part}
 use Rattle.replace.proofs.ActionLaws.{moved-words, moved-lift}
-use Rattle.one_point.specs.Replacement.{indexOf}
-use Rattle.one_point.specs.Split.{equal}
-use Rattle.one_point.specs.Partial.{noPlaces}
-use Rattle.one_point.specs.Member.{isFree}
+use Rattle.rules.specs.Replacement.{indexOf}
+use Rattle.rules.specs.Split.{equal}
+use Rattle.rules.specs.Partial.{noPlaces}
+use Rattle.rules.specs.Member.{isFree}
 use Rattle.one_point.specs.Internal.Sides.{indexWords}
 use Rattle.one_point.specs.Internal.Writes.{Wrote}
 use Rattle.one_point.specs.Internal.Parts.{partsAt, partWords, Within}

@@ -13,20 +13,20 @@ use lib.Seq.{take-append-seam}
 use Rattle.tree.specs.Form.{Form, pick, encode, encodeAll}
 use Rattle.tree.specs.Tag.{Sort, expr}
 use Rattle.form.specs.Decode.{Got, got, no-form, isLeaf, decode, Whole, one, not-one, rowForm, found, missing, asSort, formOf}
-use Rattle.form.specs.Internal.Reads.{mark, Told, decodeIn}
+use Rattle.reader.specs.Internal.Reads.{mark, Told, decodeIn}
 use Rattle.form.specs.declared.head.Step.{Step}
 use Rattle.form.specs.declared.answer.Kind.the-variants.{Expression}
 use Rattle.form.proofs.DecodeLaws.{clash, Ok, ok-free, ok-bound, ok-node}
 use Rattle.form.proofs.RowLaws.{row-encode}
-use Rattle.form.proofs.ReaderLaws.{in-decode}
-use Rattle.subst.specs.Shift.{reaches}
-use Rattle.subst.specs.Internal.Items.{items, allItems, itemIn}
-use Rattle.subst.proofs.RowLaws.{marked-items, each-items}
-use Rattle.subst.proofs.WalkLaws.{each-agree}
-use Rattle.subst.proofs.LimitLaws.{small, ok-small}
-use Rattle.subst.proofs.ShiftLaws.{inRange, range-leaf, range-word, down-range}
-use Rattle.subst.proofs.CheckedLaws.{Checked}
-use Rattle.one_point.specs.Replacement.{left, right, Offer, offer, no-offer, indexOf, offerOf, offered, above}
+use Rattle.reader.proofs.ReaderLaws.{in-decode}
+use Rattle.rules.specs.Shift.{reaches}
+use Rattle.shift.specs.Internal.Items.{items, allItems, itemIn}
+use Rattle.shift.proofs.RowLaws.{marked-items, each-items}
+use Rattle.rules.proofs.WalkLaws.{each-agree}
+use Rattle.rules.proofs.LimitLaws.{small, ok-small}
+use Rattle.shift.proofs.ShiftLaws.{inRange, range-leaf, range-word, down-range}
+use Rattle.shift.proofs.CheckedLaws.{Checked}
+use Rattle.rules.specs.Replacement.{left, right, Offer, offer, no-offer, indexOf, offerOf, offered, above}
 use Rattle.one_point.specs.Internal.Sides.{endAt, sidesFrom, equalityWords, indexWords, replaceBy, replacementWords, aboveWhole, aboveWords}
 use Rattle.one_point.specs.declared.sides.Sides.{Sides}
 use Rattle.one_point.specs.declared.sides.Index.{Index}

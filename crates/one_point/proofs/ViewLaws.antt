@@ -7,7 +7,7 @@ use Rattle.tree.specs.Tag.{Sort, expr, pred, own, ownOf, shapeOf, predTags, sor
 use Rattle.form.specs.Decode.{head, read}
 use Rattle.tree.specs.declared.tag.Shape.the-variants.{Plain}
 use Rattle.form.proofs.DecodeLaws.{Ok, ok-node, OkAll, ok-none, ok-more}
-use Rattle.one_point.specs.Split.{equal}
+use Rattle.rules.specs.Split.{equal}
 
 -- a tag with no own words
 pub plain-node : {d : ℕ} {s : Sort} {t : ℕ} {o ds : List ℕ} {ks : Forms} → Ok (suc d) s (node t o ds ks) → (p e : ℕ) → shapeOf s t ≡ Plain p e

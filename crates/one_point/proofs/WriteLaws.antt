@@ -11,7 +11,7 @@ use lib.ListN.{length, getD, take, drop, set, length-append}
 use lib.Seq.{take-suc, take-suc-set, take-set-lt, drop-set-lt, drop-drop, take-add, getD-at, getD-drop, getD-take, set-at, length-take-le}
 use Rattle.tree.specs.Form.{Form, node, Forms, none, more, count, encode, encodeAll}
 use Rattle.form.proofs.HeadLaws.{here}
-use Rattle.one_point.specs.Scan.{negate, joined}
+use Rattle.rules.specs.Scan.{negate, joined}
 use Rattle.one_point.specs.Internal.Writes.{Wrote, leftWords, isGone, Neat, neat-not, neat-other}
 
 -- a loop that writes the words s from pos on

@@ -6,8 +6,8 @@ use lib.ListN.{length, getD, set, replicate}
 use Rattle.tree.specs.Form.{Form, leaf, node, pick, encode}
 use Rattle.form.specs.Decode.{Found, found, missing, formOf}
 use Rattle.form.specs.declared.answer.Kind.the-variants.{Predicate}
-use Rattle.one_point.specs.Replacement.{Side, left, right, sideOf, Offer, offer, no-offer, offered, above}
-use Rattle.one_point.specs.Split.{ofTwo}
+use Rattle.rules.specs.Replacement.{Side, left, right, sideOf, Offer, offer, no-offer, offered, above}
+use Rattle.rules.specs.Split.{ofTwo}
 use Rattle.one_point.specs.declared.replacements.Replacements.{Replacements}
 use Rattle.one_point.specs.declared.replacements.Offered.{Offered}
 

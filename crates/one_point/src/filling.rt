@@ -3,7 +3,7 @@ use crate::rest::inner_end;
 use crate::rest::inner_start;
 use crate::rest::write_head;
 use form::answer::Answer;
-use form::lists::Table;
+use reader::lists::Table;
 use replace::places::fill_places;
 use tree::tag::Tag;
 ghost use mathlib.Core.Path.{_≡_};

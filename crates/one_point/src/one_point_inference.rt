@@ -7,7 +7,7 @@ use replace::fill::declared;
 ghost use mathlib.Core.Path.{_≡_};
 ghost use lib.ListN.{length};
 ghost use Rattle.form.specs.Answer.{told, written};
-ghost use Rattle.one_point.specs.Point.{pointOutcome};
+ghost use Rattle.rules.specs.Point.{pointOutcome};
 ghost use Rattle.one_point.specs.Internal.Reduce.{quantifierIn};
 
 // The head of a quantified predicate: its tag, and the number of its declarations.
@@ -38,7 +38,7 @@ pub fn one_point_inference(row: &[u32], work: &mut [u32], out: &mut [u32]) -> An
     if Limit::WORDS < row.len() {
         return Answer::No(1);
     }
-    let Answer::Done(k) = form::check::check(row, Kind::Predicate) else {
+    let Answer::Done(k) = reader::check::check(row, Kind::Predicate) else {
         return Answer::No(2);
     };
     let Quantifier::Of(tag, n) = quantifier_of(row) else {

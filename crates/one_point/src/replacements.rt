@@ -93,7 +93,7 @@ impl Replacements {
         if Limit::WORDS < row.len() {
             return self.says(1);
         }
-        let Answer::Done(length) = form::check::check(row, Kind::Predicate) else {
+        let Answer::Done(length) = reader::check::check(row, Kind::Predicate) else {
             return self.says(2);
         };
         let n = self.n;

@@ -1,7 +1,7 @@
 // A rest of declarations of which the first is replaced, filled in a body, and the declarations before it put round it.
 use crate::writes::copy_part;
 use form::answer::Answer;
-use form::lists::Table;
+use reader::lists::Table;
 use replace::places::fill_places;
 ghost use mathlib.Core.Path.{_≡_};
 ghost use mathlib.Core.Bool.{_&&_};

@@ -8,14 +8,14 @@ use form::answer::Answer;
 use form::answer::Kind;
 use form::answer::Limit;
 use form::head::Step;
-use form::reader::pred_at;
+use reader::reader::pred_at;
 ghost use mathlib.Core.Path.{_≡_};
 ghost use Prim.Native.Nat.{_≤_};
 ghost use lib.ListN.{length, take};
 ghost use Rattle.tree.specs.Tag.{pred};
 ghost use Rattle.form.specs.Answer.{told, written, finish};
-ghost use Rattle.subst.specs.Internal.Items.{Fresh};
-ghost use Rattle.one_point.specs.Member.{memberOf, memberOutcome};
+ghost use Rattle.shift.specs.Internal.Items.{Fresh};
+ghost use Rattle.rules.specs.Member.{memberOf, memberOutcome};
 ghost use Rattle.one_point.specs.Internal.Reduce.{Cleared};
 ghost use Rattle.one_point.specs.Internal.Member.{Membering, SetIn, Unshifted};
 
@@ -86,7 +86,7 @@ fn rewrite_marked(row: &[u32], marks: &mut [u32], work: &mut [u32], out: &mut [u
     ensures { λ r. ⌜ r ≡ told (memberOutcome (now (row .entry)) (length (now (work .entry))) (length (now (out .entry)))) ⌝ }
     ensures { λ _. ⌜ now (out .exit) ≡ written (memberOutcome (now (row .entry)) (length (now (work .entry))) (length (now (out .entry)))) (now (out .entry)) ⌝ }
 {
-    let Answer::Done(k) = form::check::mark(row, Kind::Predicate, marks) else {
+    let Answer::Done(k) = reader::check::mark(row, Kind::Predicate, marks) else {
         return Answer::No(2);
     };
     let Membership::In(set) = membership_of(row) else {

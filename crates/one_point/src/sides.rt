@@ -3,14 +3,14 @@ use crate::replacements::Replacements;
 use form::answer::Answer;
 use form::answer::Kind;
 use form::head::Step;
-use form::reader::expr_at;
-use subst::items::all_in;
+use reader::reader::expr_at;
+use shift::items::all_in;
 ghost use mathlib.Core.Path.{_≡_};
 ghost use Prim.Native.Nat.{_<_, _≤_};
 ghost use lib.ListN.{length, drop};
 ghost use Rattle.tree.specs.Tag.{expr};
 ghost use Rattle.form.specs.Decode.{decode};
-ghost use Rattle.subst.specs.Internal.Items.{Fresh};
+ghost use Rattle.shift.specs.Internal.Items.{Fresh};
 ghost use Rattle.one_point.specs.Internal.Sides.{endAt, equalityWords, indexWords, replacementWords, aboveWords};
 
 // The left side stands from `left` to `middle`, the right one from `right` to `end`.
@@ -109,7 +109,7 @@ fn above_marked(part: &[u32], target: u32, marks: &mut [u32]) -> bool
     requires { ⌜ (target < 32) × Fresh (now part) (now marks) ⌝ }
     ensures { λ r. ⌜ r ≡ aboveWords target (now (part .entry)) ⌝ }
 {
-    let Answer::Done(n) = form::check::mark(part, Kind::Expression, marks) else {
+    let Answer::Done(n) = reader::check::mark(part, Kind::Expression, marks) else {
         return false;
     };
     all_in(part, marks, target + 1, 65536)

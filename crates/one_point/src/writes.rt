@@ -4,7 +4,7 @@ ghost use mathlib.Core.Path.{_≡_};
 ghost use Prim.Native.Nat.{_+_, _-_, _<_, _≤_};
 ghost use lib.ListN.{length, take, drop};
 ghost use Rattle.tree.specs.Form.{Form, Forms, count, encode, encodeAll};
-ghost use Rattle.one_point.specs.Scan.{negate, joined};
+ghost use Rattle.rules.specs.Scan.{negate, joined};
 ghost use Rattle.one_point.specs.Internal.Writes.{Wrote, Neat, leftWords, isGone};
 
 // Where what is left of a node ends, and whether nothing is.

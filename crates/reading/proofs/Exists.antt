@@ -12,8 +12,8 @@ use lib.IntN.{ℤ}
 use lib.ListN.{length}
 use Rattle.tree.specs.Form.{Form, leaf, node, none, more, pick}
 use Rattle.form.proofs.DecodeLaws.{clash}
-use Rattle.replace.specs.Fill.{Quantified, quantifier, other, quantified, quantify}
-use Rattle.one_point.specs.Partial.{joinWith, putRound}
+use Rattle.rules.specs.Fill.{Quantified, quantifier, other, quantified, quantify}
+use Rattle.rules.specs.Partial.{joinWith, putRound}
 use Rattle.reading.specs.Reading.{Reading, truth, same, child, valueOf, every, some, Env, cons, over, value}
 use Rattle.reading.specs.Premise.{has, push}
 use Rattle.reading.proofs.Same.{truth-bit, same-equal}

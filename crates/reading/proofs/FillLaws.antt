@@ -10,11 +10,11 @@ use lib.IntN.{ℤ, pos}
 use lib.ListN.{length, replicate, length-replicate}
 use Rattle.tree.specs.Form.{bound, Form, leaf}
 use Rattle.form.specs.Lists.{kept, filled}
-use Rattle.subst.specs.Walk.{Outer, named, dangling, walk, up, lift, put, subst}
-use Rattle.subst.specs.Shift.{reaches, fall, lower}
-use Rattle.replace.specs.Fill.{keptCount, keptNames, fillIndex, fillFor}
-use Rattle.subst.proofs.WalkLaws.{binding-add, self, undo}
-use Rattle.one_point.specs.Replacement.{above}
+use Rattle.rules.specs.Walk.{Outer, named, dangling, walk, up, lift, put, subst}
+use Rattle.rules.specs.Shift.{reaches, fall, lower}
+use Rattle.rules.specs.Fill.{keptCount, keptNames, fillIndex, fillFor}
+use Rattle.rules.proofs.WalkLaws.{binding-add, self, undo}
+use Rattle.rules.specs.Replacement.{above}
 use Rattle.one_point.proofs.MemberTree.{reverse-kept}
 use Rattle.reading.specs.Reading.{Reading, Env, cons, value}
 use Rattle.reading.specs.Premise.{push, readInBody}

@@ -10,9 +10,9 @@ use lib.IntN.{ℤ}
 use lib.ListN.{length, length-append, replicate}
 use Rattle.tree.specs.Form.{Form, node, none, more}
 use Rattle.form.specs.Lists.{kept, filled}
-use Rattle.subst.specs.Walk.{lift, subst}
-use Rattle.replace.specs.Fill.{quantify, fillFor}
-use Rattle.one_point.specs.Partial.{putRound}
+use Rattle.rules.specs.Walk.{lift, subst}
+use Rattle.rules.specs.Fill.{quantify, fillFor}
+use Rattle.rules.specs.Partial.{putRound}
 use Rattle.reading.specs.Reading.{Reading, truth, same, Env, cons, value}
 use Rattle.reading.specs.Premise.{has, push}
 use Rattle.reading.proofs.ValueLaws.{push-add, lift-value}

@@ -7,8 +7,8 @@ use borrow.Author.Tests.{eqb-true}
 use lib.Dec.{eqb}
 use lib.IntN.{ℤ}
 use Rattle.tree.specs.Form.{Form, leaf, node, Forms, none, more, pick}
-use Rattle.one_point.specs.Split.{isTwo, isNil, isPair, parts, partsAll}
-use Rattle.subst.proofs.WalkLaws.{and-left, and-right}
+use Rattle.rules.specs.Split.{isTwo, isNil, isPair, parts, partsAll}
+use Rattle.rules.proofs.WalkLaws.{and-left, and-right}
 use Rattle.reading.specs.Reading.{Reading, truth, same, valueOf, Env, value, values}
 use Rattle.reading.proofs.Same.{truth-bit, not-true, same-refl, same-equal, different}
 

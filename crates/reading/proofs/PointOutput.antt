@@ -12,7 +12,7 @@ use Rattle.form.specs.Decode.{found, formOf}
 use Rattle.form.specs.Answer.{answer, told, written}
 use Rattle.form.specs.declared.answer.Kind.the-variants.{Predicate}
 use Rattle.form.specs.declared.answer.Answer.the-variants.{Done}
-use Rattle.one_point.specs.Point.{onePoint, pointOutcome}
+use Rattle.rules.specs.Point.{onePoint, pointOutcome}
 use Rattle.one_point.proofs.OutputLaws.{pointed, told-words}
 use Rattle.reading.specs.Reading.{Reading, holds}
 use Rattle.reading.specs.Premise.{premise}

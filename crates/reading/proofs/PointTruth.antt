@@ -13,13 +13,13 @@ use lib.Seq.{split-at, drop-cons}
 use Rattle.tree.specs.Form.{Form, node, none, more}
 use Rattle.form.specs.Lists.{kept, filled}
 use Rattle.form.proofs.DecodeLaws.{clash}
-use Rattle.subst.specs.Walk.{lift, subst}
-use Rattle.subst.specs.Shift.{lower}
-use Rattle.replace.specs.Fill.{Quantified, quantifier, other, quantified, quantify, fillFor, fill}
-use Rattle.one_point.specs.Replacement.{above, taken, nothing}
-use Rattle.one_point.specs.Scan.{Scan, scanned, scan}
-use Rattle.one_point.specs.Partial.{noPlaces, setPlace, putRound, instantiatePartial}
-use Rattle.one_point.specs.Point.{polarity, restOf, reduce, reduceQuantified, onePoint}
+use Rattle.rules.specs.Walk.{lift, subst}
+use Rattle.rules.specs.Shift.{lower}
+use Rattle.rules.specs.Fill.{Quantified, quantifier, other, quantified, quantify, fillFor, fill}
+use Rattle.rules.specs.Replacement.{above, taken, nothing}
+use Rattle.rules.specs.Scan.{Scan, scanned, scan}
+use Rattle.rules.specs.Partial.{noPlaces, setPlace, putRound, instantiatePartial}
+use Rattle.rules.specs.Point.{polarity, restOf, reduce, reduceQuantified, onePoint}
 use Rattle.one_point.proofs.PartialLaws.{front-is, rest-is}
 use Rattle.reading.specs.Reading.{Reading, truth, same, valueOf, Env, value, holds}
 use Rattle.reading.specs.Premise.{has, readInBody, inRange, premiseOf, premise}

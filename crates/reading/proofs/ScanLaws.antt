@@ -10,9 +10,9 @@ use lib.Dec.{ltb, eqb}
 use lib.IntN.{ℤ}
 use lib.ListN.{getD}
 use Rattle.tree.specs.Form.{free, bound, Form, leaf, node, Forms, none, more, pick, count}
-use Rattle.one_point.specs.Replacement.{left, right, offer, indexOf, offerOf, above, Taken, taken, nothing, allowed, ofOffer, accept}
-use Rattle.one_point.specs.Split.{parts, equal}
-use Rattle.one_point.specs.Scan.{Scan, scanned, Scans, scans, negate, present, joined, implies, copied, offerPart, offerParts, copies, follow, with}
+use Rattle.rules.specs.Replacement.{left, right, offer, indexOf, offerOf, above, Taken, taken, nothing, allowed, ofOffer, accept}
+use Rattle.rules.specs.Split.{parts, equal}
+use Rattle.rules.specs.Scan.{Scan, scanned, Scans, scans, negate, present, joined, implies, copied, offerPart, offerParts, copies, follow, with}
 use Rattle.reading.specs.Reading.{Reading, truth, every, some as anyTrue, same, valueOf, Env, value, values}
 use Rattle.reading.proofs.Same.{truth-bit, same-comm}
 use Rattle.reading.proofs.Exists.{turn}

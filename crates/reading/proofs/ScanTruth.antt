@@ -10,9 +10,9 @@ use lib.Dec.{eqb}
 use lib.ListN.{getD}
 use Rattle.tree.specs.Form.{Form, leaf, node, Forms, none, more, pick, count}
 use Rattle.form.proofs.DecodeLaws.{clash}
-use Rattle.subst.proofs.WalkLaws.{and-left}
-use Rattle.one_point.specs.Split.{ofTwo, isTwo, parts}
-use Rattle.one_point.specs.Scan.{Scan, joined, negate, present, implies, Role, junction, implication, negation, equality, other, roleOf, suits, firstPolarity, offerParts, with, rebuild, scan, scanAll}
+use Rattle.rules.proofs.WalkLaws.{and-left}
+use Rattle.rules.specs.Split.{ofTwo, isTwo, parts}
+use Rattle.rules.specs.Scan.{Scan, joined, negate, present, implies, Role, junction, implication, negation, equality, other, roleOf, suits, firstPolarity, offerParts, with, rebuild, scan, scanAll}
 use Rattle.reading.specs.Reading.{Reading, Env, value, values}
 use Rattle.reading.proofs.ScanLaws.{Tied, TiedAll, all, junctionOf, junction-value, rejoin-tied, follow-tied, negated-tied, implied-tied, equality-tied}
 

@@ -7,8 +7,8 @@ use native.Mathlib.Omega.{arith}
 use lib.IntN.{ℤ}
 use lib.ListN.{length}
 use Rattle.tree.specs.Form.{Leaf, free, bound, Form, leaf, node, Forms, none, more}
-use Rattle.subst.specs.Walk.{Binding, inside, outside, binding, Outer, named, dangling, walkIndex, walkLeaf, walk, walkAll, up, lift, put, subst}
-use Rattle.subst.proofs.WalkLaws.{binding-add}
+use Rattle.rules.specs.Walk.{Binding, inside, outside, binding, Outer, named, dangling, walkIndex, walkLeaf, walk, walkAll, up, lift, put, subst}
+use Rattle.rules.proofs.WalkLaws.{binding-add}
 use Rattle.reading.specs.Reading.{Reading, valueOf, Env, over, value, values}
 use Rattle.reading.specs.Premise.{push}
 

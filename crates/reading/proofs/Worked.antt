@@ -9,13 +9,13 @@ use native.Mathlib.Omega.{arith}
 use lib.Dec.{eqb}
 use lib.IntN.{ℤ, pos, negsuc}
 use Rattle.tree.specs.Form.{free, bound, Form, leaf, node, Forms, none, more, pick}
-use Rattle.subst.specs.Walk.{walk, collect}
-use Rattle.replace.specs.Fill.{quantified, fill}
-use Rattle.one_point.specs.Replacement.{accept}
-use Rattle.one_point.specs.Split.{parts, equal}
-use Rattle.one_point.specs.Scan.{offerParts, scan}
-use Rattle.one_point.specs.Partial.{putRound, instantiatePartial}
-use Rattle.one_point.specs.Point.{onePoint}
+use Rattle.rules.specs.Walk.{walk, collect}
+use Rattle.rules.specs.Fill.{quantified, fill}
+use Rattle.rules.specs.Replacement.{accept}
+use Rattle.rules.specs.Split.{parts, equal}
+use Rattle.rules.specs.Scan.{offerParts, scan}
+use Rattle.rules.specs.Partial.{putRound, instantiatePartial}
+use Rattle.rules.specs.Point.{onePoint}
 use Rattle.reading.specs.Reading.{Reading, valueOf, value, holds}
 use Rattle.reading.specs.Premise.{premise}
 use Rattle.reading.proofs.PointTruth.{point-keeps-truth}

@@ -5,10 +5,10 @@ use Prim.Native.Nat.{ℕ, suc, _-_}
 use lib.IntN.{ℤ, pos}
 use lib.ListN.{length, take, getD, replicate}
 use Rattle.tree.specs.Form.{Form}
-use Rattle.replace.specs.Fill.{quantifier, other, quantified}
-use Rattle.one_point.specs.Replacement.{taken, nothing}
-use Rattle.one_point.specs.Scan.{Scan, scanned, scan}
-use Rattle.one_point.specs.Point.{polarity}
+use Rattle.rules.specs.Fill.{quantifier, other, quantified}
+use Rattle.rules.specs.Replacement.{taken, nothing}
+use Rattle.rules.specs.Scan.{Scan, scanned, scan}
+use Rattle.rules.specs.Point.{polarity}
 use Rattle.reading.specs.Reading.{Reading, same, every, some, Env, cons, over, value}
 
 abbrev pub has : ℤ → List ℤ → Bool

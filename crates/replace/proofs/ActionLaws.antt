@@ -6,13 +6,13 @@ use native.Mathlib.Omega.{arith}
 use borrow.Author.Tests.{leb-true, ltb-true}
 use lib.Dec.{leb, ltb}
 use Rattle.tree.specs.Form.{bound, Form, leaf, encode}
-use Rattle.subst.specs.Walk.{Outer, named, dangling, walk, up, lift, put, each}
-use Rattle.subst.specs.Shift.{reaches, fall, lower}
-use Rattle.subst.specs.Internal.Items.{rewritten, movedWords, moveWord}
-use Rattle.subst.proofs.WalkLaws.{binding-add, and-left, and-right, fuse-level, each-agree, walk-agree}
-use Rattle.subst.proofs.LimitLaws.{small, tight}
-use Rattle.subst.proofs.ShiftLaws.{inRange, down-range, moved, moved-leaf, moved-word, between-high}
-use Rattle.subst.proofs.RowLaws.{itemsOf, walk-items}
+use Rattle.rules.specs.Walk.{Outer, named, dangling, walk, up, lift, put, each}
+use Rattle.rules.specs.Shift.{reaches, fall, lower}
+use Rattle.shift.specs.Internal.Items.{rewritten, movedWords, moveWord}
+use Rattle.rules.proofs.WalkLaws.{binding-add, and-left, and-right, fuse-level, each-agree, walk-agree}
+use Rattle.rules.proofs.LimitLaws.{small, tight}
+use Rattle.shift.proofs.ShiftLaws.{inRange, down-range, moved, moved-leaf, moved-word, between-high}
+use Rattle.shift.proofs.RowLaws.{itemsOf, walk-items}
 
 -- under at most n declarations
 pub tight-depth : (n k : ℕ) (x : Outer) → tight n k x ≡ true → k ≤ n

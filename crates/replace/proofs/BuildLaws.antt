@@ -18,9 +18,9 @@ use Rattle.form.specs.declared.answer.Kind.the-variants.{Expression, Predicate}
 use Rattle.form.specs.declared.answer.Answer.{Answer}
 use Rattle.form.specs.declared.answer.Answer.the-variants.{Done, No}
 use Rattle.form.proofs.DecodeLaws.{clash}
-use Rattle.subst.specs.Internal.Items.{items, store}
+use Rattle.shift.specs.Internal.Items.{items, store}
 use Rattle.form.proofs.RowLaws.{found-row}
-use Rattle.subst.proofs.ItemLaws.{stored, store-append}
+use Rattle.shift.proofs.ItemLaws.{stored, store-append}
 use Rattle.replace.specs.Internal.Pieces.{sizes, lengthRefusal, InRow, isFound, shortWords, emitted, replacedWords, replaced}
 use Rattle.replace.specs.declared.pieces.Plan.{Plan}
 use Rattle.replace.proofs.LengthLaws.{not-refused, refused-many}

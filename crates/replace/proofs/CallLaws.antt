@@ -14,7 +14,7 @@ use Rattle.form.specs.declared.answer.Kind.{Kind}
 use Rattle.form.specs.declared.answer.Answer.{Answer}
 use Rattle.form.specs.declared.answer.Answer.the-variants.{No}
 use Rattle.form.specs.declared.answer.ListKind.{ListKind}
-use Rattle.subst.proofs.CheckedLaws.{Checked}
+use Rattle.shift.proofs.CheckedLaws.{Checked}
 use Rattle.replace.specs.Internal.Pieces.{isFound}
 
 abbrev pub call : Kind → ListKind → (Sort → Form → List Entry → Outcome) → List ℕ → List ℕ → ℕ → Outcome

@@ -9,10 +9,10 @@ use lib.Dec.{eqb, ltb}
 use lib.ListN.{length, drop, set}
 use Rattle.tree.specs.Form.{pick}
 use Rattle.form.proofs.HeadLaws.{gone}
-use Rattle.subst.specs.Internal.Items.{itemAt, items, sizeOf, allItems}
-use Rattle.subst.specs.declared.items.Item.{Item}
-use Rattle.subst.specs.declared.items.Item.the-variants.{Plain, Ident}
-use Rattle.subst.proofs.ItemLaws.{next}
+use Rattle.shift.specs.Internal.Items.{itemAt, items, sizeOf, allItems}
+use Rattle.shift.specs.declared.items.Item.{Item}
+use Rattle.shift.specs.declared.items.Item.the-variants.{Plain, Ident}
+use Rattle.shift.proofs.ItemLaws.{next}
 use Rattle.replace.specs.Internal.Pieces.{notIndex, cleared}
 
 pub cleared-length : (n : ℕ) (ws : List ℕ) (xs : List Item) → length (cleared n ws xs) ≡ length ws

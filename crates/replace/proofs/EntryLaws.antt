@@ -13,16 +13,16 @@ use lib.ListN.{length, getD, take, drop, set, replicate, length-append, length-s
 use lib.Seq.{take-at, drop-at, take-suc-set, getD-take}
 use Rattle.tree.specs.Form.{Form, pick, encode}
 use Rattle.form.specs.Lists.{Place, kept, filled, Entry, entry, placeOf, placeWords, entryWords, encodeList, wordOf, listOf}
-use Rattle.form.specs.Internal.Reads.{markEntries, emptyTable, addRow, tabled}
+use Rattle.reader.specs.Internal.Reads.{markEntries, emptyTable, addRow, tabled}
 use Rattle.form.specs.declared.answer.ListKind.{ListKind}
 use Rattle.form.specs.declared.answer.ListKind.the-variants.{Pairs, Places}
-use Rattle.form.specs.declared.lists.Table.{Table}
+use Rattle.reader.specs.declared.lists.Table.{Table}
 use Rattle.form.proofs.ListLaws.{Good, GoodAll, list-sound}
-use Rattle.form.proofs.TableLaws.{row-more, listed-n}
-use Rattle.subst.specs.Walk.{each}
-use Rattle.subst.specs.Internal.Items.{items}
-use Rattle.subst.proofs.LimitLaws.{small, ok-small}
-use Rattle.subst.proofs.RowLaws.{itemsOf, marksOf, items-encode, marks-length}
+use Rattle.reader.proofs.TableLaws.{row-more, listed-n}
+use Rattle.rules.specs.Walk.{each}
+use Rattle.shift.specs.Internal.Items.{items}
+use Rattle.rules.proofs.LimitLaws.{small, ok-small}
+use Rattle.shift.proofs.RowLaws.{itemsOf, marksOf, items-encode, marks-length}
 use Rattle.replace.specs.Internal.Pieces.{part}
 use Rattle.replace.proofs.MarkLaws.{marksPlace, marksList, place-length, only-entries}
 

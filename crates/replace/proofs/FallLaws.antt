@@ -12,10 +12,10 @@ use lib.Seq.{getD-set-same, getD-set-other}
 use Rattle.form.specs.Answer.{answer, refusal, told, written}
 use Rattle.form.specs.declared.answer.Answer.the-variants.{Done}
 use Rattle.form.proofs.HeadLaws.{here, gone}
-use Rattle.subst.specs.Internal.Items.{items, sizeOf, wordsOf, rewritten, store}
-use Rattle.subst.specs.declared.items.Item.{Item}
-use Rattle.subst.specs.declared.items.Item.the-variants.{Plain, Ident}
-use Rattle.subst.proofs.ItemLaws.{store-append, stored, rewritten-length}
+use Rattle.shift.specs.Internal.Items.{items, sizeOf, wordsOf, rewritten, store}
+use Rattle.shift.specs.declared.items.Item.{Item}
+use Rattle.shift.specs.declared.items.Item.the-variants.{Plain, Ident}
+use Rattle.shift.proofs.ItemLaws.{store-append, stored, rewritten-length}
 use Rattle.replace.specs.Internal.Pieces.{filledWords, keptWords, headWords, fallsAt, Falls, fallItem, fallenWords, droppedRow, droppedOutcome}
 use Rattle.replace.proofs.PieceLaws.{filled-word}
 

@@ -11,12 +11,12 @@ use lib.ListN.{length, take, drop, take-append-drop, length-map, length-drop, le
 use lib.Seq.{take-at, take-all}
 use Rattle.tree.specs.Form.{Leaf, free, bound, Form, leaf, encode}
 use Rattle.form.specs.Lists.{Place, kept, filled}
-use Rattle.subst.specs.Walk.{Binding, inside, outside, binding, walkIndex, walkLeaf, walk}
-use Rattle.subst.specs.Internal.Items.{wordsOf, rewritten}
-use Rattle.subst.specs.declared.items.Item.the-variants.{Plain, Ident}
-use Rattle.subst.proofs.WalkLaws.{binding-inside, binding-back}
-use Rattle.subst.proofs.RowLaws.{identOf, itemsOf, walk-items-in}
-use Rattle.replace.specs.Fill.{keptCount}
+use Rattle.rules.specs.Walk.{Binding, inside, outside, binding, walkIndex, walkLeaf, walk}
+use Rattle.shift.specs.Internal.Items.{wordsOf, rewritten}
+use Rattle.shift.specs.declared.items.Item.the-variants.{Plain, Ident}
+use Rattle.rules.proofs.WalkLaws.{binding-inside, binding-back}
+use Rattle.shift.proofs.RowLaws.{identOf, itemsOf, walk-items-in}
+use Rattle.rules.specs.Fill.{keptCount}
 use Rattle.replace.specs.Internal.Pieces.{filledWords, fallsAt, fallItem, fallenWords}
 use Rattle.replace.proofs.FillTree.{wordFor, count-both, kept-reverse, drop-map}
 use Rattle.replace.proofs.PruneTree.{rank, ranked}

@@ -13,16 +13,16 @@ use Rattle.tree.specs.Tag.{Sort, pred}
 use Rattle.form.specs.Decode.{Whole, one, not-one, rowForm, found, missing, asSort, formOf}
 use Rattle.form.specs.Lists.{Place, kept, filled, Entry, entry, wordOf, placeOf, listOf}
 use Rattle.form.specs.Answer.{Outcome, refusal, needs, isOne, finish}
-use Rattle.form.specs.Internal.Reads.{mark, markEntries, emptyTable, tabled, Listing}
+use Rattle.reader.specs.Internal.Reads.{mark, markEntries, emptyTable, tabled, Listing}
 use Rattle.form.specs.declared.answer.Kind.the-variants.{Predicate}
 use Rattle.form.specs.declared.answer.ListKind.the-variants.{Places}
-use Rattle.form.specs.declared.lists.Table.{Table}
-use Rattle.form.specs.declared.lists.Listed.{Listed}
+use Rattle.reader.specs.declared.lists.Table.{Table}
+use Rattle.reader.specs.declared.lists.Listed.{Listed}
 use Rattle.form.proofs.DecodeLaws.{clash, Ok}
 use Rattle.form.proofs.ListLaws.{GoodAll, list-sound}
-use Rattle.form.proofs.TableLaws.{listed-words, listed-n, listing-yes}
-use Rattle.subst.proofs.CheckedLaws.{Checked}
-use Rattle.replace.specs.Fill.{quantified, other, ofQuantified, fill, fillOutcome}
+use Rattle.reader.proofs.TableLaws.{listed-words, listed-n, listing-yes}
+use Rattle.shift.proofs.CheckedLaws.{Checked}
+use Rattle.rules.specs.Fill.{quantified, other, ofQuantified, fill, fillOutcome}
 use Rattle.replace.specs.Internal.Pieces.{filledWords, InRow, Ready, replaced, fillPlan, declaredIn, keptWords, headWords, filledRow, isFound, LeavesBy}
 use Rattle.replace.proofs.EntryLaws.{PlaceAt, listed-places, listed-in-row, listed-full}
 use Rattle.replace.proofs.BuildLaws.{emit-sure}

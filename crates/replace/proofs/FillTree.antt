@@ -13,18 +13,18 @@ use lib.Seq.{getD-take, split-at}
 use Rattle.tree.specs.Form.{Leaf, free, bound, Form, leaf, pick, encode}
 use Rattle.tree.specs.Tag.{Sort}
 use Rattle.form.specs.Lists.{Place, kept, filled}
-use Rattle.form.specs.declared.lists.Table.{Table}
+use Rattle.reader.specs.declared.lists.Table.{Table}
 use Rattle.form.proofs.DecodeLaws.{Ok}
-use Rattle.subst.specs.Walk.{Binding, inside, outside, binding, Outer, named, dangling, walkIndex, walkLeaf, walk, up, lift, put, subst, each}
-use Rattle.subst.specs.Shift.{reaches, lower}
-use Rattle.subst.specs.Internal.Items.{wordsOf, rewritten}
-use Rattle.subst.specs.declared.items.Item.{Item}
-use Rattle.subst.specs.declared.items.Item.the-variants.{Plain, Ident}
-use Rattle.subst.proofs.WalkLaws.{binding-inside, binding-back, shift-shift, each-all, walk-agree}
-use Rattle.subst.proofs.LimitLaws.{tight, ok-tight}
-use Rattle.subst.proofs.ShiftLaws.{moved}
-use Rattle.subst.proofs.RowLaws.{identOf, itemsOf, walk-items-in}
-use Rattle.replace.specs.Fill.{keptCount, fillIndex, fillFor}
+use Rattle.rules.specs.Walk.{Binding, inside, outside, binding, Outer, named, dangling, walkIndex, walkLeaf, walk, up, lift, put, subst, each}
+use Rattle.rules.specs.Shift.{reaches, lower}
+use Rattle.shift.specs.Internal.Items.{wordsOf, rewritten}
+use Rattle.shift.specs.declared.items.Item.{Item}
+use Rattle.shift.specs.declared.items.Item.the-variants.{Plain, Ident}
+use Rattle.rules.proofs.WalkLaws.{binding-inside, binding-back, shift-shift, each-all, walk-agree}
+use Rattle.rules.proofs.LimitLaws.{tight, ok-tight}
+use Rattle.shift.proofs.ShiftLaws.{moved}
+use Rattle.shift.proofs.RowLaws.{identOf, itemsOf, walk-items-in}
+use Rattle.rules.specs.Fill.{keptCount, fillIndex, fillFor}
 use Rattle.replace.specs.Internal.Pieces.{pieceWords, filledWords, placePiece, fillPiece, pieceOf, planned, fillPlan}
 use Rattle.replace.specs.declared.pieces.Piece.the-variants.{Index, Part}
 use Rattle.replace.specs.declared.pieces.Plan.{Plan}

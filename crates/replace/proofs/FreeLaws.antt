@@ -14,23 +14,23 @@ use Rattle.tree.specs.Tag.{Sort, expr, pred}
 use Rattle.form.specs.Decode.{Whole, one, not-one, found, missing, asSort, rowForm, formOf}
 use Rattle.form.specs.Lists.{Place, kept, filled, Entry, entry, wordOf, placeOf, listOf, distinct, goodNames}
 use Rattle.form.specs.Answer.{Outcome, refusal, needs, isOne, finish}
-use Rattle.form.specs.Internal.Reads.{asExpr, markEntries, emptyTable, tabled, Listing, goodTable}
+use Rattle.reader.specs.Internal.Reads.{asExpr, markEntries, emptyTable, tabled, Listing, goodTable}
 use Rattle.form.specs.declared.answer.Kind.the-variants.{Either}
 use Rattle.form.specs.declared.answer.ListKind.the-variants.{Pairs}
-use Rattle.form.specs.declared.lists.Table.{Table}
-use Rattle.form.specs.declared.lists.Listed.{Listed}
+use Rattle.reader.specs.declared.lists.Table.{Table}
+use Rattle.reader.specs.declared.lists.Listed.{Listed}
 use Rattle.form.proofs.DecodeLaws.{clash, Ok}
-use Rattle.form.proofs.TableLaws.{listed-words, listed-n, good-listed, listing-yes}
-use Rattle.form.proofs.CheckLaws.{sortFor, form-of}
-use Rattle.subst.specs.Walk.{Binding, inside, outside, binding, Outer, named, dangling, walkIndex, walkLeaf, walk, up, put, each}
-use Rattle.subst.specs.Internal.Items.{items, wordsOf, rewritten}
-use Rattle.subst.specs.declared.items.Item.the-variants.{Plain, Ident}
-use Rattle.subst.proofs.WalkLaws.{binding-back, and-left, walk-agree}
-use Rattle.subst.proofs.LimitLaws.{small, tight, ok-tight}
-use Rattle.subst.proofs.ShiftLaws.{moved}
-use Rattle.subst.proofs.RowLaws.{identOf, itemsOf, marked-items, walk-items}
-use Rattle.subst.proofs.CheckedLaws.{Checked}
-use Rattle.replace.specs.Free.{orName, seek, freeFor, substitute, freeOutcome}
+use Rattle.reader.proofs.TableLaws.{listed-words, listed-n, good-listed, listing-yes}
+use Rattle.reader.proofs.CheckLaws.{sortFor, form-of}
+use Rattle.rules.specs.Walk.{Binding, inside, outside, binding, Outer, named, dangling, walkIndex, walkLeaf, walk, up, put, each}
+use Rattle.shift.specs.Internal.Items.{items, wordsOf, rewritten}
+use Rattle.shift.specs.declared.items.Item.the-variants.{Plain, Ident}
+use Rattle.rules.proofs.WalkLaws.{binding-back, and-left, walk-agree}
+use Rattle.rules.proofs.LimitLaws.{small, tight, ok-tight}
+use Rattle.shift.proofs.ShiftLaws.{moved}
+use Rattle.shift.proofs.RowLaws.{identOf, itemsOf, marked-items, walk-items}
+use Rattle.shift.proofs.CheckedLaws.{Checked}
+use Rattle.rules.specs.Free.{orName, seek, freeFor, substitute, freeOutcome}
 use Rattle.replace.specs.Internal.Pieces.{pieceWords, spot, freePiece, pieceOf, planned, InRow, Ready, replaced, kindFor, freePlan, isFound, LeavesBy}
 use Rattle.replace.specs.declared.pieces.Piece.the-variants.{Same, Part}
 use Rattle.replace.proofs.EntryLaws.{PlaceAt, listed-places, listed-in-row, listed-full}

@@ -11,10 +11,10 @@ use lib.Dec.{leb, eqb}
 use lib.ListN.{length, getD, drop, length-append, length-drop}
 use Rattle.tree.specs.Form.{pick}
 use Rattle.form.proofs.DecodeLaws.{clash}
-use Rattle.subst.specs.Internal.Items.{items, sizeOf, wordsOf, rewritten}
-use Rattle.subst.specs.declared.items.Item.{Item}
-use Rattle.subst.specs.declared.items.Item.the-variants.{Plain, Ident}
-use Rattle.subst.proofs.ItemLaws.{rewritten-length}
+use Rattle.shift.specs.Internal.Items.{items, sizeOf, wordsOf, rewritten}
+use Rattle.shift.specs.declared.items.Item.{Item}
+use Rattle.shift.specs.declared.items.Item.the-variants.{Plain, Ident}
+use Rattle.shift.proofs.ItemLaws.{rewritten-length}
 use Rattle.replace.specs.Internal.Pieces.{pieceSize, pieceOf, sizes, longest, half, lengthRefusal}
 use Rattle.replace.specs.declared.pieces.Plan.{Plan}
 use Rattle.replace.proofs.PieceLaws.{piece-all, words-length}

@@ -9,17 +9,17 @@ use lib.Seq.{take-at, drop-at, take-append-le, length-take-le, take-all}
 use Rattle.tree.specs.Form.{Form, encode}
 use Rattle.form.specs.Decode.{Found, found, missing, formOf}
 use Rattle.form.specs.Lists.{Place, kept, filled, Entry, entry, placeWords, entryWords, encodeList, listOf}
-use Rattle.form.specs.Internal.Reads.{mark, Marked, markPlace, markEntry, markEntries, ListingFrom, Listing}
+use Rattle.reader.specs.Internal.Reads.{mark, Marked, markPlace, markEntry, markEntries, ListingFrom, Listing}
 use Rattle.form.specs.declared.answer.Kind.{Kind}
 use Rattle.form.specs.declared.answer.ListKind.{ListKind}
-use Rattle.form.specs.declared.lists.Listed.{Listed}
+use Rattle.reader.specs.declared.lists.Listed.{Listed}
 use Rattle.form.proofs.HeadLaws.{here, gone}
 use Rattle.form.proofs.ListLaws.{list-sound}
-use Rattle.subst.specs.Internal.Items.{Fresh, items, store}
-use Rattle.subst.specs.declared.items.Item.the-variants.{Plain, Ident}
+use Rattle.shift.specs.Internal.Items.{Fresh, items, store}
+use Rattle.shift.specs.declared.items.Item.the-variants.{Plain, Ident}
 use Rattle.form.proofs.RowLaws.{found-row}
-use Rattle.subst.proofs.ItemLaws.{stored, store-front}
-use Rattle.subst.proofs.RowLaws.{zeros, marksOf, zeros-append, zeros-length, marks-length, mark-zeros}
+use Rattle.shift.proofs.ItemLaws.{stored, store-front}
+use Rattle.shift.proofs.RowLaws.{zeros, marksOf, zeros-append, zeros-length, marks-length, mark-zeros}
 
 pub zeros-are : (l : List ℕ) → replicate (length l) 0 ≡ zeros l
 zeros-are [] = refl

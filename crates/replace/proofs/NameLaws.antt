@@ -8,9 +8,9 @@ use lib.Seq.{take-at, getD-drop}
 use Rattle.tree.specs.Form.{Form, encode}
 use Rattle.form.specs.Lists.{Place, kept, filled}
 use Rattle.form.proofs.HeadLaws.{here, gone}
-use Rattle.subst.specs.Internal.Items.{store}
-use Rattle.subst.proofs.ItemLaws.{store-append, store-front}
-use Rattle.replace.specs.Fill.{quantify, keptNames}
+use Rattle.shift.specs.Internal.Items.{store}
+use Rattle.shift.proofs.ItemLaws.{store-append, store-front}
+use Rattle.rules.specs.Fill.{quantify, keptNames}
 use Rattle.replace.specs.Internal.Pieces.{keptWords, headWords}
 use Rattle.replace.proofs.FillTree.{wordFor}
 

@@ -9,9 +9,9 @@ use Rattle.tree.specs.Form.{Leaf, free, bound, Form, leaf, Forms, between}
 use Rattle.tree.specs.Tag.{Sort, expr}
 use Rattle.form.specs.Decode.{Head, head, bad, addName, only, names}
 use Rattle.form.proofs.DecodeLaws.{clash, Ok, ok-free, ok-bound, ok-node, OkAll, ok-none, ok-more}
-use Rattle.subst.specs.Walk.{Binding, inside, outside, binding, Outer, named, dangling, walkIndex, walk, walkAll, collectIndex, collect, each}
-use Rattle.subst.proofs.WalkLaws.{eachAll, and-left, and-right}
-use Rattle.subst.proofs.LimitLaws.{fineLeaf}
+use Rattle.rules.specs.Walk.{Binding, inside, outside, binding, Outer, named, dangling, walkIndex, walk, walkAll, collectIndex, collect, each}
+use Rattle.rules.proofs.WalkLaws.{eachAll, and-left, and-right}
+use Rattle.rules.proofs.LimitLaws.{fineLeaf}
 use Rattle.replace.specs.Internal.Pieces.{areNames}
 
 -- a form within one depth is within a greater one

@@ -11,11 +11,11 @@ use lib.ListN.{length, getD, take, drop, length-append, length-drop}
 use lib.Seq.{length-take-le}
 use Rattle.tree.specs.Form.{pick}
 use Rattle.form.proofs.HeadLaws.{here, gone}
-use Rattle.subst.specs.Internal.Items.{itemAt, items, sizeOf, wordsOf, rewritten, store, movedWords}
-use Rattle.subst.specs.declared.items.Item.{Item}
-use Rattle.subst.specs.declared.items.Item.the-variants.{Plain, Ident}
-use Rattle.subst.proofs.ItemLaws.{next, store-append, rewritten-length, size-pos}
-use Rattle.subst.proofs.ShiftLaws.{keeps}
+use Rattle.shift.specs.Internal.Items.{itemAt, items, sizeOf, wordsOf, rewritten, store, movedWords}
+use Rattle.shift.specs.declared.items.Item.{Item}
+use Rattle.shift.specs.declared.items.Item.the-variants.{Plain, Ident}
+use Rattle.shift.proofs.ItemLaws.{next, store-append, rewritten-length, size-pos}
+use Rattle.shift.proofs.ShiftLaws.{keeps}
 use Rattle.replace.specs.Internal.Pieces.{part, pieceWords, pieceSize, spot, filledWords, freePiece, placePiece, fillPiece, pieceOf, planned, sizes, capped, Tabled, InRow, Fits}
 use Rattle.replace.specs.declared.pieces.Piece.{Piece}
 use Rattle.replace.specs.declared.pieces.Piece.the-variants.{Same, Index, Part}

@@ -14,17 +14,17 @@ use Rattle.tree.specs.Tag.{Sort, pred}
 use Rattle.form.specs.Decode.{missing, formOf}
 use Rattle.form.specs.Lists.{Place, kept, filled}
 use Rattle.form.specs.Answer.{Outcome, answer, refusal, needs, finish}
-use Rattle.form.specs.Internal.Reads.{mark}
+use Rattle.reader.specs.Internal.Reads.{mark}
 use Rattle.form.specs.declared.answer.Kind.the-variants.{Predicate}
-use Rattle.subst.specs.Walk.{Binding, inside, outside, binding, collectIndex, collectLeaf}
-use Rattle.subst.specs.Internal.Items.{items, allItems}
-use Rattle.subst.specs.declared.items.Item.{Item}
-use Rattle.subst.specs.declared.items.Item.the-variants.{Plain, Ident}
-use Rattle.subst.proofs.WalkLaws.{binding-inside, binding-back}
-use Rattle.subst.proofs.RowLaws.{identOf, itemsOf, each-items-in}
-use Rattle.subst.proofs.CheckedLaws.{Checked, too-long, no-form-there, form-there}
-use Rattle.replace.specs.Fill.{keptCount, fill, ofQuantified, quantified}
-use Rattle.replace.specs.Prune.{isNot, unused, usedPlaces, prune, pruneOutcome}
+use Rattle.rules.specs.Walk.{Binding, inside, outside, binding, collectIndex, collectLeaf}
+use Rattle.shift.specs.Internal.Items.{items, allItems}
+use Rattle.shift.specs.declared.items.Item.{Item}
+use Rattle.shift.specs.declared.items.Item.the-variants.{Plain, Ident}
+use Rattle.rules.proofs.WalkLaws.{binding-inside, binding-back}
+use Rattle.shift.proofs.RowLaws.{identOf, itemsOf, each-items-in}
+use Rattle.shift.proofs.CheckedLaws.{Checked, too-long, no-form-there, form-there}
+use Rattle.rules.specs.Fill.{keptCount, fill, ofQuantified, quantified}
+use Rattle.rules.specs.Prune.{isNot, unused, usedPlaces, prune, pruneOutcome}
 use Rattle.replace.specs.Internal.Pieces.{filledWords, declaredIn, notIndex, cleared, usedWords, droppedRow, droppedOutcome}
 use Rattle.replace.proofs.ClearLaws.{cleared-length}
 use Rattle.replace.proofs.FillTree.{wordFor, count-both}

@@ -15,11 +15,11 @@ use Rattle.form.specs.Answer.{Outcome, answer, refusal, ofFound, needs, isOne, 
 use Rattle.form.specs.declared.answer.Kind.the-variants.{Predicate}
 use Rattle.form.proofs.DecodeLaws.{clash, Ok, ok-node, ok-none, ok-more}
 use Rattle.form.proofs.RowLaws.{row-exact, row-encode}
-use Rattle.subst.specs.Walk.{Outer, named, dangling, walk, put, subst, each}
-use Rattle.subst.proofs.WalkLaws.{and-left, and-right, always, each-agree, each-always, each-same, each-all, walk-agree}
-use Rattle.subst.proofs.LimitLaws.{small, ok-small, fineLeaf, walk-length}
-use Rattle.replace.specs.Fill.{keptCount, keptNames, fillIndex, fillFor, fill, quantify, ofQuantified, quantified}
-use Rattle.replace.specs.Prune.{isNot, unused, usedPlaces, prune, pruneOutcome}
+use Rattle.rules.specs.Walk.{Outer, named, dangling, walk, put, subst, each}
+use Rattle.rules.proofs.WalkLaws.{and-left, and-right, always, each-agree, each-always, each-same, each-all, walk-agree}
+use Rattle.rules.proofs.LimitLaws.{small, ok-small, fineLeaf, walk-length}
+use Rattle.rules.specs.Fill.{keptCount, keptNames, fillIndex, fillFor, fill, quantify, ofQuantified, quantified}
+use Rattle.rules.specs.Prune.{isNot, unused, usedPlaces, prune, pruneOutcome}
 use Rattle.replace.specs.Internal.Pieces.{declaredIn, areNames}
 use Rattle.replace.proofs.OkLaws.{ok-deep, ok-walk, names-good, names-made}
 use Rattle.replace.proofs.FillTree.{kept-reverse}

@@ -12,12 +12,12 @@ use lib.Seq.{drop-at}
 use Rattle.tree.specs.Form.{Form, node, Forms, none, more, pick, between, encode, encodeAll}
 use Rattle.tree.specs.Tag.{pred, ask, kids, own, ownOf, shapeOf, predTags, sorts}
 use Rattle.form.specs.Decode.{Head, head, bad, addWord, addName, only, names, read, isLeaf}
-use Rattle.form.specs.Internal.Reads.{mark}
+use Rattle.reader.specs.Internal.Reads.{mark}
 use Rattle.form.proofs.DecodeLaws.{clash, Ok, ok-node, OkAll, ok-none, ok-more}
-use Rattle.subst.specs.Internal.Items.{items}
-use Rattle.subst.proofs.WalkLaws.{and-left, and-right}
-use Rattle.subst.proofs.RowLaws.{itemsOf, marksOf, zeros, zeros-length, items-encode}
-use Rattle.replace.specs.Fill.{quantifier, other, quantified}
+use Rattle.shift.specs.Internal.Items.{items}
+use Rattle.rules.proofs.WalkLaws.{and-left, and-right}
+use Rattle.shift.proofs.RowLaws.{itemsOf, marksOf, zeros, zeros-length, items-encode}
+use Rattle.rules.specs.Fill.{quantifier, other, quantified}
 use Rattle.replace.specs.Internal.Pieces.{declaredIn}
 use Rattle.replace.proofs.MarkLaws.{only-mark}
 

@@ -10,8 +10,8 @@ use borrow.Author.Tests.{eqb-true, eqb-false}
 use lib.ListN.{length, getD, take}
 use Rattle.form.specs.Answer.{refusal}
 use Rattle.form.specs.declared.answer.Kind.the-variants.{Predicate}
-use Rattle.form.specs.declared.lists.Table.{Table}
-use Rattle.subst.proofs.WalkLaws.{and-left, and-right}
+use Rattle.reader.specs.declared.lists.Table.{Table}
+use Rattle.rules.proofs.WalkLaws.{and-left, and-right}
 use Rattle.replace.specs.Internal.Pieces.{filledWords, InRow, Ready, replaced, partsIn, isReady, downPlan, placedRow}
 
 -- one part more, from the last to the first

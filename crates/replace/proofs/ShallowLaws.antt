@@ -9,18 +9,18 @@ use Rattle.tree.specs.Form.{Form, pick, encode}
 use Rattle.tree.specs.Tag.{Sort}
 use Rattle.form.specs.Decode.{decode, Whole, one, not-one, whole, rowForm, Found, found, missing, asSort, formOf}
 use Rattle.form.specs.Answer.{told, checkOutcome}
-use Rattle.form.specs.Internal.Reads.{Told, decodeIn, Marked, asExpr}
+use Rattle.reader.specs.Internal.Reads.{Told, decodeIn, Marked, asExpr}
 use Rattle.form.specs.declared.answer.Kind.{Kind}
 use Rattle.form.specs.declared.answer.Answer.{Answer}
 use Rattle.form.specs.declared.answer.Answer.the-variants.{Done, No}
 use Rattle.form.specs.declared.head.Step.{Step}
 use Rattle.form.specs.declared.head.Step.the-variants.{End, Bad}
 use Rattle.form.proofs.DecodeLaws.{clash, Ok}
-use Rattle.form.proofs.ReaderLaws.{in-decode}
-use Rattle.form.proofs.CheckLaws.{sortFor, form-of, read-bad, read-whole, read-part}
+use Rattle.reader.proofs.ReaderLaws.{in-decode}
+use Rattle.reader.proofs.CheckLaws.{sortFor, form-of, read-bad, read-whole, read-part}
 use Rattle.form.proofs.RowLaws.{whole-exact, row-encode}
-use Rattle.subst.specs.Internal.Items.{store}
-use Rattle.subst.proofs.CheckedLaws.{Checked, marks-of, is-missing}
+use Rattle.shift.specs.Internal.Items.{store}
+use Rattle.shift.proofs.CheckedLaws.{Checked, marks-of, is-missing}
 use Rattle.replace.specs.Internal.Pieces.{isFound, shallowForm, readingOf}
 use Rattle.replace.specs.declared.marks.Reading.{Reading}
 use Rattle.replace.specs.declared.marks.Reading.the-variants.{Taken, Refused}

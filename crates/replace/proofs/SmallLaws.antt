@@ -13,20 +13,20 @@ use Rattle.tree.specs.Tag.{expr}
 use Rattle.form.specs.Decode.{got, decode, Whole, one, not-one, whole}
 use Rattle.form.specs.Answer.{isOne}
 use Rattle.form.specs.Lists.{Place, kept, filled, Entry, entry, placeOf, placeWords, listOf}
-use Rattle.form.specs.Internal.Reads.{Told, decodeIn, emptyTable, tabled}
+use Rattle.reader.specs.Internal.Reads.{Told, decodeIn, emptyTable, tabled}
 use Rattle.form.specs.declared.answer.ListKind.{ListKind}
 use Rattle.form.specs.declared.answer.ListKind.the-variants.{Pairs, Places}
-use Rattle.form.specs.declared.lists.Table.{Table}
+use Rattle.reader.specs.declared.lists.Table.{Table}
 use Rattle.form.specs.declared.head.Step.{Step}
 use Rattle.form.specs.declared.head.Step.the-variants.{End, Bad}
 use Rattle.form.proofs.DecodeLaws.{clash, Ok, decode-encode}
 use Rattle.form.proofs.HeadLaws.{here, gone}
-use Rattle.form.proofs.ReaderLaws.{in-decode}
-use Rattle.form.proofs.CheckLaws.{read-bad, read-whole, read-part}
+use Rattle.reader.proofs.ReaderLaws.{in-decode}
+use Rattle.reader.proofs.CheckLaws.{read-bad, read-whole, read-part}
 use Rattle.form.proofs.RowLaws.{whole-exact}
 use Rattle.form.proofs.ListLaws.{GoodAll, list-sound}
-use Rattle.form.proofs.TableLaws.{listed-n}
-use Rattle.subst.proofs.WalkLaws.{and-left, and-right}
+use Rattle.reader.proofs.TableLaws.{listed-n}
+use Rattle.rules.proofs.WalkLaws.{and-left, and-right}
 use Rattle.replace.specs.Internal.Pieces.{part, smallWords, deepPart, deepAt, Depth, PartsDepth, Leaves, LeavesBy}
 use Rattle.replace.proofs.OkLaws.{ok-deep}
 use Rattle.replace.proofs.EntryLaws.{listed-part}

@@ -10,11 +10,11 @@ use lib.Dec.{eqb}
 use lib.ListN.{length, length-map, length-reverse}
 use Rattle.tree.specs.Form.{free, bound, Form, leaf, pick}
 use Rattle.form.specs.Lists.{Place, kept, filled, Entry, entry}
-use Rattle.subst.specs.Walk.{Outer, named, dangling, walk, up, lift, put, subst}
-use Rattle.subst.specs.Bind.{bindName, bindFor, bind}
-use Rattle.subst.proofs.WalkLaws.{binding-add, shift-shift, lift-up, subst-lift, fuse-level, self, undo, always, each-always}
-use Rattle.replace.specs.Free.{orName, seek, freeFor, substitute}
-use Rattle.replace.specs.Fill.{keptCount, keptNames, fillFor, fill}
+use Rattle.rules.specs.Walk.{Outer, named, dangling, walk, up, lift, put, subst}
+use Rattle.rules.specs.Bind.{bindName, bindFor, bind}
+use Rattle.rules.proofs.WalkLaws.{binding-add, shift-shift, lift-up, subst-lift, fuse-level, self, undo, always, each-always}
+use Rattle.rules.specs.Free.{orName, seek, freeFor, substitute}
+use Rattle.rules.specs.Fill.{keptCount, keptNames, fillFor, fill}
 use Rattle.replace.proofs.FillTree.{fill-past, fill-here}
 
 -- the entries lifted

@@ -1,4 +1,1 @@
-pub mod Free
-pub mod Fill
-pub mod Prune
 pub mod Internal

@@ -15,7 +15,7 @@ ghost use lib.Dec.{leb};
 ghost use lib.ListN.{length, drop};
 ghost use Rattle.tree.specs.Form.{pick};
 ghost use Rattle.form.specs.Answer.{told, written};
-ghost use Rattle.subst.specs.Internal.Items.{items, store};
+ghost use Rattle.shift.specs.Internal.Items.{items, store};
 ghost use Rattle.replace.specs.Internal.Pieces.{sizes, longest, half, lengthRefusal, planFor, Tabled, Ready, shortWords, emitted, replacedWords, replaced};
 
 // The words, stored at the start of the output row.
@@ -35,7 +35,7 @@ fn emit(kind: Kind, words: &[u32], out: &mut [u32]) -> Answer
     ensures { λ r. ⌜ r ≡ told (emitted false kind (now (words .entry)) (length (now (out .entry)))) ⌝ }
     ensures { λ _. ⌜ now (out .exit) ≡ written (emitted false kind (now (words .entry)) (length (now (out .entry)))) (now (out .entry)) ⌝ }
 {
-    let Answer::Done(n) = form::check::check(words, kind) else {
+    let Answer::Done(n) = reader::check::check(words, kind) else {
         return Answer::No(7);
     };
     if out.len() < words.len() {

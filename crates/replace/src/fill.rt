@@ -11,14 +11,14 @@ use form::answer::Answer;
 use form::answer::Kind;
 use form::answer::Limit;
 use form::answer::ListKind;
-use form::lists::Table;
+use reader::lists::Table;
 ghost use mathlib.Core.Path.{_≡_};
 ghost use mathlib.Core.List.{[], _∷_};
 ghost use Prim.Native.Nat.{_+_, _≤_, _<_};
 ghost use lib.ListN.{length, getD, take, drop};
 ghost use Rattle.form.specs.Answer.{told, written};
-ghost use Rattle.subst.specs.Internal.Items.{store};
-ghost use Rattle.replace.specs.Fill.{fillOutcome};
+ghost use Rattle.shift.specs.Internal.Items.{store};
+ghost use Rattle.rules.specs.Fill.{fillOutcome};
 ghost use Rattle.replace.specs.Internal.Pieces.{Ready, fillPlan, keptWords, headWords, declaredIn, filledRow};
 
 // The number of declarations of a row that is a quantified predicate; 0 for any other.

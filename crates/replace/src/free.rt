@@ -10,21 +10,21 @@ use form::answer::Answer;
 use form::answer::Kind;
 use form::answer::Limit;
 use form::answer::ListKind;
-use form::lists::Table;
+use reader::lists::Table;
 ghost use mathlib.Core.Path.{_≡_};
 ghost use mathlib.Core.List.{[]};
 ghost use Prim.Native.Nat.{_≤_};
 ghost use lib.ListN.{length, drop};
 ghost use Rattle.form.specs.Answer.{told, written};
-ghost use Rattle.form.specs.Internal.Reads.{asExpr};
+ghost use Rattle.reader.specs.Internal.Reads.{asExpr};
 ghost use Rattle.form.specs.declared.answer.Kind.the-variants.{Either};
-ghost use Rattle.replace.specs.Free.{freeOutcome};
+ghost use Rattle.rules.specs.Free.{freeOutcome};
 ghost use Rattle.replace.specs.Internal.Pieces.{Ready, replaced, kindFor, freePlan};
 
 fn kind_of(row: &[u32]) -> Kind
     ensures { λ r. ⌜ r ≡ kindFor (asExpr Either (now (row .entry))) ⌝ }
 {
-    if form::check::is_expr(row, Kind::Either) {
+    if reader::check::is_expr(row, Kind::Either) {
         return Kind::Expression;
     }
     Kind::Predicate
@@ -92,7 +92,7 @@ pub fn substitute_free_idents(
     if !listed.ok {
         return Answer::No(2);
     }
-    if !form::lists::good_table(listed.table) {
+    if !reader::lists::good_table(listed.table) {
         return Answer::No(4);
     }
     substitute_marked(sure, list, row, listed.table, work, out)

@@ -1,12 +1,12 @@
 // Marks in the work row: the form's at its start, the list's from word 8,192 on.
 use form::answer::Answer;
 use form::answer::Kind;
-use form::check::is_expr;
-use form::head::Step;
 use form::answer::ListKind;
-use form::lists::Listed;
-use form::reader::expr_at;
-use form::reader::pred_at;
+use form::head::Step;
+use reader::check::is_expr;
+use reader::lists::Listed;
+use reader::reader::expr_at;
+use reader::reader::pred_at;
 ghost use mathlib.Core.Path.{_≡_};
 ghost use Prim.Native.Nat.{_+_, _≤_};
 ghost use lib.ListN.{length, take, drop, replicate};
@@ -15,9 +15,9 @@ ghost use Rattle.tree.specs.Tag.{expr, pred};
 ghost use Rattle.form.specs.Decode.{decode, formOf};
 ghost use Rattle.form.specs.Lists.{listOf};
 ghost use Rattle.form.specs.Answer.{told, checkOutcome};
-ghost use Rattle.form.specs.Internal.Reads.{Told, Marked, Listing};
+ghost use Rattle.reader.specs.Internal.Reads.{Told, Marked, Listing};
 ghost use Rattle.form.specs.declared.answer.Answer.the-variants.{No};
-ghost use Rattle.subst.specs.Internal.Items.{Fresh, store};
+ghost use Rattle.shift.specs.Internal.Items.{Fresh, store};
 ghost use Rattle.replace.specs.Internal.Pieces.{isFound, shallowForm, readingOf};
 
 // A row that is a form, and whether it is at most as deep as was asked first; or one that is none.
@@ -76,7 +76,7 @@ fn mark_front(row: &[u32], kind: Kind, depth: u32, marks: &mut [u32]) -> Reading
         return Reading::Taken(true);
     }
     clear(marks, 0, row.len());
-    let Answer::Done(n) = form::check::mark(row, kind, marks) else {
+    let Answer::Done(n) = reader::check::mark(row, kind, marks) else {
         return Reading::Refused;
     };
     Reading::Taken(false)
@@ -99,7 +99,7 @@ pub(crate) fn refuse_list(row: &[u32], kind: Kind) -> Answer
     requires { ⌜ length (now row) ≤ 8192 ⌝ }
     ensures { λ r. ⌜ r ≡ No (pick (isFound (formOf kind (now (row .entry)))) 1 2) ⌝ }
 {
-    let Answer::Done(n) = form::check::check(row, kind) else {
+    let Answer::Done(n) = reader::check::check(row, kind) else {
         return Answer::No(2);
     };
     Answer::No(1)
@@ -111,7 +111,7 @@ pub(crate) fn mark_fresh(row: &[u32], kind: Kind, marks: &mut [u32]) -> Answer
     ensures { λ r. ⌜ r ≡ told (checkOutcome kind (now (row .entry))) ⌝ }
     ensures { λ _. ⌜ Marked (formOf kind (now (row .entry))) (replicate (length (now (row .entry))) 0) (take (length (now (row .entry))) (now (marks .exit))) ⌝ }
 {
-    form::check::mark(row, kind, marks)
+    reader::check::mark(row, kind, marks)
 }
 
 // The entries of the list, which are marked from word 8,192 of the work row on.
@@ -121,5 +121,5 @@ pub(crate) fn mark_entries(list: &[u32], kind: ListKind, work: &mut [u32]) -> Li
     ensures { λ _. ⌜ take 8192 (now (work .exit)) ≡ take 8192 (now (work .entry)) ⌝ }
 {
     clear(work, 8192, list.len());
-    form::lists::mark_list(list, kind, &mut work[8192..])
+    reader::lists::mark_list(list, kind, &mut work[8192..])
 }

@@ -1,15 +1,15 @@
 // What stands for each name and index of a form, by a plan: itself, an index, or a part of the list row.
-use form::lists::Table;
-use subst::items::Item;
-use subst::items::item_at;
-use subst::items::put_item;
-use subst::items::size_of;
-use subst::shift::move_item;
+use reader::lists::Table;
+use shift::items::Item;
+use shift::items::item_at;
+use shift::items::put_item;
+use shift::items::size_of;
+use shift::shift::move_item;
 ghost use mathlib.Core.Path.{_≡_};
 ghost use mathlib.Core.List.{[], _∷_};
 ghost use Prim.Native.Nat.{_+_, _-_, _≤_, max};
 ghost use lib.ListN.{length, drop};
-ghost use Rattle.subst.specs.Internal.Items.{items, rewritten, movedWords, store};
+ghost use Rattle.shift.specs.Internal.Items.{items, rewritten, movedWords, store};
 ghost use Rattle.replace.specs.Internal.Pieces.{pieceWords, pieceSize, spot, filledWords, freePiece, fillPiece, pieceOf, planned, sizes, capped, longest, planFor, Tabled, Ready, Fits};
 
 // The item itself; an index; or the list row's words from a start to an end, their dangling indices moved up and down.

@@ -5,14 +5,14 @@ use crate::pieces::filled_from;
 use crate::pieces::write_part;
 use form::answer::Answer;
 use form::answer::Kind;
-use form::lists::Table;
+use reader::lists::Table;
 ghost use mathlib.Core.Path.{_≡_};
 ghost use Prim.Native.Nat.{_+_, _≤_};
 ghost use lib.Dec.{leb};
 ghost use lib.ListN.{length, drop};
 ghost use Rattle.tree.specs.Form.{pick};
 ghost use Rattle.form.specs.Answer.{told, written};
-ghost use Rattle.subst.specs.Internal.Items.{items, rewritten, movedWords, store};
+ghost use Rattle.shift.specs.Internal.Items.{items, rewritten, movedWords, store};
 ghost use Rattle.replace.specs.Internal.Pieces.{partsIn, isReady, placedRow};
 
 // Whether each of the first n parts lies in a row of so many words.

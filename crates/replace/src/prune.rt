@@ -9,17 +9,17 @@ use crate::pieces::one_if;
 use form::answer::Answer;
 use form::answer::Kind;
 use form::answer::Limit;
-use subst::items::Item;
-use subst::items::item_at;
-use subst::items::put_item;
-use subst::items::size_of;
+use shift::items::Item;
+use shift::items::item_at;
+use shift::items::put_item;
+use shift::items::size_of;
 ghost use mathlib.Core.Path.{_≡_};
 ghost use mathlib.Core.List.{[], _∷_};
 ghost use Prim.Native.Nat.{_+_, _-_, _≤_, _<_};
 ghost use lib.ListN.{length, drop};
 ghost use Rattle.form.specs.Answer.{told, written};
-ghost use Rattle.subst.specs.Internal.Items.{Fresh, items, rewritten, store};
-ghost use Rattle.replace.specs.Prune.{pruneOutcome};
+ghost use Rattle.shift.specs.Internal.Items.{Fresh, items, rewritten, store};
+ghost use Rattle.rules.specs.Prune.{pruneOutcome};
 ghost use Rattle.replace.specs.Internal.Pieces.{cleared, Falls, fallItem, fallenWords, droppedOutcome};
 
 // Sets the word of the declaration that the item uses, if any, to 0.

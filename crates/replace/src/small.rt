@@ -1,7 +1,7 @@
 // How deep a form may be so that it stays within the limits wherever expressions are put into it.
 use form::head::Step;
-use form::lists::Table;
-use form::reader::expr_at;
+use reader::lists::Table;
+use reader::reader::expr_at;
 ghost use mathlib.Core.Path.{_≡_};
 ghost use Prim.Native.Nat.{_≤_};
 ghost use lib.ListN.{length};

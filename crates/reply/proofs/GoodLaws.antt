@@ -19,13 +19,13 @@ use Rattle.form.specs.declared.answer.Kind.the-variants.{Predicate, Either}
 use Rattle.form.specs.declared.answer.ListKind.{ListKind}
 use Rattle.form.specs.declared.answer.ListKind.the-variants.{Pairs, Places}
 use Rattle.form.proofs.RowLaws.{found-exact, row-one}
-use Rattle.subst.specs.Shift.{shift, ofShifted, shiftOutcome}
-use Rattle.subst.specs.Bind.{bind, bindOutcome}
-use Rattle.replace.specs.Free.{substitute, freeOutcome}
-use Rattle.replace.specs.Fill.{Quantified, quantifier, other, quantified, ofQuantified, keptCount, fill, fillOutcome}
-use Rattle.replace.specs.Prune.{usedPlaces, prune, pruneOutcome}
-use Rattle.one_point.specs.Point.{onePoint, ofResult, pointOutcome}
-use Rattle.one_point.specs.Member.{membership, memberOutcome}
+use Rattle.rules.specs.Shift.{shift, ofShifted, shiftOutcome}
+use Rattle.rules.specs.Bind.{bind, bindOutcome}
+use Rattle.rules.specs.Free.{substitute, freeOutcome}
+use Rattle.rules.specs.Fill.{Quantified, quantifier, other, quantified, ofQuantified, keptCount, fill, fillOutcome}
+use Rattle.rules.specs.Prune.{usedPlaces, prune, pruneOutcome}
+use Rattle.rules.specs.Point.{onePoint, ofResult, pointOutcome}
+use Rattle.rules.specs.Member.{membership, memberOutcome}
 use Rattle.spell.specs.Spell.{digits, decimal, spell, spellNo, printOutcome, printNo}
 use Rattle.line.specs.Line.{Formed, formed, readLine}
 use Rattle.spell.proofs.PrintLaws.{spell-few}

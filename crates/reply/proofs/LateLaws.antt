@@ -15,19 +15,19 @@ use Rattle.tree.specs.Tag.{Sort}
 use Rattle.form.specs.Decode.{Found, found, missing, formOf}
 use Rattle.form.specs.Lists.{Entry, listOf}
 use Rattle.form.specs.Answer.{Outcome, answer, refusal, told, written, within, ofFound, ofList, withForm, needs, checkOutcome}
-use Rattle.form.specs.Internal.Reads.{asExpr, Listing}
+use Rattle.reader.specs.Internal.Reads.{asExpr, Listing}
 use Rattle.form.specs.declared.answer.Kind.{Kind}
 use Rattle.form.specs.declared.answer.Kind.the-variants.{Either}
 use Rattle.form.specs.declared.answer.Answer.{Answer}
 use Rattle.form.specs.declared.answer.Answer.the-variants.{Done, No}
 use Rattle.form.specs.declared.answer.ListKind.{ListKind}
 use Rattle.form.specs.declared.answer.ListKind.the-variants.{Pairs, Places}
-use Rattle.form.specs.declared.lists.Listed.{Listed}
+use Rattle.reader.specs.declared.lists.Listed.{Listed}
 use Rattle.form.proofs.DecodeLaws.{clash}
-use Rattle.form.proofs.CheckLaws.{form-of}
+use Rattle.reader.proofs.CheckLaws.{form-of}
 use Rattle.form.proofs.RowLaws.{row-short, found-exact}
 use Rattle.tree.proofs.Ranges.{split}
-use Rattle.form.proofs.TableLaws.{listing-no, listing-yes}
+use Rattle.reader.proofs.TableLaws.{listing-no, listing-yes}
 use Rattle.spell.specs.Spell.{spells, fitsForm, fitsList, fitsNames}
 use Rattle.line.specs.Line.{listRow}
 use Rattle.line.specs.declared.head.Head.{Head}

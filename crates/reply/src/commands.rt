@@ -86,7 +86,7 @@ pub(crate) fn run_command(
     ensures { λ _. ⌜ now (result .exit) ≡ written (runOutcome head offset (now (list .entry)) (now (row .entry)) (length (now (work .entry))) (length (now (result .entry)))) (now (result .entry)) ⌝ }
 {
     match head {
-        Head::Shift => subst::shift::shift_bound_identifiers(row, offset, result),
+        Head::Shift => shift::shift::shift_bound_identifiers(row, offset, result),
         Head::Free => replace::free::substitute_free_idents(list, row, work, result),
         Head::Bind => subst::bind::bind_idents(list, row, result),
         Head::Fill => replace::fill::instantiate(list, row, work, result),

@@ -2,10 +2,10 @@
 use form::answer::Answer;
 use form::answer::Kind;
 use form::answer::Limit;
-use form::check::is_expr;
 use form::answer::ListKind;
-use form::lists::mark_list;
 use line::line::Part;
+use reader::check::is_expr;
+use reader::lists::mark_list;
 ghost use mathlib.Core.Path.{_≡_};
 ghost use mathlib.Core.List.{[]};
 ghost use Rattle.form.specs.Answer.{told, answer, withForm, needs};
@@ -17,7 +17,7 @@ ghost use Rattle.reply.specs.Internal.Parts.{Held, formWords};
 fn check_row(row: &[u32], kind: Kind, fits: bool) -> Answer
     ensures { λ r. ⌜ r ≡ told (withForm kind (now (row .entry)) (λ s f. needs 8 fits (answer []))) ⌝ }
 {
-    let checked = form::check::check(row, kind);
+    let checked = reader::check::check(row, kind);
     let Answer::Done(m) = checked else {
         return checked;
     };

@@ -14,9 +14,9 @@ use Rattle.form.specs.Answer.{Outcome, answer, refusal, told, lengthOf, needs, 
 use Rattle.form.specs.declared.answer.Kind.the-variants.{Either}
 use Rattle.form.specs.declared.answer.Answer.the-variants.{Done}
 use Rattle.form.proofs.RowLaws.{row-short}
-use Rattle.subst.specs.Walk.{lift}
-use Rattle.subst.specs.Dangling.{closed}
-use Rattle.subst.specs.Lift.{Part, base, copy, empty, ofCopy, liftFound, liftPart}
+use Rattle.rules.specs.Walk.{lift}
+use Rattle.rules.specs.Dangling.{closed}
+use Rattle.rules.specs.Lift.{Part, base, copy, empty, ofCopy, liftFound, liftPart}
 use Rattle.subst.specs.Internal.Lifting.{madeOf}
 use Rattle.sogbayile.specs.Code.{codeOf, partCode}
 use Rattle.sogbayile.specs.Internal.{partLength, madeCode}

@@ -19,15 +19,15 @@ use Rattle.form.specs.declared.answer.Kind.the-variants.{Either, Predicate}
 use Rattle.form.specs.declared.answer.ListKind.{ListKind}
 use Rattle.form.specs.declared.answer.ListKind.the-variants.{Pairs, Places}
 use Rattle.form.proofs.RowLaws.{found-exact, row-exact}
-use Rattle.subst.specs.Walk.{Binding, inside, outside, binding, collectIndex, collect, collectAll}
-use Rattle.subst.specs.Dangling.{indexOf, insert, insertAll, danglingSet, danglingOutcome}
-use Rattle.subst.specs.Shift.{shift, ofShifted, shiftOutcome}
-use Rattle.subst.specs.Bind.{bind, bindOutcome}
-use Rattle.replace.specs.Free.{substitute, freeOutcome}
-use Rattle.replace.specs.Fill.{Quantified, quantifier, other, quantified, keptCount, fill, ofQuantified, fillOutcome}
-use Rattle.replace.specs.Prune.{usedPlaces, prune, pruneOutcome}
-use Rattle.one_point.specs.Point.{ofResult, onePoint, pointOutcome}
-use Rattle.one_point.specs.Member.{membership, memberOutcome}
+use Rattle.rules.specs.Walk.{Binding, inside, outside, binding, collectIndex, collect, collectAll}
+use Rattle.rules.specs.Dangling.{indexOf, insert, insertAll, danglingSet, danglingOutcome}
+use Rattle.rules.specs.Shift.{shift, ofShifted, shiftOutcome}
+use Rattle.rules.specs.Bind.{bind, bindOutcome}
+use Rattle.rules.specs.Free.{substitute, freeOutcome}
+use Rattle.rules.specs.Fill.{Quantified, quantifier, other, quantified, keptCount, fill, ofQuantified, fillOutcome}
+use Rattle.rules.specs.Prune.{usedPlaces, prune, pruneOutcome}
+use Rattle.rules.specs.Point.{ofResult, onePoint, pointOutcome}
+use Rattle.rules.specs.Member.{membership, memberOutcome}
 use Rattle.sogbayile.specs.Code.{codeOf}
 use Rattle.sogbayile.proofs.CodeLaws.{finish-short}
 

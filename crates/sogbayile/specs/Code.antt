@@ -4,7 +4,7 @@ use Prim.Native.Nat.{ℕ, _+_, _*_, _^_}
 use lib.ListN.{length}
 use Rattle.form.specs.Answer.{number, lengthOf}
 use Rattle.form.specs.declared.answer.Answer.{Answer}
-use Rattle.subst.specs.Lift.{Part, base, copy, empty}
+use Rattle.rules.specs.Lift.{Part, base, copy, empty}
 use Rattle.one_point.specs.declared.replacements.Replacements.{Replacements}
 
 -- a first number, counted in steps of 2 ^ 32, and a second one

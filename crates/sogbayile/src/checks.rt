@@ -11,7 +11,7 @@ ghost use Rattle.sogbayile.specs.Code.{codeOf};
 pub extern "C" fn sgb_check(row: &[u32]) -> u64
     ensures { λ r. ⌜ r ≡ codeOf (told (checkOutcome Either (now (row .entry)))) ⌝ }
 {
-    code_of(form::check::check(row, Kind::Either))
+    code_of(reader::check::check(row, Kind::Either))
 }
 
 // Whether the row is exactly one expression.
@@ -19,7 +19,7 @@ pub extern "C" fn sgb_check(row: &[u32]) -> u64
 pub extern "C" fn sgb_check_expression(row: &[u32]) -> u64
     ensures { λ r. ⌜ r ≡ codeOf (told (checkOutcome Expression (now (row .entry)))) ⌝ }
 {
-    code_of(form::check::check(row, Kind::Expression))
+    code_of(reader::check::check(row, Kind::Expression))
 }
 
 // Whether the row is exactly one predicate.
@@ -27,7 +27,7 @@ pub extern "C" fn sgb_check_expression(row: &[u32]) -> u64
 pub extern "C" fn sgb_check_predicate(row: &[u32]) -> u64
     ensures { λ r. ⌜ r ≡ codeOf (told (checkOutcome Predicate (now (row .entry)))) ⌝ }
 {
-    code_of(form::check::check(row, Kind::Predicate))
+    code_of(reader::check::check(row, Kind::Predicate))
 }
 
 // Whether the row is a list of names to bind.
@@ -35,7 +35,7 @@ pub extern "C" fn sgb_check_predicate(row: &[u32]) -> u64
 pub extern "C" fn sgb_check_names(row: &[u32]) -> u64
     ensures { λ r. ⌜ r ≡ codeOf (told (namesOutcome (now (row .entry)))) ⌝ }
 {
-    code_of(form::lists::check_names(row))
+    code_of(reader::lists::check_names(row))
 }
 
 // Whether the row is a list of names, each with its expression.
@@ -43,7 +43,7 @@ pub extern "C" fn sgb_check_names(row: &[u32]) -> u64
 pub extern "C" fn sgb_check_pairs(row: &[u32]) -> u64
     ensures { λ r. ⌜ r ≡ codeOf (told (pairsOutcome (now (row .entry)))) ⌝ }
 {
-    code_of(form::lists::check_pairs(row))
+    code_of(reader::lists::check_pairs(row))
 }
 
 // Whether the row is a list of places for n declarations.
@@ -51,5 +51,5 @@ pub extern "C" fn sgb_check_pairs(row: &[u32]) -> u64
 pub extern "C" fn sgb_check_places(row: &[u32], n: u32) -> u64
     ensures { λ r. ⌜ r ≡ codeOf (told (placesOutcome n (now (row .entry)))) ⌝ }
 {
-    code_of(form::lists::check_places(row, n))
+    code_of(reader::lists::check_places(row, n))
 }

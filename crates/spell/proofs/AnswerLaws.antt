@@ -12,12 +12,12 @@ use Rattle.tree.specs.Form.{Form, pick, encode}
 use Rattle.tree.specs.Tag.{Sort, expr, pred}
 use Rattle.form.specs.Decode.{got, decode, Whole, one, not-one, whole, rowForm, Found, found, missing, asSort, formOf}
 use Rattle.form.specs.Answer.{told, written}
-use Rattle.form.specs.Internal.Reads.{asExpr}
+use Rattle.reader.specs.Internal.Reads.{asExpr}
 use Rattle.form.specs.declared.answer.Kind.the-variants.{Either}
 use Rattle.form.specs.declared.answer.Answer.the-variants.{Done, No}
 use Rattle.form.proofs.DecodeLaws.{clash, decode-sound}
 use Rattle.form.proofs.HeadLaws.{gone, here}
-use Rattle.form.proofs.CheckLaws.{form-of}
+use Rattle.reader.proofs.CheckLaws.{form-of}
 use Rattle.form.proofs.RowLaws.{row-exact, found-exact}
 use Rattle.spell.specs.Put.{put}
 use Rattle.spell.specs.Spell.{decimal, spell, spellNo, printOutcome, printNo, sameBytes}

@@ -9,7 +9,7 @@ use Rattle.tree.specs.Form.{Leaf, free, bound, Form, leaf, node, Forms, none, m
 use Rattle.tree.specs.Tag.{Sort}
 use Rattle.form.specs.Decode.{Got, got, no-form, Gots, gots, no-forms, addForm, chain, decodeAll, decode}
 use Rattle.form.proofs.DecodeLaws.{clash, decode-sound, all-sound, decode-at}
-use Rattle.form.proofs.ReaderLaws.{no-both}
+use Rattle.reader.proofs.ReaderLaws.{no-both}
 use Rattle.spell.specs.Spell.{decimal, spaced, bracket, spellLeaf, spell, spellAll}
 use Rattle.spell.specs.Put.{put}
 use Rattle.spell.specs.Internal.Writes.{Wrote, Printed, PrintedAll}

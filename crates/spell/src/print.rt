@@ -5,7 +5,7 @@ use crate::decimal::put_spaced;
 use form::head::Head;
 use form::head::expr_head;
 use form::head::pred_head;
-use form::reader::is_leaf;
+use reader::reader::is_leaf;
 ghost use mathlib.Core.List.{[], _∷_, _++_};
 ghost use Prim.Native.Nat.{_+_, _-_, _*_, _^_, _<_, _≤_};
 ghost use lib.ListN.{length, getD, take, drop, replicate};

@@ -45,6 +45,6 @@ pub(crate) fn print_row(row: &[u32], out: &mut [u8]) -> Spelled
     requires { ⌜ length (now row) ≤ 8192 ⌝ }
     ensures { λ r. ⌜ PrintedForm (formOf Either (now (row .entry))) (now (out .entry)) (now (out .exit)) r ⌝ }
 {
-    let expression = form::check::is_expr(row, Kind::Either);
+    let expression = reader::check::is_expr(row, Kind::Either);
     print_sort(row, out, expression)
 }

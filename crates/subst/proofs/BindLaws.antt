@@ -12,23 +12,23 @@ use Rattle.tree.specs.Tag.{Sort}
 use Rattle.form.specs.Decode.{missing, formOf}
 use Rattle.form.specs.Lists.{distinct, goodNames}
 use Rattle.form.specs.Answer.{refusal, finish}
-use Rattle.form.specs.Internal.Reads.{mark}
+use Rattle.reader.specs.Internal.Reads.{mark}
 use Rattle.form.specs.declared.answer.Kind.the-variants.{Either}
 use Rattle.form.proofs.DecodeLaws.{Ok}
 use Rattle.form.proofs.HeadLaws.{between-in, here, gone}
-use Rattle.subst.specs.Walk.{Binding, inside, outside, binding, Outer, named, dangling, walkIndex, walkLeaf, walk, up, put}
-use Rattle.subst.specs.Bind.{bindName, bindFor, bind, bindOutcome}
-use Rattle.subst.specs.Internal.Items.{sizeOf, wordsOf, itemIn, moveWord, sameLength}
+use Rattle.rules.specs.Walk.{Binding, inside, outside, binding, Outer, named, dangling, walkIndex, walkLeaf, walk, up, put}
+use Rattle.rules.specs.Bind.{bindName, bindFor, bind, bindOutcome}
+use Rattle.shift.specs.Internal.Items.{sizeOf, wordsOf, itemIn, moveWord, sameLength}
 use Rattle.subst.specs.Internal.Binding.{seekName, spotItem, boundItem, boundWords, bindWords}
-use Rattle.subst.specs.declared.items.Item.{Item}
-use Rattle.subst.specs.declared.items.Item.the-variants.{Plain, Ident}
+use Rattle.shift.specs.declared.items.Item.{Item}
+use Rattle.shift.specs.declared.items.Item.the-variants.{Plain, Ident}
 use Rattle.subst.specs.declared.bind.Spot.{Spot}
 use Rattle.subst.specs.declared.bind.Spot.the-variants.{At, Nowhere}
-use Rattle.subst.proofs.WalkLaws.{binding-inside, binding-back, and-left, and-right, each-agree, walk-agree}
-use Rattle.subst.proofs.LimitLaws.{fineLeaf, fine, tight, ok-tight, walk-length, inside-limits}
-use Rattle.subst.proofs.CheckedLaws.{Checked}
-use Rattle.subst.proofs.RowLaws.{identOf, marked-items, walk-items, each-items}
-use Rattle.subst.proofs.ShiftLaws.{inRange, range-leaf, range-word, same-test, between-high}
+use Rattle.rules.proofs.WalkLaws.{binding-inside, binding-back, and-left, and-right, each-agree, walk-agree}
+use Rattle.rules.proofs.LimitLaws.{fineLeaf, fine, tight, ok-tight, walk-length, inside-limits}
+use Rattle.shift.proofs.CheckedLaws.{Checked}
+use Rattle.shift.proofs.RowLaws.{identOf, marked-items, walk-items, each-items}
+use Rattle.shift.proofs.ShiftLaws.{inRange, range-leaf, range-word, same-test, between-high}
 
 -- the names, one after another
 module _ (ns : List ℕ) (m i : ℕ) where

@@ -16,18 +16,18 @@ use Rattle.form.specs.Answer.{refusal, told, written}
 use Rattle.form.specs.declared.answer.Kind.the-variants.{Either}
 use Rattle.form.specs.declared.answer.Answer.the-variants.{Done}
 use Rattle.form.proofs.HeadLaws.{here, gone}
-use Rattle.subst.specs.Walk.{Binding, inside, outside, binding, Outer, named, dangling, collectIndex, collectLeaf, collect, collectAll}
-use Rattle.subst.specs.Dangling.{indexOf, insert, insertAll, danglingSet, danglingOutcome}
-use Rattle.subst.specs.Internal.Items.{items, sizeOf, itemAt, rewritten, allItems, itemIn, store}
+use Rattle.rules.specs.Walk.{Binding, inside, outside, binding, Outer, named, dangling, collectIndex, collectLeaf, collect, collectAll}
+use Rattle.rules.specs.Dangling.{indexOf, insert, insertAll, danglingSet, danglingOutcome}
+use Rattle.shift.specs.Internal.Items.{items, sizeOf, itemAt, rewritten, allItems, itemIn, store}
 use Rattle.subst.specs.Internal.Flags.{indexWords, flagAll, flagWords, selected, Flagging, setWords}
-use Rattle.subst.specs.declared.items.Item.{Item}
-use Rattle.subst.specs.declared.items.Item.the-variants.{Plain, Ident}
-use Rattle.subst.proofs.WalkLaws.{binding-inside, binding-back, and-left, and-right, each-all}
-use Rattle.subst.proofs.LimitLaws.{small, ok-small}
-use Rattle.subst.proofs.CheckedLaws.{Checked}
-use Rattle.subst.proofs.RowLaws.{identOf, plain, itemsOf, itemsAll, marked-items, rewritten-append, each-items}
-use Rattle.subst.proofs.ItemLaws.{next, store-append, stored}
-use Rattle.subst.proofs.ShiftLaws.{inRange, range-leaf, range-word, between-high}
+use Rattle.shift.specs.declared.items.Item.{Item}
+use Rattle.shift.specs.declared.items.Item.the-variants.{Plain, Ident}
+use Rattle.rules.proofs.WalkLaws.{binding-inside, binding-back, and-left, and-right, each-all}
+use Rattle.rules.proofs.LimitLaws.{small, ok-small}
+use Rattle.shift.proofs.CheckedLaws.{Checked}
+use Rattle.shift.proofs.RowLaws.{identOf, plain, itemsOf, itemsAll, marked-items, rewritten-append, each-items}
+use Rattle.shift.proofs.ItemLaws.{next, store-append, stored}
+use Rattle.shift.proofs.ShiftLaws.{inRange, range-leaf, range-word, between-high}
 
 -- what is collected over the tree is put together item by item
 module _ (g : Item → List ℕ) (p : ℕ → Outer → List ℕ) (skip : (w : ℕ) → g (Plain w) ≡ []) (does : (k : ℕ) (x : Leaf) → g (identOf k x) ≡ collectLeaf [] p k x) where

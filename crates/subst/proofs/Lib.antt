@@ -1,12 +1,3 @@
-pub mod WalkLaws
-pub mod LimitLaws
-pub mod RowLaws
-pub mod ItemLaws
-pub mod CheckedLaws
-pub mod SameLengthLaws
-pub mod SignedLaws
-pub mod ShiftLaws
-pub mod TreeLaws
 pub mod BindLaws
 pub mod LiftLaws
 pub mod DanglingLaws

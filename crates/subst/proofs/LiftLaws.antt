@@ -10,22 +10,22 @@ use lib.Seq.{take-append-seam}
 use Rattle.tree.specs.Form.{Form, encode}
 use Rattle.form.specs.Decode.{missing, formOf}
 use Rattle.form.specs.Answer.{Outcome, answer, refusal, told, written}
-use Rattle.form.specs.Internal.Reads.{mark}
+use Rattle.reader.specs.Internal.Reads.{mark}
 use Rattle.form.specs.declared.answer.Kind.the-variants.{Either}
 use Rattle.form.specs.declared.answer.Answer.{Answer}
 use Rattle.form.specs.declared.answer.Answer.the-variants.{Done, No}
 use Rattle.form.proofs.DecodeLaws.{clash}
-use Rattle.subst.specs.Walk.{Outer, named, dangling}
-use Rattle.subst.specs.Dangling.{isNamed, closed}
-use Rattle.subst.specs.Lift.{Part, base, copy, empty, ofCopy, liftPart, partWords, partAt, workAfter}
-use Rattle.subst.specs.Internal.Items.{items, allItems, itemIn, shiftWords}
+use Rattle.rules.specs.Walk.{Outer, named, dangling}
+use Rattle.rules.specs.Dangling.{isNamed, closed}
+use Rattle.rules.specs.Lift.{Part, base, copy, empty, ofCopy, liftPart, partWords, partAt, workAfter}
+use Rattle.shift.specs.Internal.Items.{items, allItems, itemIn, shiftWords}
 use Rattle.subst.specs.Internal.Lifting.{madeOf, chosen, chosenAt}
 use Rattle.subst.specs.declared.lift.Made.{Made}
 use Rattle.subst.specs.declared.lift.Made.the-variants.{Base, Copy, Nothing}
-use Rattle.subst.proofs.WalkLaws.{each-same}
-use Rattle.subst.proofs.CheckedLaws.{Checked}
-use Rattle.subst.proofs.RowLaws.{marked-items, each-items}
-use Rattle.subst.proofs.ShiftLaws.{inRange, range-leaf, range-word, up-tree}
+use Rattle.rules.proofs.WalkLaws.{each-same}
+use Rattle.shift.proofs.CheckedLaws.{Checked}
+use Rattle.shift.proofs.RowLaws.{marked-items, each-items}
+use Rattle.shift.proofs.ShiftLaws.{inRange, range-leaf, range-word, up-tree}
 
 -- no index passes the test below 0: nothing dangles
 none-in : (k : ℕ) (x : Outer) → inRange 0 0 k x ≡ isNamed k x

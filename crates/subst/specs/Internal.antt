@@ -1,5 +1,4 @@
 -- What the contracts of private functions cite. Nothing here is needed to read a public contract.
-pub mod Items
 pub mod Binding
 pub mod Lifting
 pub mod Flags

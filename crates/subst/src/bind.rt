@@ -1,20 +1,20 @@
 // Bind: named free identifiers become indices, ready to be put under a quantifier that declares them.
-use crate::items::Item;
-use crate::items::all_in;
-use crate::items::item_at;
-use crate::items::put_item;
-use crate::items::size_of;
-use crate::shift::move_word;
-use crate::shift::top_of;
 use form::answer::Answer;
 use form::answer::Kind;
 use form::answer::Limit;
+use shift::items::Item;
+use shift::items::all_in;
+use shift::items::item_at;
+use shift::items::put_item;
+use shift::items::size_of;
+use shift::shift::move_word;
+use shift::shift::top_of;
 ghost use mathlib.Core.Path.{_≡_};
 ghost use Prim.Native.Nat.{_≤_};
 ghost use lib.ListN.{length};
 ghost use Rattle.form.specs.Answer.{told, written};
-ghost use Rattle.subst.specs.Bind.{bindOutcome};
-ghost use Rattle.subst.specs.Internal.Items.{Fresh, items, rewritten, store};
+ghost use Rattle.rules.specs.Bind.{bindOutcome};
+ghost use Rattle.shift.specs.Internal.Items.{Fresh, items, rewritten, store};
 ghost use Rattle.subst.specs.Internal.Binding.{seekName, boundItem, boundWords, bindWords};
 
 // How many names follow the one that is sought, or that it is not there.
@@ -90,13 +90,13 @@ fn bind_in(names: &[u32], row: &[u32], marks: &mut [u32], out: &mut [u32]) -> An
     ensures { λ r. ⌜ r ≡ told (bindOutcome (now (names .entry)) (now (row .entry)) (length (now (out .entry)))) ⌝ }
     ensures { λ _. ⌜ now (out .exit) ≡ written (bindOutcome (now (names .entry)) (now (row .entry)) (length (now (out .entry)))) (now (out .entry)) ⌝ }
 {
-    let Answer::Done(n) = form::check::mark(row, Kind::Either, marks) else {
+    let Answer::Done(n) = reader::check::mark(row, Kind::Either, marks) else {
         return Answer::No(2);
     };
     if Limit::WORDS < names.len() {
         return Answer::No(1);
     }
-    if !form::lists::good_names(names) {
+    if !reader::lists::good_names(names) {
         return Answer::No(4);
     }
     bind_marked(row, marks, names, out)

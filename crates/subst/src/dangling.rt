@@ -1,18 +1,18 @@
 // The dangling indices of a form, ascending and each once.
-use crate::items::Item;
-use crate::items::all_in;
-use crate::items::item_at;
-use crate::items::size_of;
 use form::answer::Answer;
 use form::answer::Kind;
 use form::answer::Limit;
+use shift::items::Item;
+use shift::items::all_in;
+use shift::items::item_at;
+use shift::items::size_of;
 ghost use mathlib.Core.Path.{_≡_};
 ghost use mathlib.Core.Bool.{true};
 ghost use Prim.Native.Nat.{_+_, _≤_, _<_};
 ghost use lib.ListN.{length};
 ghost use Rattle.form.specs.Answer.{told, written};
-ghost use Rattle.subst.specs.Dangling.{danglingOutcome};
-ghost use Rattle.subst.specs.Internal.Items.{Fresh, items, rewritten, allItems, itemIn, store};
+ghost use Rattle.rules.specs.Dangling.{danglingOutcome};
+ghost use Rattle.shift.specs.Internal.Items.{Fresh, items, rewritten, allItems, itemIn, store};
 ghost use Rattle.subst.specs.Internal.Flags.{indexWords, flagAll, flagWords, selected, Flagging, setWords};
 
 // Flags the index of an item that dangles.
@@ -129,7 +129,7 @@ fn dangling_in(row: &[u32], marks: &mut [u32], out: &mut [u32]) -> Answer
     ensures { λ r. ⌜ r ≡ told (danglingOutcome (now (row .entry)) (length (now (out .entry)))) ⌝ }
     ensures { λ _. ⌜ now (out .exit) ≡ written (danglingOutcome (now (row .entry)) (length (now (out .entry)))) (now (out .entry)) ⌝ }
 {
-    let Answer::Done(n) = form::check::mark(row, Kind::Either, marks) else {
+    let Answer::Done(n) = reader::check::mark(row, Kind::Either, marks) else {
         return Answer::No(2);
     };
     set_marked(row, marks, out)

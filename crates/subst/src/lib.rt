@@ -1,6 +1,4 @@
 // Substitutions that respect binding depth and keep a form's length, and the dangling set.
 pub mod bind;
 pub mod dangling;
-pub mod items;
 pub mod lift;
-pub mod shift;

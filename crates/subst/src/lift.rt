@@ -1,13 +1,13 @@
 // Lift: a form shifted up by a depth, as a part of one of two lent rows.
-use crate::items::all_in;
-use crate::shift::shift_marked;
 use form::answer::Answer;
 use form::answer::Kind;
 use form::answer::Limit;
+use shift::items::all_in;
+use shift::shift::shift_marked;
 ghost use mathlib.Core.Path.{_≡_};
 ghost use lib.ListN.{length};
-ghost use Rattle.subst.specs.Lift.{liftPart, partWords, partAt, workAfter};
-ghost use Rattle.subst.specs.Internal.Items.{Fresh};
+ghost use Rattle.rules.specs.Lift.{liftPart, partWords, partAt, workAfter};
+ghost use Rattle.shift.specs.Internal.Items.{Fresh};
 ghost use Rattle.subst.specs.Internal.Lifting.{madeOf, chosen, chosenAt};
 
 // Which part is the answer: all of the base, the first words of the work row, or none.
@@ -23,7 +23,7 @@ fn copy_in(base: &[u32], depth: u32, marks: &mut [u32], work: &mut [u32]) -> Mad
     ensures { λ r. ⌜ r ≡ madeOf (liftPart (now (base .entry)) depth (length (now (work .entry)))) ⌝ }
     ensures { λ _. ⌜ now (work .exit) ≡ workAfter (liftPart (now (base .entry)) depth (length (now (work .entry)))) (now (work .entry)) ⌝ }
 {
-    let Answer::Done(n) = form::check::mark(base, Kind::Either, marks) else {
+    let Answer::Done(n) = reader::check::mark(base, Kind::Either, marks) else {
         return Made::Nothing;
     };
     if depth == 0 {

@@ -12,16 +12,16 @@ use Rattle.tree.specs.Tag.{expr, pred}
 use Rattle.form.specs.Decode.{got, gots, decode}
 use Rattle.form.specs.Lists.{Place, kept, filled}
 use Rattle.form.specs.Answer.{Outcome}
-use Rattle.form.specs.Internal.Reads.{mark}
-use Rattle.form.specs.declared.lists.Table.{Table}
-use Rattle.subst.specs.Walk.{lift, each}
-use Rattle.subst.specs.Internal.Items.{items, rewritten, movedWords}
-use Rattle.replace.specs.Fill.{quantify}
+use Rattle.reader.specs.Internal.Reads.{mark}
+use Rattle.reader.specs.declared.lists.Table.{Table}
+use Rattle.rules.specs.Walk.{lift, each}
+use Rattle.shift.specs.Internal.Items.{items, rewritten, movedWords}
+use Rattle.rules.specs.Fill.{quantify}
 use Rattle.replace.specs.Internal.Pieces.{part, headWords, placedRow}
-use Rattle.one_point.specs.Replacement.{indexOf}
-use Rattle.one_point.specs.Split.{equal, parts}
-use Rattle.one_point.specs.Partial.{noPlaces, instantiatePartial}
-use Rattle.one_point.specs.Member.{isFree, anyFilled, memberOf, membership}
+use Rattle.rules.specs.Replacement.{indexOf}
+use Rattle.rules.specs.Split.{equal, parts}
+use Rattle.rules.specs.Partial.{noPlaces, instantiatePartial}
+use Rattle.rules.specs.Member.{isFree, anyFilled, memberOf, membership}
 use Rattle.one_point.specs.Internal.Parts.{readAll, Beside}
 use Rattle.one_point.specs.Internal.Rest.{innerEnd}
 use Rattle.one_point.specs.Internal.Reduce.{innerStart}
@@ -31,7 +31,7 @@ use Rattle.one_point.specs.declared.sides.Index.{Index}
 use Rattle.one_point.specs.declared.sides.Index.the-variants.{Bound, Unbound}
 use Rattle.one_point.specs.declared.member.Comprehension.{Comprehension}
 use Rattle.one_point.specs.declared.member.Membership.{Membership}
-use Rattle.one_point.specs.Scan.{joinAll}
+use Rattle.rules.specs.Scan.{joinAll}
 use Rattle.one_point.specs.declared.member.Membership.the-variants.{In, Not}
 
 -- the places that parts fill, each by its side of the element, and the parts that are left

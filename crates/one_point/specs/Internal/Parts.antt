@@ -10,9 +10,9 @@ use Rattle.tree.specs.Tag.{expr}
 use Rattle.form.specs.Decode.{Gots, gots, no-forms, decode, decodeAll}
 use Rattle.form.specs.declared.head.Step.{Step}
 use Rattle.form.specs.declared.head.Step.the-variants.{End, Bad}
-use Rattle.one_point.specs.Replacement.{Taken, taken, nothing}
-use Rattle.one_point.specs.Split.{partsAll}
-use Rattle.one_point.specs.Scan.{Scans, scans, present, copied, offerParts}
+use Rattle.rules.specs.Replacement.{Taken, taken, nothing}
+use Rattle.rules.specs.Split.{partsAll}
+use Rattle.rules.specs.Scan.{Scans, scans, present, copied, offerParts}
 use Rattle.one_point.specs.Internal.Sides.{endAt, replacementWords, aboveWords}
 use Rattle.one_point.specs.Internal.Writes.{Wrote}
 use Rattle.one_point.specs.declared.parts.Search.{Search}

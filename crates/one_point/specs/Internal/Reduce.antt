@@ -9,13 +9,13 @@ use Rattle.tree.specs.Form.{Form, pick}
 use Rattle.tree.specs.Tag.{expr, pred}
 use Rattle.form.specs.Decode.{Got, got, no-form, decode}
 use Rattle.form.specs.Answer.{Outcome, refusal, finish}
-use Rattle.form.specs.Internal.Reads.{mark}
-use Rattle.form.specs.declared.lists.Table.{Table}
+use Rattle.reader.specs.Internal.Reads.{mark}
+use Rattle.reader.specs.declared.lists.Table.{Table}
 use Rattle.replace.specs.Internal.Pieces.{declaredIn, areNames, Leaves}
-use Rattle.one_point.specs.Replacement.{above}
-use Rattle.one_point.specs.Scan.{scan}
-use Rattle.one_point.specs.Partial.{noPlaces, setPlace, instantiatePartial}
-use Rattle.one_point.specs.Point.{polarity, reduce, ofResult}
+use Rattle.rules.specs.Replacement.{above}
+use Rattle.rules.specs.Scan.{scan}
+use Rattle.rules.specs.Partial.{noPlaces, setPlace, instantiatePartial}
+use Rattle.rules.specs.Point.{polarity, reduce, ofResult}
 use Rattle.one_point.specs.declared.one_point_inference.Quantifier.{Quantifier}
 use Rattle.one_point.specs.declared.one_point_inference.Quantifier.the-variants.{Of, None}
 

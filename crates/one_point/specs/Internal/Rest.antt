@@ -8,11 +8,11 @@ use lib.ListN.{length, getD, take, drop}
 use Rattle.tree.specs.Form.{pick}
 use Rattle.form.specs.Answer.{Outcome}
 use Rattle.form.specs.declared.answer.Kind.the-variants.{Predicate}
-use Rattle.form.specs.declared.lists.Table.{Table}
-use Rattle.subst.specs.Internal.Items.{items, rewritten}
+use Rattle.reader.specs.declared.lists.Table.{Table}
+use Rattle.shift.specs.Internal.Items.{items, rewritten}
 use Rattle.replace.specs.Internal.Pieces.{filledWords, planned, keptWords, headWords, emitted}
 use Rattle.replace.specs.declared.pieces.Plan.{Plan}
-use Rattle.one_point.specs.Split.{isNil}
+use Rattle.rules.specs.Split.{isNil}
 
 abbrev pub restPlan : Table → Plan
 restPlan t = record { table = t; fills = true; gone = filledWords (take (t .n) (t .words)); down = t .n }

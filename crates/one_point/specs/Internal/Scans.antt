@@ -8,9 +8,9 @@ use lib.ListN.{length, drop, replicate}
 use Rattle.tree.specs.Form.{Form, Forms, none, pick, count, encode, encodeAll}
 use Rattle.tree.specs.Tag.{pred}
 use Rattle.form.specs.Decode.{got, Gots, gots, no-forms, decode, decodeAll}
-use Rattle.one_point.specs.Scan.{Scan, scanned, Scans, scans, present, scan, scanAll}
+use Rattle.rules.specs.Scan.{Scan, scanned, Scans, scans, present, scan, scanAll}
 use Rattle.one_point.specs.Internal.Writes.{Wrote, leftWords, isGone, Neat, Neats}
-use Rattle.one_point.specs.Replacement.{Taken, taken, nothing}
+use Rattle.rules.specs.Replacement.{Taken, taken, nothing}
 use Rattle.one_point.specs.Internal.Parts.{TookIs}
 use Rattle.one_point.specs.declared.sides.Replacement.{Replacement}
 use Rattle.one_point.specs.declared.scan.Scanned.{Scanned}

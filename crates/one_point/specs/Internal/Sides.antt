@@ -9,7 +9,7 @@ use Rattle.tree.specs.Tag.{expr}
 use Rattle.form.specs.Decode.{Got, got, no-form, decode, Whole, one, not-one, rowForm}
 use Rattle.form.specs.declared.head.Step.{Step}
 use Rattle.form.specs.declared.head.Step.the-variants.{End, Bad}
-use Rattle.one_point.specs.Replacement.{above}
+use Rattle.rules.specs.Replacement.{above}
 use Rattle.one_point.specs.Places.{says, place, fillPlace}
 use Rattle.one_point.specs.declared.sides.Sides.{Sides}
 use Rattle.one_point.specs.declared.sides.Index.{Index}

@@ -10,13 +10,13 @@ use Rattle.tree.specs.Form.{pick, between}
 use Rattle.tree.specs.Tag.{expr, pred}
 use Rattle.form.specs.Decode.{decode, whole, Found, found, missing, asSort, formOf}
 use Rattle.form.specs.Answer.{Outcome, answer, needs, isOne}
-use Rattle.form.specs.Internal.Reads.{asExpr}
+use Rattle.reader.specs.Internal.Reads.{asExpr}
 use Rattle.form.specs.declared.answer.Kind.{Kind}
 use Rattle.form.specs.declared.answer.Kind.the-variants.{Expression, Predicate}
-use Rattle.form.specs.declared.lists.Table.{Table}
-use Rattle.subst.specs.Internal.Items.{items, sizeOf, wordsOf, rewritten, allItems, movedWords}
-use Rattle.subst.specs.declared.items.Item.{Item}
-use Rattle.subst.specs.declared.items.Item.the-variants.{Plain, Ident}
+use Rattle.reader.specs.declared.lists.Table.{Table}
+use Rattle.shift.specs.Internal.Items.{items, sizeOf, wordsOf, rewritten, allItems, movedWords}
+use Rattle.shift.specs.declared.items.Item.{Item}
+use Rattle.shift.specs.declared.items.Item.the-variants.{Plain, Ident}
 use Rattle.replace.specs.declared.pieces.Piece.{Piece}
 use Rattle.replace.specs.declared.pieces.Piece.the-variants.{Same, Index, Part}
 use Rattle.replace.specs.declared.pieces.Plan.{Plan}

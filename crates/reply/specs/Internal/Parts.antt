@@ -8,13 +8,13 @@ use Rattle.form.specs.Answer.{Outcome}
 use Rattle.form.specs.declared.answer.Kind.{Kind}
 use Rattle.form.specs.declared.answer.Kind.the-variants.{Predicate, Either}
 use Rattle.form.specs.declared.answer.ListKind.the-variants.{Pairs, Places}
-use Rattle.subst.specs.Shift.{shiftOutcome}
-use Rattle.subst.specs.Bind.{bindOutcome}
-use Rattle.replace.specs.Free.{freeOutcome}
-use Rattle.replace.specs.Fill.{fillOutcome}
-use Rattle.replace.specs.Prune.{pruneOutcome}
-use Rattle.one_point.specs.Point.{pointOutcome}
-use Rattle.one_point.specs.Member.{memberOutcome}
+use Rattle.rules.specs.Shift.{shiftOutcome}
+use Rattle.rules.specs.Bind.{bindOutcome}
+use Rattle.rules.specs.Free.{freeOutcome}
+use Rattle.rules.specs.Fill.{fillOutcome}
+use Rattle.rules.specs.Prune.{pruneOutcome}
+use Rattle.rules.specs.Point.{pointOutcome}
+use Rattle.rules.specs.Member.{memberOutcome}
 use Rattle.line.specs.Line.{readLine, listRow, formRow}
 use Rattle.line.specs.declared.head.Head.{Head}
 use Rattle.line.specs.declared.head.Head.the-variants.{Shift, Free, Bind, Fill, Prune, Point, Member}

@@ -5,9 +5,9 @@ use lib.Dec.{ltb, eqb}
 use lib.ListN.{length}
 use Rattle.tree.specs.Form.{pick}
 use Rattle.form.specs.Answer.{Outcome}
-use Rattle.subst.specs.Internal.Items.{wordsOf, itemIn, moveWord, sameLength}
-use Rattle.subst.specs.declared.items.Item.{Item}
-use Rattle.subst.specs.declared.items.Item.the-variants.{Plain, Ident}
+use Rattle.shift.specs.Internal.Items.{wordsOf, itemIn, moveWord, sameLength}
+use Rattle.shift.specs.declared.items.Item.{Item}
+use Rattle.shift.specs.declared.items.Item.the-variants.{Plain, Ident}
 use Rattle.subst.specs.declared.bind.Spot.{Spot}
 use Rattle.subst.specs.declared.bind.Spot.the-variants.{At, Nowhere}
 

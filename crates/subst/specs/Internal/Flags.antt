@@ -7,10 +7,10 @@ use lib.Dec.{ltb, eqb, leb}
 use lib.ListN.{length, set, replicate}
 use Rattle.tree.specs.Form.{pick}
 use Rattle.form.specs.Answer.{Outcome, answer, needs}
-use Rattle.subst.specs.Dangling.{insertAll}
-use Rattle.subst.specs.Internal.Items.{items, rewritten, allItems, itemIn}
-use Rattle.subst.specs.declared.items.Item.{Item}
-use Rattle.subst.specs.declared.items.Item.the-variants.{Plain, Ident}
+use Rattle.rules.specs.Dangling.{insertAll}
+use Rattle.shift.specs.Internal.Items.{items, rewritten, allItems, itemIn}
+use Rattle.shift.specs.declared.items.Item.{Item}
+use Rattle.shift.specs.declared.items.Item.the-variants.{Plain, Ident}
 
 -- the index of an item that dangles
 unfoldable pub indexWords : Item → List ℕ

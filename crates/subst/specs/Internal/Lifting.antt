@@ -4,7 +4,7 @@ use Prim.Native.Nat.{ℕ}
 use lib.Dec.{leb}
 use lib.ListN.{length, take}
 use Rattle.tree.specs.Form.{pick}
-use Rattle.subst.specs.Lift.{Part, base, copy, empty}
+use Rattle.rules.specs.Lift.{Part, base, copy, empty}
 use Rattle.subst.specs.declared.lift.Made.{Made}
 use Rattle.subst.specs.declared.lift.Made.the-variants.{Base, Copy, Nothing}
 

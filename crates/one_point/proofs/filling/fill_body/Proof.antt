@@ -4,7 +4,7 @@ use native.Mathlib.Omega.{arith}
 use mathlib.Core.Path.{refl, sym, _∙_}
 use lib.ListN.{length}
 use lib.Seq.{length-take-le}
-use Rattle.subst.proofs.CheckedLaws.{passed}
+use Rattle.shift.proofs.CheckedLaws.{passed}
 use Rattle.replace.proofs.BuildLaws.{built-fits}
 use Rattle.one_point.proofs.FillBodyLaws.{shape-inner, stay-names, stay-front, kept-told, stay-low}
 use borrow.Author.Needs.{needs}

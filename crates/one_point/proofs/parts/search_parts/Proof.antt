@@ -5,7 +5,7 @@ use mathlib.Core.List.{List}
 use Prim.Native.Nat.{ℕ, _-_}
 use lib.ListN.{length}
 use native.Mathlib.Omega.{arith}
-use Rattle.one_point.specs.Scan.{offerParts}
+use Rattle.rules.specs.Scan.{offerParts}
 use Rattle.one_point.specs.Internal.Parts.{Beside, partsAt, PartsTold}
 use Rattle.one_point.specs.declared.sides.Replacement.{Replacement}
 use Rattle.one_point.specs.declared.sides.Replacement.the-variants.{Not}

@@ -5,14 +5,14 @@ use native.Mathlib.Omega.{arith}
 use borrow.Author.Needs.{needs}
 use Rattle.form.proofs.DecodeLaws.{clash}
 use Rattle.one_point.proofs.SidesLaws.{told-plain}
-use Rattle.subst.proofs.CheckedLaws.{passed}
+use Rattle.shift.proofs.CheckedLaws.{passed}
 use Rattle.one_point.proofs.PlaceLaws.{told-marks, told-not-bad, fresh-cleared, resting, placed-row}
 use borrow.Author.Needs.{needs}
 use Rattle.one_point.proofs.reduce.place_deep.Statement.{statement}
 use Rattle.one_point.proofs.reduce.place_deep.Tie as tie
 use Rattle.one_point.proofs.reduce.place_deep.Reads as reads
 use Rattle.one_point.proofs.reduce.place_deep.Lts as lts
-use Rattle.form.proofs.reader.pred_at.Reads as pred-at-reads
+use Rattle.reader.proofs.reader.pred_at.Reads as pred-at-reads
 use Rattle.one_point.proofs.rest.put_rest.Reads as put-rest-reads
 
 slice-aggregate-pred-at : tie.Need-slice-aggregate-pred-at

@@ -3,7 +3,7 @@ use mathlib.Core.Path.{refl}
 use Prim.Native.Nat.{_+_}
 use native.Mathlib.Omega.{arith}
 use borrow.Author.Needs.{needs}
-use Rattle.subst.proofs.CheckedLaws.{passed}
+use Rattle.shift.proofs.CheckedLaws.{passed}
 use Rattle.one_point.proofs.PlaceLaws.{reading-most, shallow-rest, fitting, resting, placed-row}
 use Rattle.one_point.proofs.reduce.place_in.Statement.{statement}
 use Rattle.one_point.proofs.reduce.place_in.Tie as tie

@@ -5,7 +5,7 @@ use native.Mathlib.Omega.{arith}
 use borrow.Author.Needs.{needs}
 use lib.ListN.{length}
 use lib.Seq.{length-take-le}
-use Rattle.subst.proofs.CheckedLaws.{refused, passed}
+use Rattle.shift.proofs.CheckedLaws.{refused, passed}
 use Rattle.one_point.proofs.PointLaws.{scan-room, none-taken, took, part-in, stop-low, placing, placed-is}
 use Rattle.one_point.proofs.reduce.reduce.Statement.{statement}
 use Rattle.one_point.proofs.reduce.reduce.Tie as tie

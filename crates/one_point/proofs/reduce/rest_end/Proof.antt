@@ -1,7 +1,7 @@
 -- `one_point::reduce::rest_end` meets its contract. Assumes nothing.
 use borrow.Author.Needs.{needs}
 use borrow.Author.Tests.{eq-eqb, ne-eqb}
-use Rattle.subst.proofs.ItemLaws.{not-yes, not-no}
+use Rattle.shift.proofs.ItemLaws.{not-yes, not-no}
 use Rattle.one_point.proofs.PlaceLaws.{first-word}
 use Rattle.one_point.proofs.reduce.rest_end.Statement.{statement}
 use Rattle.one_point.proofs.reduce.rest_end.Tie as tie

@@ -2,7 +2,7 @@
 use borrow.Author.Needs.{needs}
 use mathlib.Core.Path.{refl}
 use lib.ListN.{length}
-use Rattle.subst.proofs.CheckedLaws.{refused}
+use Rattle.shift.proofs.CheckedLaws.{refused}
 use Rattle.one_point.proofs.MemberLaws.{member-small, member-long}
 use borrow.Author.Needs.{needs}
 use Rattle.one_point.proofs.rewrite_in_compset.rewrite_in_compset.Statement.{statement}

@@ -3,7 +3,7 @@ use borrow.Author.Needs.{needs}
 use mathlib.Core.Path.{refl, sym}
 use lib.ListN.{length}
 use lib.Seq.{length-take-le}
-use Rattle.subst.proofs.CheckedLaws.{refused, passed}
+use Rattle.shift.proofs.CheckedLaws.{refused, passed}
 use Rattle.one_point.proofs.PlacesLaws.{pred-row}
 use Rattle.one_point.proofs.MemberLaws.{member-missing, row-read, member-other, set-of, member-is, membering}
 use borrow.Author.Needs.{needs}

@@ -7,7 +7,7 @@ use native.Mathlib.Omega.{arith}
 use borrow.Author.Needs.{needs}
 use lib.ListN.{length, getD, set, length-set}
 use Rattle.tree.specs.Form.{encode, encodeAll}
-use Rattle.one_point.specs.Scan.{scanAll}
+use Rattle.rules.specs.Scan.{scanAll}
 use Rattle.one_point.specs.Internal.Scans.{kidsAt, Kids, KidsTold}
 use Rattle.one_point.specs.declared.sides.Replacement.{Replacement}
 use Rattle.one_point.specs.declared.sides.Replacement.the-variants.{Not}

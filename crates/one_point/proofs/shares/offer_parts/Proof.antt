@@ -7,8 +7,8 @@ use Prim.Native.Nat.{ℕ, _+_, _-_}
 use lib.ListN.{length, drop, set}
 use Rattle.tree.specs.Form.{encode}
 use Rattle.form.specs.Lists.{Place, filled}
-use Rattle.form.specs.declared.lists.Table.{Table}
-use Rattle.one_point.specs.Partial.{noPlaces}
+use Rattle.reader.specs.declared.lists.Table.{Table}
+use Rattle.rules.specs.Partial.{noPlaces}
 use Rattle.one_point.specs.Internal.Parts.{Beside, partsAt}
 use Rattle.one_point.specs.Internal.Member.{share, MarkedAt, TableIs, Shared}
 use Rattle.one_point.proofs.PartsLaws.{open-both, part-of, beside-in, marked-open, marked-part, marks-long}

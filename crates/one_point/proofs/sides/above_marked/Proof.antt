@@ -1,7 +1,7 @@
 -- `one_point::sides::above_marked` meets its contract. Assumes nothing.
 use mathlib.Core.Path.{_∙_}
 use native.Mathlib.Omega.{arith}
-use Rattle.subst.proofs.CheckedLaws.{is-missing, checked}
+use Rattle.shift.proofs.CheckedLaws.{is-missing, checked}
 use Rattle.one_point.proofs.SidesLaws.{above-missing, above-marked}
 use borrow.Author.Needs.{needs}
 use Rattle.one_point.proofs.sides.above_marked.Statement.{statement}

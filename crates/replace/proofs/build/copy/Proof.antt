@@ -3,7 +3,7 @@ use mathlib.Core.Path.{_≡_, refl, sym, _∙_}
 use native.Mathlib.Omega.{arith}
 use Prim.Native.Nat.{_-_}
 use lib.ListN.{length, drop, length-set}
-use Rattle.subst.specs.Internal.Items.{store}
+use Rattle.shift.specs.Internal.Items.{store}
 use Rattle.replace.proofs.MarkLaws.{copy-more, copy-none}
 use Rattle.replace.proofs.build.copy.Statement.{statement}
 use Rattle.replace.proofs.build.copy.Tie as tie

@@ -2,13 +2,13 @@
 use mathlib.Core.Path.{refl}
 use native.Mathlib.Omega.{arith}
 use borrow.Author.Needs.{needs}
-use Rattle.subst.proofs.CheckedLaws.{refused}
+use Rattle.shift.proofs.CheckedLaws.{refused}
 use Rattle.replace.proofs.BuildLaws.{emit-no, emit-room, emit-done}
 use Rattle.replace.proofs.build.emit.Statement.{statement}
 use Rattle.replace.proofs.build.emit.Tie as tie
 use Rattle.replace.proofs.build.emit.Reads as reads
 use Rattle.replace.proofs.build.emit.Lts as lts
-use Rattle.form.proofs.check.check.Reads as check-reads
+use Rattle.reader.proofs.check.check.Reads as check-reads
 use Rattle.replace.proofs.build.copy.Reads as copy-reads
 
 check-requires : tie.Need-check-requires

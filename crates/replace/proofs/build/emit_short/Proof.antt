@@ -1,7 +1,7 @@
 -- `replace::build::emit_short` meets its contract. Assumes nothing.
 use mathlib.Core.Path.{refl}
 use lib.ListN.{length}
-use Rattle.subst.proofs.CheckedLaws.{refused}
+use Rattle.shift.proofs.CheckedLaws.{refused}
 use Rattle.replace.proofs.BuildLaws.{short-many, short-room, short-done}
 use borrow.Author.Needs.{needs}
 use Rattle.replace.proofs.build.emit_short.Statement.{statement}

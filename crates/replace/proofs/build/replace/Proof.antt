@@ -1,6 +1,6 @@
 -- `replace::build::replace` meets its contract. Assumes nothing.
 use mathlib.Core.Path.{refl, sym}
-use Rattle.subst.proofs.CheckedLaws.{passed}
+use Rattle.shift.proofs.CheckedLaws.{passed}
 use Rattle.replace.proofs.BuildLaws.{short-sure, same-replaced}
 use borrow.Author.Needs.{needs}
 use Rattle.replace.proofs.build.replace.Statement.{statement}

@@ -2,7 +2,7 @@
 use mathlib.Core.Path.{refl, sym}
 use lib.ListN.{drop}
 use lib.Seq.{length-take-le}
-use Rattle.subst.proofs.CheckedLaws.{passed}
+use Rattle.shift.proofs.CheckedLaws.{passed}
 use Rattle.replace.specs.Internal.Pieces.{planFor}
 use Rattle.replace.proofs.BuildLaws.{built-fits, short-built}
 use borrow.Author.Needs.{needs}

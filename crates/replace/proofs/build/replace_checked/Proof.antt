@@ -2,7 +2,7 @@
 use mathlib.Core.Path.{refl, sym}
 use lib.ListN.{drop}
 use lib.Seq.{length-take-le}
-use Rattle.subst.proofs.CheckedLaws.{refused, passed}
+use Rattle.shift.proofs.CheckedLaws.{refused, passed}
 use Rattle.replace.specs.Internal.Pieces.{planFor}
 use Rattle.replace.proofs.LengthLaws.{not-refused}
 use Rattle.replace.proofs.BuildLaws.{built-fits, long-row, built-row}

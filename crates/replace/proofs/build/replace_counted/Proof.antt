@@ -1,7 +1,7 @@
 -- `replace::build::replace_counted` meets its contract. Assumes nothing.
 use mathlib.Core.Path.{refl}
 use lib.ListN.{drop}
-use Rattle.subst.proofs.CheckedLaws.{refused}
+use Rattle.shift.proofs.CheckedLaws.{refused}
 use Rattle.replace.specs.Internal.Pieces.{planFor}
 use Rattle.replace.proofs.LengthLaws.{not-refused}
 use Rattle.replace.proofs.BuildLaws.{sure-not, sure-done}

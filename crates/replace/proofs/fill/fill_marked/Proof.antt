@@ -2,7 +2,7 @@
 use borrow.Author.Needs.{needs}
 use Prim.Native.Nat.{_-_}
 use lib.ListN.{length, take, drop}
-use Rattle.subst.proofs.CheckedLaws.{passed}
+use Rattle.shift.proofs.CheckedLaws.{passed}
 use Rattle.replace.specs.Internal.Pieces.{Ready, fillPlan}
 use Rattle.replace.proofs.BuildLaws.{rest-part}
 use Rattle.replace.proofs.FillLaws.{same-filled}

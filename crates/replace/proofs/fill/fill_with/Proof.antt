@@ -5,7 +5,7 @@ use native.Mathlib.Omega.{arith}
 use lib.ListN.{length, take}
 use lib.Seq.{length-take-le}
 use borrow.Author.Needs.{needs}
-use Rattle.subst.proofs.CheckedLaws.{passed}
+use Rattle.shift.proofs.CheckedLaws.{passed}
 use Rattle.replace.proofs.BuildLaws.{built-fits}
 use Rattle.replace.proofs.FillLaws.{ready-gone, filled-same}
 use Rattle.replace.proofs.fill.fill_with.Statement.{statement}

@@ -5,8 +5,8 @@ use native.Mathlib.Omega.{arith}
 use borrow.Author.Tests.{not-true, not-false}
 use lib.ListN.{length}
 use borrow.Author.Needs.{needs}
-use Rattle.form.proofs.TableLaws.{listing-no}
-use Rattle.subst.proofs.CheckedLaws.{refused, passed}
+use Rattle.reader.proofs.TableLaws.{listing-no}
+use Rattle.shift.proofs.CheckedLaws.{refused, passed}
 use Rattle.replace.proofs.CallLaws.{refused-by}
 use Rattle.replace.proofs.MarkLaws.{listing-kept}
 use Rattle.replace.proofs.ShallowLaws.{reading-missing, reading-checked, reading-shallow}

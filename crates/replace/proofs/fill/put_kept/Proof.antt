@@ -2,7 +2,7 @@
 use mathlib.Core.Path.{refl}
 use native.Mathlib.Omega.{arith}
 use borrow.Author.Needs.{needs}
-use Rattle.subst.specs.Internal.Items.{store}
+use Rattle.shift.specs.Internal.Items.{store}
 use Rattle.replace.proofs.NameLaws.{kept-yes, kept-no}
 use Rattle.replace.proofs.fill.put_kept.Statement.{statement}
 use Rattle.replace.proofs.fill.put_kept.Tie as tie

@@ -3,7 +3,7 @@ use mathlib.Core.Path.{_≡_, refl, sym, _∙_}
 use native.Mathlib.Omega.{arith}
 use Prim.Native.Nat.{_+_, _-_, _≤_}
 use lib.ListN.{length, getD, drop}
-use Rattle.subst.specs.Internal.Items.{store}
+use Rattle.shift.specs.Internal.Items.{store}
 use Rattle.replace.specs.Internal.Pieces.{keptWords}
 use Rattle.replace.proofs.NameLaws.{names-more, names-long, names-end, kept-few, store-empty}
 use Rattle.replace.proofs.fill.write_names.Statement.{statement}

@@ -4,7 +4,7 @@ use Rattle.replace.proofs.free.kind_of.Statement.{statement}
 use Rattle.replace.proofs.free.kind_of.Tie as tie
 use Rattle.replace.proofs.free.kind_of.Reads as reads
 use Rattle.replace.proofs.free.kind_of.Lts as lts
-use Rattle.form.proofs.check.is_expr.Reads as is-expr-reads
+use Rattle.reader.proofs.check.is_expr.Reads as is-expr-reads
 
 is-expr-requires : tie.Need-is-expr-requires
 is-expr-requires c κs = search needs

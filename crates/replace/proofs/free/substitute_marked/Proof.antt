@@ -3,7 +3,7 @@ use mathlib.Core.Path.{refl}
 use Prim.Native.Nat.{_-_}
 use lib.ListN.{length, take, drop}
 use borrow.Author.Needs.{needs}
-use Rattle.subst.proofs.CheckedLaws.{passed}
+use Rattle.shift.proofs.CheckedLaws.{passed}
 use Rattle.replace.specs.Internal.Pieces.{Ready, freePlan}
 use Rattle.replace.proofs.BuildLaws.{rest-part, same-replaced}
 use Rattle.replace.proofs.free.substitute_marked.Statement.{statement}

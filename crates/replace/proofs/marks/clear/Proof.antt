@@ -4,7 +4,7 @@ use native.Mathlib.Omega.{arith}
 use Prim.Native.Nat.{_+_, _-_}
 use native.Mathlib.Nat.{add-zero, sub-zero}
 use lib.ListN.{length, replicate, length-set}
-use Rattle.subst.specs.Internal.Items.{store}
+use Rattle.shift.specs.Internal.Items.{store}
 use Rattle.replace.proofs.MarkLaws.{clear-more, clear-none}
 use Rattle.replace.proofs.marks.clear.Statement.{statement}
 use Rattle.replace.proofs.marks.clear.Tie as tie

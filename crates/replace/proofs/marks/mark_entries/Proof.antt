@@ -5,7 +5,7 @@ use Rattle.replace.proofs.marks.mark_entries.Statement.{statement}
 use Rattle.replace.proofs.marks.mark_entries.Tie as tie
 use Rattle.replace.proofs.marks.mark_entries.Reads as reads
 use Rattle.replace.proofs.marks.mark_entries.Lts as lts
-use Rattle.form.proofs.lists.mark_list.Reads as mark-list-reads
+use Rattle.reader.proofs.lists.mark_list.Reads as mark-list-reads
 use Rattle.replace.proofs.marks.clear.Reads as clear-reads
 
 clear-requires : tie.Need-clear-requires

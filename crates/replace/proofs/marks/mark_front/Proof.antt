@@ -8,7 +8,7 @@ use Rattle.replace.proofs.marks.mark_front.Statement.{statement}
 use Rattle.replace.proofs.marks.mark_front.Tie as tie
 use Rattle.replace.proofs.marks.mark_front.Reads as reads
 use Rattle.replace.proofs.marks.mark_front.Lts as lts
-use Rattle.form.proofs.check.mark.Reads as mark-reads
+use Rattle.reader.proofs.check.mark.Reads as mark-reads
 use Rattle.replace.proofs.marks.clear.Reads as clear-reads
 use Rattle.replace.proofs.marks.mark_shallow.Reads as mark-shallow-reads
 

@@ -5,7 +5,7 @@ use Rattle.replace.proofs.marks.mark_shallow.Statement.{statement}
 use Rattle.replace.proofs.marks.mark_shallow.Tie as tie
 use Rattle.replace.proofs.marks.mark_shallow.Reads as reads
 use Rattle.replace.proofs.marks.mark_shallow.Lts as lts
-use Rattle.form.proofs.check.is_expr.Reads as is-expr-reads
+use Rattle.reader.proofs.check.is_expr.Reads as is-expr-reads
 use Rattle.replace.proofs.marks.shallow_form.Reads as shallow-form-reads
 
 is-expr-requires : tie.Need-is-expr-requires

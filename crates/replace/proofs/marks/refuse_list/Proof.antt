@@ -5,7 +5,7 @@ use Rattle.replace.proofs.marks.refuse_list.Statement.{statement}
 use Rattle.replace.proofs.marks.refuse_list.Tie as tie
 use Rattle.replace.proofs.marks.refuse_list.Reads as reads
 use Rattle.replace.proofs.marks.refuse_list.Lts as lts
-use Rattle.form.proofs.check.check.Reads as check-reads
+use Rattle.reader.proofs.check.check.Reads as check-reads
 
 check-requires : tie.Need-check-requires
 check-requires c κs = search needs

@@ -5,8 +5,8 @@ use Rattle.replace.proofs.marks.shallow_form.Statement.{statement}
 use Rattle.replace.proofs.marks.shallow_form.Tie as tie
 use Rattle.replace.proofs.marks.shallow_form.Reads as reads
 use Rattle.replace.proofs.marks.shallow_form.Lts as lts
-use Rattle.form.proofs.reader.expr_at.Reads as expr-at-reads
-use Rattle.form.proofs.reader.pred_at.Reads as pred-at-reads
+use Rattle.reader.proofs.reader.expr_at.Reads as expr-at-reads
+use Rattle.reader.proofs.reader.pred_at.Reads as pred-at-reads
 
 expr-at-requires : tie.Need-expr-at-requires
 expr-at-requires c κs = search needs

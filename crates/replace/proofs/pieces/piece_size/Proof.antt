@@ -6,7 +6,7 @@ use Rattle.replace.proofs.pieces.piece_size.Tie as tie
 use Rattle.replace.proofs.pieces.piece_size.Reads as reads
 use Rattle.replace.proofs.pieces.piece_size.Lts as lts
 use Rattle.replace.proofs.pieces.words_between.Reads as words-between-reads
-use Rattle.subst.proofs.items.size_of.Reads as size-of-reads
+use Rattle.shift.proofs.items.size_of.Reads as size-of-reads
 
 enum-told : tie.Need-enum-told
 enum-told c = search needs

@@ -5,9 +5,9 @@ use borrow.Author.Needs.{needs}
 use Prim.Native.Nat.{_+_, _-_, _≤_}
 use native.Mathlib.Nat.{zero-add}
 use lib.ListN.{length, drop}
-use Rattle.subst.specs.Internal.Items.{items}
+use Rattle.shift.specs.Internal.Items.{items}
 use Rattle.replace.specs.Internal.Pieces.{sizes, capped, planFor}
-use Rattle.subst.proofs.ItemLaws.{size-in}
+use Rattle.shift.proofs.ItemLaws.{size-in}
 use Rattle.replace.proofs.PieceLaws.{ident-step, ident-size, plain-step, plain-size, plain-same, needed-next, needed-over, needed-end}
 use Rattle.replace.proofs.pieces.words_needed.Statement.{statement}
 use Rattle.replace.proofs.pieces.words_needed.Tie as tie
@@ -15,7 +15,7 @@ use Rattle.replace.proofs.pieces.words_needed.Reads as reads
 use Rattle.replace.proofs.pieces.words_needed.Lts as lts
 use Rattle.replace.proofs.pieces.piece_of.Reads as piece-of-reads
 use Rattle.replace.proofs.pieces.piece_size.Reads as piece-size-reads
-use Rattle.subst.proofs.items.item_at.Reads as item-at-reads
+use Rattle.shift.proofs.items.item_at.Reads as item-at-reads
 
 abbrev Inv-loop : tie.InvT-loop
 Inv-loop rule words starts ends row marks from n₀ i₀ n i = (capped (sizes (planFor rule words starts ends) (items (drop «from» row) (drop «from» marks))) ≡ capped (n + sizes (planFor rule words starts ends) (items (drop i row) (drop i marks)))) × (n ≤ 8192)

@@ -5,18 +5,18 @@ use borrow.Author.Needs.{needs}
 use Prim.Native.Nat.{_+_, _-_}
 use native.Mathlib.Nat.{add-zero}
 use lib.ListN.{length, drop}
-use Rattle.subst.specs.Internal.Items.{items, sizeOf, rewritten, movedWords, store}
-use Rattle.subst.proofs.ItemLaws.{size-in, size-pos}
-use Rattle.subst.proofs.ShiftLaws.{keeps}
+use Rattle.shift.specs.Internal.Items.{items, sizeOf, rewritten, movedWords, store}
+use Rattle.shift.proofs.ItemLaws.{size-in, size-pos}
+use Rattle.shift.proofs.ShiftLaws.{keeps}
 use Rattle.replace.proofs.PieceLaws.{store-next, store-stop}
 use Rattle.replace.proofs.pieces.write_part.Statement.{statement}
 use Rattle.replace.proofs.pieces.write_part.Tie as tie
 use Rattle.replace.proofs.pieces.write_part.Reads as reads
 use Rattle.replace.proofs.pieces.write_part.Lts as lts
-use Rattle.subst.proofs.items.item_at.Reads as item-at-reads
-use Rattle.subst.proofs.items.put_item.Reads as put-item-reads
-use Rattle.subst.proofs.items.size_of.Reads as size-of-reads
-use Rattle.subst.proofs.shift.move_item.Reads as move-item-reads
+use Rattle.shift.proofs.items.item_at.Reads as item-at-reads
+use Rattle.shift.proofs.items.put_item.Reads as put-item-reads
+use Rattle.shift.proofs.items.size_of.Reads as size-of-reads
+use Rattle.shift.proofs.shift.move_item.Reads as move-item-reads
 
 abbrev Inv-loop : tie.InvT-loop
 Inv-loop row marks up down out₀ at i₀ out i = (store out₀ at (rewritten (movedWords up down) (items row marks)) ≡ store out (at + i) (rewritten (movedWords up down) (items (drop i row) (drop i marks)))) × (length out ≡ length out₀)

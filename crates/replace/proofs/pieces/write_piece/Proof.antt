@@ -2,7 +2,7 @@
 use native.Mathlib.Omega.{arith}
 use borrow.Author.Needs.{needs}
 use lib.ListN.{length, length-set}
-use Rattle.subst.specs.Internal.Items.{store}
+use Rattle.shift.specs.Internal.Items.{store}
 use Rattle.replace.specs.Internal.Pieces.{part, pieceWords}
 use Rattle.replace.proofs.PieceLaws.{same-size, index-size, part-size, part-fits, part-length}
 use Rattle.replace.proofs.pieces.write_piece.Statement.{statement}
@@ -10,7 +10,7 @@ use Rattle.replace.proofs.pieces.write_piece.Tie as tie
 use Rattle.replace.proofs.pieces.write_piece.Reads as reads
 use Rattle.replace.proofs.pieces.write_piece.Lts as lts
 use Rattle.replace.proofs.pieces.write_part.Reads as write-part-reads
-use Rattle.subst.proofs.items.put_item.Reads as put-item-reads
+use Rattle.shift.proofs.items.put_item.Reads as put-item-reads
 
 enum-told : tie.Need-enum-told
 enum-told c = search needs

@@ -4,9 +4,9 @@ use native.Mathlib.Omega.{arith}
 use borrow.Author.Needs.{needs}
 use Prim.Native.Nat.{ℕ, _+_, _-_, _≤_}
 use lib.ListN.{length, drop}
-use Rattle.subst.specs.Internal.Items.{items, rewritten, store}
+use Rattle.shift.specs.Internal.Items.{items, rewritten, store}
 use Rattle.replace.specs.Internal.Pieces.{planned, sizes, planFor}
-use Rattle.subst.proofs.ItemLaws.{size-in}
+use Rattle.shift.proofs.ItemLaws.{size-in}
 use Rattle.replace.proofs.PieceLaws.{piece-fits, ident-step, ident-size, plain-step, plain-size, plain-same, plain-words, store-next, store-stop, planned-size, sizes-step, sizes-stop}
 use Rattle.replace.proofs.pieces.write_pieces.Statement.{statement}
 use Rattle.replace.proofs.pieces.write_pieces.Tie as tie
@@ -15,8 +15,8 @@ use Rattle.replace.proofs.pieces.write_pieces.Lts as lts
 use Rattle.replace.proofs.pieces.piece_of.Reads as piece-of-reads
 use Rattle.replace.proofs.pieces.piece_size.Reads as piece-size-reads
 use Rattle.replace.proofs.pieces.write_piece.Reads as write-piece-reads
-use Rattle.subst.proofs.items.item_at.Reads as item-at-reads
-use Rattle.subst.proofs.items.put_item.Reads as put-item-reads
+use Rattle.shift.proofs.items.item_at.Reads as item-at-reads
+use Rattle.shift.proofs.items.put_item.Reads as put-item-reads
 
 abbrev Inv-loop : tie.InvT-loop
 Inv-loop rule words starts ends list list-marks row marks from out₀ at i₀ p₀ out i p = (store out₀ at (rewritten (planned (planFor rule words starts ends) list list-marks) (items (drop «from» row) (drop «from» marks))) ≡ store out p (rewritten (planned (planFor rule words starts ends) list list-marks) (items (drop i row) (drop i marks)))) × (p + sizes (planFor rule words starts ends) (items (drop i row) (drop i marks)) ≤ length out) × (length out ≡ length out₀) × (at + sizes (planFor rule words starts ends) (items (drop «from» row) (drop «from» marks)) ≡ p + sizes (planFor rule words starts ends) (items (drop i row) (drop i marks)))

@@ -5,8 +5,8 @@ use native.Mathlib.Omega.{arith}
 use borrow.Author.Needs.{needs}
 use lib.ListN.{length, take}
 use lib.Seq.{length-take-le}
-use Rattle.subst.proofs.CheckedLaws.{refused, passed}
-use Rattle.subst.proofs.ItemLaws.{not-yes, not-no}
+use Rattle.shift.proofs.CheckedLaws.{refused, passed}
+use Rattle.shift.proofs.ItemLaws.{not-yes, not-no}
 use Rattle.replace.proofs.ReadyLaws.{is-ready, placed-not, placed-ready, gone-ready}
 use Rattle.replace.proofs.places.fill_places.Statement.{statement}
 use Rattle.replace.proofs.places.fill_places.Tie as tie

@@ -4,17 +4,17 @@ use native.Mathlib.Omega.{arith}
 use borrow.Author.Needs.{needs}
 use Prim.Native.Nat.{_-_}
 use lib.ListN.{length, drop}
-use Rattle.subst.specs.Internal.Items.{items}
+use Rattle.shift.specs.Internal.Items.{items}
 use Rattle.replace.specs.Internal.Pieces.{cleared}
-use Rattle.subst.proofs.ItemLaws.{size-in, size-pos}
+use Rattle.shift.proofs.ItemLaws.{size-in, size-pos}
 use Rattle.replace.proofs.ClearLaws.{cleared-next, cleared-end}
 use Rattle.replace.proofs.prune.clear_used.Statement.{statement}
 use Rattle.replace.proofs.prune.clear_used.Tie as tie
 use Rattle.replace.proofs.prune.clear_used.Reads as reads
 use Rattle.replace.proofs.prune.clear_used.Lts as lts
 use Rattle.replace.proofs.prune.clear_use.Reads as clear-use-reads
-use Rattle.subst.proofs.items.item_at.Reads as item-at-reads
-use Rattle.subst.proofs.items.size_of.Reads as size-of-reads
+use Rattle.shift.proofs.items.item_at.Reads as item-at-reads
+use Rattle.shift.proofs.items.size_of.Reads as size-of-reads
 
 abbrev Inv-loop : tie.InvT-loop
 Inv-loop row marks from words₀ i₀ words i = (cleared (length words₀) words₀ (items (drop «from» row) (drop «from» marks)) ≡ cleared (length words₀) words (items (drop i row) (drop i marks))) × (length words ≡ length words₀)

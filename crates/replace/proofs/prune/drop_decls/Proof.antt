@@ -1,7 +1,7 @@
 -- `replace::prune::drop_decls` meets its contract. Assumes nothing.
 use mathlib.Core.Path.{refl, sym}
 use lib.Seq.{length-take-le}
-use Rattle.subst.proofs.CheckedLaws.{refused}
+use Rattle.shift.proofs.CheckedLaws.{refused}
 use Rattle.replace.proofs.BuildLaws.{built-fits}
 use Rattle.replace.proofs.FallLaws.{head-fits, same-fits, table-fits, dropped-none, dropped-room, dropped-done}
 use borrow.Author.Needs.{needs}

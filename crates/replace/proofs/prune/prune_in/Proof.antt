@@ -2,7 +2,7 @@
 use mathlib.Core.Path.{refl, sym}
 use lib.ListN.{length}
 use Rattle.form.specs.declared.answer.Kind.the-variants.{Predicate}
-use Rattle.subst.proofs.CheckedLaws.{refused, passed, is-missing, checked}
+use Rattle.shift.proofs.CheckedLaws.{refused, passed, is-missing, checked}
 use Rattle.replace.proofs.PruneLaws.{ones-length, used-made, used-long, used-fits, prune-missing, prune-other, prune-few, prune-fits, prune-row}
 use borrow.Author.Needs.{needs}
 use Rattle.replace.proofs.prune.prune_in.Statement.{statement}

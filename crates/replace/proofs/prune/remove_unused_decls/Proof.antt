@@ -1,7 +1,7 @@
 -- `replace::prune::remove_unused_decls` meets its contract. Assumes nothing.
 use mathlib.Core.Path.{refl}
 use native.Mathlib.Omega.{arith}
-use Rattle.subst.proofs.CheckedLaws.{refused}
+use Rattle.shift.proofs.CheckedLaws.{refused}
 use Rattle.replace.proofs.PruneLaws.{prune-long}
 use borrow.Author.Needs.{needs}
 use Rattle.replace.proofs.prune.remove_unused_decls.Statement.{statement}

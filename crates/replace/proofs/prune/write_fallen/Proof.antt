@@ -4,9 +4,9 @@ use native.Mathlib.Omega.{arith}
 use borrow.Author.Needs.{needs}
 use Prim.Native.Nat.{ℕ, _+_, _-_, _≤_}
 use lib.ListN.{length, drop}
-use Rattle.subst.specs.Internal.Items.{items, rewritten, store}
+use Rattle.shift.specs.Internal.Items.{items, rewritten, store}
 use Rattle.replace.specs.Internal.Pieces.{fallenWords}
-use Rattle.subst.proofs.ItemLaws.{size-in, size-pos}
+use Rattle.shift.proofs.ItemLaws.{size-in, size-pos}
 use Rattle.replace.proofs.PieceLaws.{store-next, store-stop}
 use Rattle.replace.proofs.FallLaws.{falls-keep}
 use Rattle.replace.proofs.prune.write_fallen.Statement.{statement}
@@ -14,9 +14,9 @@ use Rattle.replace.proofs.prune.write_fallen.Tie as tie
 use Rattle.replace.proofs.prune.write_fallen.Reads as reads
 use Rattle.replace.proofs.prune.write_fallen.Lts as lts
 use Rattle.replace.proofs.prune.fall_item.Reads as fall-item-reads
-use Rattle.subst.proofs.items.item_at.Reads as item-at-reads
-use Rattle.subst.proofs.items.put_item.Reads as put-item-reads
-use Rattle.subst.proofs.items.size_of.Reads as size-of-reads
+use Rattle.shift.proofs.items.item_at.Reads as item-at-reads
+use Rattle.shift.proofs.items.put_item.Reads as put-item-reads
+use Rattle.shift.proofs.items.size_of.Reads as size-of-reads
 
 abbrev Inv-loop : tie.InvT-loop
 Inv-loop words falls row marks from out₀ at i₀ p₀ out i p = (store out₀ at (rewritten (fallenWords words) (items (drop «from» row) (drop «from» marks))) ≡ store out p (rewritten (fallenWords words) (items (drop i row) (drop i marks)))) × (p + (length row - i) ≤ length out) × (length out ≡ length out₀)

@@ -2,7 +2,7 @@
 use mathlib.Core.Path.{sym, _∙_}
 use native.Mathlib.Omega.{arith}
 use borrow.Author.Needs.{needs}
-use Rattle.subst.proofs.ItemLaws.{not-no}
+use Rattle.shift.proofs.ItemLaws.{not-no}
 use Rattle.replace.proofs.SmallLaws.{leaves-none, leaves}
 use Rattle.replace.proofs.small.depth_left.Statement.{statement}
 use Rattle.replace.proofs.small.depth_left.Tie as tie

@@ -4,7 +4,7 @@ use Prim.Native.Nat.{_≤_}
 use native.Mathlib.Omega.{arith}
 use lib.ListN.{length}
 use borrow.Author.Needs.{needs}
-use Rattle.subst.proofs.ItemLaws.{not-no}
+use Rattle.shift.proofs.ItemLaws.{not-no}
 use Rattle.replace.proofs.SmallLaws.{leaves-by-none, leaves-by}
 use Rattle.replace.proofs.small.depth_left_by.Statement.{statement}
 use Rattle.replace.proofs.small.depth_left_by.Tie as tie

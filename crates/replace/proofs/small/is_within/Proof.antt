@@ -5,7 +5,7 @@ use Rattle.replace.proofs.small.is_within.Statement.{statement}
 use Rattle.replace.proofs.small.is_within.Tie as tie
 use Rattle.replace.proofs.small.is_within.Reads as reads
 use Rattle.replace.proofs.small.is_within.Lts as lts
-use Rattle.form.proofs.reader.expr_at.Reads as expr-at-reads
+use Rattle.reader.proofs.reader.expr_at.Reads as expr-at-reads
 
 slice-aggregate-expr-at : tie.Need-slice-aggregate-expr-at
 slice-aggregate-expr-at c = search needs

@@ -1,6 +1,6 @@
 -- `reply::commands::run_command` meets its contract. Assumes nothing.
 use lib.ListN.{length}
-use Rattle.subst.proofs.SignedLaws.{back}
+use Rattle.shift.proofs.SignedLaws.{back}
 use Rattle.line.specs.declared.head.Head.the-variants.{Shift, Free, Bind, Fill, Prune, Point, Member}
 use Rattle.reply.proofs.LateLaws.{run-said}
 use borrow.Author.Needs.{needs}

@@ -3,7 +3,7 @@ use mathlib.Core.Path.{refl, sym, _∙_}
 use borrow.Author.Tests.{not-true, not-false}
 use lib.ListN.{length}
 use lib.Seq.{length-take-le}
-use Rattle.subst.proofs.SignedLaws.{back}
+use Rattle.shift.proofs.SignedLaws.{back}
 use Rattle.reply.proofs.LateLaws.{row-holds, parts-refused, parts-passed}
 use Rattle.reply.proofs.ReplyLaws.{not-enough, misspelled, held-both, command-said}
 use borrow.Author.Needs.{needs}

@@ -1,7 +1,7 @@
 -- `sogbayile::rewritings::sgb_lift` meets its contract. Assumes nothing.
 use mathlib.Core.Path.{sym, ap, _∙_}
 use lib.ListN.{length}
-use Rattle.subst.specs.Lift.{liftPart}
+use Rattle.rules.specs.Lift.{liftPart}
 use Rattle.subst.proofs.LiftLaws.{lift-long}
 use Rattle.sogbayile.specs.Internal.{madeCode}
 use Rattle.sogbayile.proofs.CodeLaws.{part-short, made-code}

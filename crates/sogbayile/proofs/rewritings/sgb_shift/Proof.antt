@@ -1,7 +1,7 @@
 -- `sogbayile::rewritings::sgb_shift` meets its contract. Assumes nothing.
 use mathlib.Core.Path.{ap, _∙_}
 use Rattle.sogbayile.specs.Code.{codeOf}
-use Rattle.subst.proofs.SignedLaws.{back}
+use Rattle.shift.proofs.SignedLaws.{back}
 use borrow.Author.Needs.{needs}
 use Rattle.sogbayile.proofs.rewritings.sgb_shift.Statement.{statement}
 use Rattle.sogbayile.proofs.rewritings.sgb_shift.Tie as tie

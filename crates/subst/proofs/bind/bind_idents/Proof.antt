@@ -1,7 +1,7 @@
 -- `subst::bind::bind_idents` meets its contract. Assumes nothing.
 use mathlib.Core.Path.{refl}
 use native.Mathlib.Omega.{arith}
-use Rattle.subst.proofs.CheckedLaws.{refused}
+use Rattle.shift.proofs.CheckedLaws.{refused}
 use Rattle.subst.proofs.BindLaws.{bind-too-long}
 use borrow.Author.Needs.{needs}
 use Rattle.subst.proofs.bind.bind_idents.Statement.{statement}

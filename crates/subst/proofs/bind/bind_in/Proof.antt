@@ -1,15 +1,15 @@
 -- `subst::bind::bind_in` meets its contract. Assumes nothing.
 use mathlib.Core.Path.{refl, sym, _∙_}
-use Rattle.subst.proofs.ItemLaws.{not-yes, not-no}
-use Rattle.subst.proofs.CheckedLaws.{refused, passed, is-missing, checked-fresh}
+use Rattle.shift.proofs.ItemLaws.{not-yes, not-no}
+use Rattle.shift.proofs.CheckedLaws.{refused, passed, is-missing, checked-fresh}
 use Rattle.subst.proofs.BindLaws.{good-few, bind-missing, bind-long, bind-names, bind-row}
 use borrow.Author.Needs.{needs}
 use Rattle.subst.proofs.bind.bind_in.Statement.{statement}
 use Rattle.subst.proofs.bind.bind_in.Tie as tie
 use Rattle.subst.proofs.bind.bind_in.Reads as reads
 use Rattle.subst.proofs.bind.bind_in.Lts as lts
-use Rattle.form.proofs.check.mark.Reads as mark-reads
-use Rattle.form.proofs.lists.good_names.Reads as good-names-reads
+use Rattle.reader.proofs.check.mark.Reads as mark-reads
+use Rattle.reader.proofs.lists.good_names.Reads as good-names-reads
 use Rattle.subst.proofs.bind.bind_marked.Reads as bind-marked-reads
 
 mark-requires : tie.Need-mark-requires

@@ -1,9 +1,9 @@
 -- `subst::bind::bind_marked` meets its contract. Assumes nothing.
 use mathlib.Core.Path.{refl}
 use Rattle.subst.specs.Internal.Binding.{bindWords}
-use Rattle.subst.proofs.ItemLaws.{not-yes, not-no}
-use Rattle.subst.proofs.CheckedLaws.{refused}
-use Rattle.subst.proofs.SameLengthLaws.{fails, no-room, answers}
+use Rattle.shift.proofs.ItemLaws.{not-yes, not-no}
+use Rattle.shift.proofs.CheckedLaws.{refused}
+use Rattle.shift.proofs.SameLengthLaws.{fails, no-room, answers}
 use Rattle.subst.proofs.BindLaws.{keeps}
 use borrow.Author.Needs.{needs}
 use Rattle.subst.proofs.bind.bind_marked.Statement.{statement}
@@ -11,8 +11,8 @@ use Rattle.subst.proofs.bind.bind_marked.Tie as tie
 use Rattle.subst.proofs.bind.bind_marked.Reads as reads
 use Rattle.subst.proofs.bind.bind_marked.Lts as lts
 use Rattle.subst.proofs.bind.write_bound.Reads as write-bound-reads
-use Rattle.subst.proofs.items.all_in.Reads as all-in-reads
-use Rattle.subst.proofs.shift.top_of.Reads as top-of-reads
+use Rattle.shift.proofs.items.all_in.Reads as all-in-reads
+use Rattle.shift.proofs.shift.top_of.Reads as top-of-reads
 
 cast-top-of : tie.Need-cast-top-of
 cast-top-of c = search needs

@@ -9,7 +9,7 @@ use Rattle.subst.proofs.bind.bound_item.Tie as tie
 use Rattle.subst.proofs.bind.bound_item.Reads as reads
 use Rattle.subst.proofs.bind.bound_item.Lts as lts
 use Rattle.subst.proofs.bind.seek.Reads as seek-reads
-use Rattle.subst.proofs.shift.move_word.Reads as move-word-reads
+use Rattle.shift.proofs.shift.move_word.Reads as move-word-reads
 
 enum-known-it : tie.Need-enum-known-it
 enum-known-it c = search needs

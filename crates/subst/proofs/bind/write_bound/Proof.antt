@@ -4,18 +4,18 @@ use native.Mathlib.Omega.{arith}
 use Prim.Native.Nat.{_-_}
 use lib.ListN.{length, drop}
 use borrow.Author.Needs.{needs}
-use Rattle.subst.specs.Internal.Items.{items, rewritten, store}
+use Rattle.shift.specs.Internal.Items.{items, rewritten, store}
 use Rattle.subst.specs.Internal.Binding.{boundWords}
-use Rattle.subst.proofs.ItemLaws.{store-more, store-none, size-in, size-pos}
+use Rattle.shift.proofs.ItemLaws.{store-more, store-none, size-in, size-pos}
 use Rattle.subst.proofs.BindLaws.{keeps}
 use Rattle.subst.proofs.bind.write_bound.Statement.{statement}
 use Rattle.subst.proofs.bind.write_bound.Tie as tie
 use Rattle.subst.proofs.bind.write_bound.Reads as reads
 use Rattle.subst.proofs.bind.write_bound.Lts as lts
 use Rattle.subst.proofs.bind.bound_item.Reads as bound-item-reads
-use Rattle.subst.proofs.items.item_at.Reads as item-at-reads
-use Rattle.subst.proofs.items.put_item.Reads as put-item-reads
-use Rattle.subst.proofs.items.size_of.Reads as size-of-reads
+use Rattle.shift.proofs.items.item_at.Reads as item-at-reads
+use Rattle.shift.proofs.items.put_item.Reads as put-item-reads
+use Rattle.shift.proofs.items.size_of.Reads as size-of-reads
 
 abbrev Inv-loop : tie.InvT-loop
 Inv-loop row marks names out₀ i₀ out i = (store out₀ 0 (rewritten (boundWords names) (items row marks)) ≡ store out i (rewritten (boundWords names) (items (drop i row) (drop i marks)))) × (length out ≡ length out₀)

@@ -1,7 +1,7 @@
 -- `subst::dangling::dangling_bound_indices` meets its contract. Assumes nothing.
 use mathlib.Core.Path.{refl}
 use native.Mathlib.Omega.{arith}
-use Rattle.subst.proofs.CheckedLaws.{refused}
+use Rattle.shift.proofs.CheckedLaws.{refused}
 use Rattle.subst.proofs.DanglingLaws.{dangling-long}
 use borrow.Author.Needs.{needs}
 use Rattle.subst.proofs.dangling.dangling_bound_indices.Statement.{statement}

@@ -1,13 +1,13 @@
 -- `subst::dangling::dangling_in` meets its contract. Assumes nothing.
 use mathlib.Core.Path.{refl}
-use Rattle.subst.proofs.CheckedLaws.{refused, passed, is-missing, checked-fresh}
+use Rattle.shift.proofs.CheckedLaws.{refused, passed, is-missing, checked-fresh}
 use Rattle.subst.proofs.DanglingLaws.{dangling-missing, all-small, dangling-row}
 use borrow.Author.Needs.{needs}
 use Rattle.subst.proofs.dangling.dangling_in.Statement.{statement}
 use Rattle.subst.proofs.dangling.dangling_in.Tie as tie
 use Rattle.subst.proofs.dangling.dangling_in.Reads as reads
 use Rattle.subst.proofs.dangling.dangling_in.Lts as lts
-use Rattle.form.proofs.check.mark.Reads as mark-reads
+use Rattle.reader.proofs.check.mark.Reads as mark-reads
 use Rattle.subst.proofs.dangling.set_marked.Reads as set-marked-reads
 
 mark-requires : tie.Need-mark-requires

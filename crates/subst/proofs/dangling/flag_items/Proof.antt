@@ -4,17 +4,17 @@ use native.Mathlib.Omega.{arith}
 use Prim.Native.Nat.{_-_}
 use lib.ListN.{length, drop}
 use borrow.Author.Needs.{needs}
-use Rattle.subst.specs.Internal.Items.{items, rewritten}
+use Rattle.shift.specs.Internal.Items.{items, rewritten}
 use Rattle.subst.specs.Internal.Flags.{indexWords, flagAll}
-use Rattle.subst.proofs.ItemLaws.{size-in, size-pos}
+use Rattle.shift.proofs.ItemLaws.{size-in, size-pos}
 use Rattle.subst.proofs.DanglingLaws.{flags-more, flags-none}
 use Rattle.subst.proofs.dangling.flag_items.Statement.{statement}
 use Rattle.subst.proofs.dangling.flag_items.Tie as tie
 use Rattle.subst.proofs.dangling.flag_items.Reads as reads
 use Rattle.subst.proofs.dangling.flag_items.Lts as lts
 use Rattle.subst.proofs.dangling.flag_item.Reads as flag-item-reads
-use Rattle.subst.proofs.items.item_at.Reads as item-at-reads
-use Rattle.subst.proofs.items.size_of.Reads as size-of-reads
+use Rattle.shift.proofs.items.item_at.Reads as item-at-reads
+use Rattle.shift.proofs.items.size_of.Reads as size-of-reads
 
 abbrev Inv-loop : tie.InvT-loop
 Inv-loop row marks flags₀ i₀ flags i = (flagAll flags₀ (rewritten indexWords (items row marks)) ≡ flagAll flags (rewritten indexWords (items (drop i row) (drop i marks)))) × (length flags ≡ length flags₀)

@@ -1,7 +1,7 @@
 -- `subst::dangling::put_flag` meets its contract. Assumes nothing.
 use native.Mathlib.Nat.{add-zero}
 use Rattle.subst.specs.Internal.Flags.{flagWords}
-use Rattle.subst.specs.Internal.Items.{store}
+use Rattle.shift.specs.Internal.Items.{store}
 use Rattle.subst.proofs.DanglingLaws.{put-set, put-out}
 use borrow.Author.Needs.{needs}
 use Rattle.subst.proofs.dangling.put_flag.Statement.{statement}

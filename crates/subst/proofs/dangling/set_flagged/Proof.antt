@@ -1,7 +1,7 @@
 -- `subst::dangling::set_flagged` meets its contract. Assumes nothing.
 use mathlib.Core.Path.{refl}
 use native.Mathlib.Omega.{arith}
-use Rattle.subst.proofs.CheckedLaws.{refused}
+use Rattle.shift.proofs.CheckedLaws.{refused}
 use Rattle.subst.proofs.DanglingLaws.{set-room, set-answers}
 use borrow.Author.Needs.{needs}
 use Rattle.subst.proofs.dangling.set_flagged.Statement.{statement}

@@ -7,7 +7,7 @@ use Rattle.subst.proofs.dangling.set_marked.Tie as tie
 use Rattle.subst.proofs.dangling.set_marked.Reads as reads
 use Rattle.subst.proofs.dangling.set_marked.Lts as lts
 use Rattle.subst.proofs.dangling.set_flagged.Reads as set-flagged-reads
-use Rattle.subst.proofs.items.all_in.Reads as all-in-reads
+use Rattle.shift.proofs.items.all_in.Reads as all-in-reads
 
 all-in-requires : tie.Need-all-in-requires
 all-in-requires c κs = search needs

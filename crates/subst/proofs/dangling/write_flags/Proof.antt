@@ -5,7 +5,7 @@ use Prim.Native.Nat.{_-_, _≤_}
 use lib.ListN.{length, drop}
 use lib.ListN.{getD}
 use Rattle.subst.specs.Internal.Flags.{selected}
-use Rattle.subst.specs.Internal.Items.{store}
+use Rattle.shift.specs.Internal.Items.{store}
 use Rattle.subst.proofs.DanglingLaws.{write-next, selected-none, flag-one}
 use Rattle.subst.proofs.dangling.write_flags.Statement.{statement}
 use Rattle.subst.proofs.dangling.write_flags.Tie as tie

@@ -2,7 +2,7 @@
 use mathlib.Core.Path.{_∙_}
 use borrow.Author.Needs.{needs}
 use lib.ListN.{length}
-use Rattle.subst.specs.Lift.{liftPart}
+use Rattle.rules.specs.Lift.{liftPart}
 use Rattle.subst.proofs.LiftLaws.{part-is, part-at}
 use borrow.Author.Needs.{needs}
 use Rattle.subst.proofs.lift.at_depth.Statement.{statement}

@@ -1,14 +1,14 @@
 -- `subst::lift::copy_in` meets its contract. Assumes nothing.
-use Rattle.subst.proofs.CheckedLaws.{is-missing, checked-fresh}
+use Rattle.shift.proofs.CheckedLaws.{is-missing, checked-fresh}
 use Rattle.subst.proofs.LiftLaws.{lift-missing, lift-zero, lift-closed, lift-refused, lift-copied}
 use borrow.Author.Needs.{needs}
 use Rattle.subst.proofs.lift.copy_in.Statement.{statement}
 use Rattle.subst.proofs.lift.copy_in.Tie as tie
 use Rattle.subst.proofs.lift.copy_in.Reads as reads
 use Rattle.subst.proofs.lift.copy_in.Lts as lts
-use Rattle.form.proofs.check.mark.Reads as mark-reads
-use Rattle.subst.proofs.items.all_in.Reads as all-in-reads
-use Rattle.subst.proofs.shift.shift_marked.Reads as shift-marked-reads
+use Rattle.reader.proofs.check.mark.Reads as mark-reads
+use Rattle.shift.proofs.items.all_in.Reads as all-in-reads
+use Rattle.shift.proofs.shift.shift_marked.Reads as shift-marked-reads
 
 mark-requires : tie.Need-mark-requires
 mark-requires c κs = search needs

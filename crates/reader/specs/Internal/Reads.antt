@@ -1,0 +1,121 @@
+-- What the readers answer, by what is read at a position of the row; and the marks of a form: at the tag of each name and index one
+-- more than the number of declarations that are open there.
+use mathlib.Core.Path.{_≡_}
+use mathlib.Core.List.{List, [], _∷_}
+use Prim.Native.Nat.{ℕ, suc, _+_}
+use mathlib.Core.Bool.{Bool, true, false, _&&_}
+use mathlib.Core.Option.{Option, none as absent, some}
+use lib.Dec.{leb}
+use lib.ListN.{length, set, take, replicate}
+use Rattle.tree.specs.Form.{Form, leaf, node, Forms, none, more, pick, member, encode, encodeAll}
+use Rattle.form.specs.Decode.{Got, got, no-form, Gots, gots, no-forms, isLeaf, decode, Found, found, missing}
+use Rattle.tree.specs.Tag.{Sort, expr, shapeOf}
+use Rattle.form.specs.Lists.{Place, kept, filled, Entry, entry, wordOf, entryWords, distinct}
+use Rattle.form.specs.declared.answer.Kind.{Kind}
+use Rattle.form.specs.declared.answer.Kind.the-variants.{Expression, Predicate, Either}
+use Rattle.tree.specs.declared.tag.Shape.{Shape}
+use Rattle.tree.specs.declared.tag.Shape.the-variants.{Unknown, Plain, Name, Value, Exprs, Preds, Apply, Compr, Quant}
+use Rattle.reader.specs.declared.lists.Table.{Table}
+use Rattle.reader.specs.declared.lists.Listed.{Listed}
+use Rattle.form.specs.declared.head.Step.{Step}
+use Rattle.form.specs.declared.head.Step.the-variants.{End, Bad}
+
+-- the list l with the marks of a form that stands at `at` under u declarations
+unfoldable mutual
+  pub mark : Form → ℕ → ℕ → List ℕ → List ℕ
+  mark (leaf x) at u l = set l at (suc u)
+  mark (node t o ds ks) at u l = markAll ks (at + suc (length o + length ds)) (length ds + u) l
+
+  pub markAll : Forms → ℕ → ℕ → List ℕ → List ℕ
+  markAll none at u l = l
+  markAll (more f fs) at u l = markAll fs (at + length (encode f)) u (mark f at u l)
+
+unfoldable pub markTag : ℕ → ℕ → ℕ → List ℕ → List ℕ
+markTag t at u l = pick (isLeaf t) (set l at (suc u)) l
+
+-- whether the words begin with a name or an index, within the depth
+unfoldable pub startsLeaf : ℕ → List ℕ → Bool
+startsLeaf d [] = false
+startsLeaf d (t ∷ []) = false
+startsLeaf d (t ∷ w ∷ ws) = leb 1 d && (isLeaf t && leb w 65535)
+
+-- a reader at `at` answers r and leaves the marks b, where they were a
+unfoldable pub Told : ℕ → ℕ → Got → List ℕ → List ℕ → Step → Type 0
+Told at u (got f x) a b r = (r ≡ End (at + length (encode f))) × (b ≡ mark f at u a)
+Told at u no-form a b r = r ≡ Bad
+
+unfoldable pub ToldAll : ℕ → ℕ → Gots → List ℕ → List ℕ → Step → Type 0
+ToldAll at u (gots fs x) a b r = (r ≡ End (at + length (encodeAll fs))) × (b ≡ markAll fs at u a)
+ToldAll at u no-forms a b r = r ≡ Bad
+
+-- no form is read where the depth or the number of open declarations is over 65,535
+unfoldable pub decodeIn : ℕ → ℕ → Sort → List ℕ → Got
+decodeIn d u s ws = pick (leb d 65535 && leb u 65535) (decode d s ws) no-form
+
+unfoldable pub Marked : Found → List ℕ → List ℕ → Type 0
+Marked (found s f) a b = b ≡ mark f 0 0 a
+Marked missing a b = Unit {0}
+
+-- which sort a row is read as
+abbrev pub known : Shape → Bool
+known Unknown = false
+known (Plain p e) = true
+known Name = true
+known Value = true
+known (Exprs m) = true
+known (Preds m) = true
+known Apply = true
+known Compr = true
+known Quant = true
+
+abbrev pub knownAt : List ℕ → Bool
+knownAt [] = false
+knownAt (t ∷ ws) = known (shapeOf expr t)
+
+unfoldable pub asExpr : Kind → List ℕ → Bool
+asExpr Expression row = true
+asExpr Predicate row = false
+asExpr Either row = knownAt row
+
+-- entries of lists: their marks, their table, and what the code's parts answer
+abbrev pub markPlace : Place → ℕ → List ℕ → List ℕ
+markPlace kept at l = l
+markPlace (filled f) at l = mark f at 0 l
+
+unfoldable pub markEntry : Entry → ℕ → List ℕ → List ℕ
+markEntry (entry w p) at l = markPlace p (at + 1) l
+
+unfoldable pub markEntries : List Entry → ℕ → List ℕ → List ℕ
+markEntries [] at l = l
+markEntries (e ∷ es) at l = markEntries es (at + length (entryWords e)) (markEntry e at l)
+
+unfoldable pub ToldEntry : ℕ → Option (Entry × List ℕ) → List ℕ → List ℕ → Step → Type 0
+ToldEntry at (some x) a b r = (r ≡ End (at + length (entryWords (x .0)))) × (b ≡ markEntry (x .0) at a)
+ToldEntry at absent a b r = r ≡ Bad
+
+unfoldable pub emptyTable : Table
+emptyTable = record { words = replicate 32 0; starts = replicate 32 0; ends = replicate 32 0; n = 0 }
+
+-- one row more; past 32 only their number grows
+unfoldable pub addRow : Table → ℕ → ℕ → ℕ → Table
+addRow t w s e =
+    pick (leb 32 (t .n)) (record { words = t .words; starts = t .starts; ends = t .ends; n = t .n + 1 })
+    (record { words = set (t .words) (t .n) w; starts = set (t .starts) (t .n) s; ends = set (t .ends) (t .n) e; n = t .n + 1 })
+
+unfoldable pub tabled : List Entry → ℕ → Table → Table
+tabled [] at t = t
+tabled (e ∷ es) at t = tabled es (at + length (entryWords e)) (addRow t (wordOf e) (at + 1) (at + length (entryWords e)))
+
+-- the entries from a position on, added to the table t
+unfoldable pub ListingFrom : ℕ → Table → Option (List Entry) → List ℕ → List ℕ → Listed → Type 0
+ListingFrom at t (some es) a b r = (r ≡ record { ok = true; table = tabled es at t }) × (b ≡ markEntries es at a)
+ListingFrom at t absent a b r = r .ok ≡ false
+
+abbrev pub Listing : Option (List Entry) → List ℕ → List ℕ → Listed → Type 0
+Listing o a b r = ListingFrom 0 emptyTable o a b r
+
+unfoldable pub memberOf : ℕ → List ℕ → Bool
+memberOf m ns = member m ns
+
+unfoldable pub goodTable : Table → Bool
+goodTable t = leb (t .n) 32 && distinct (take (t .n) (t .words))

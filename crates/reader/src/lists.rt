@@ -1,0 +1,216 @@
+// The lists: names; name and expression in turn; for each declaration 0, or 1 and an expression.
+use crate::reader::mark_child;
+use form::answer::Answer;
+use form::answer::Limit;
+use form::answer::ListKind;
+use form::head::Step;
+ghost use mathlib.Core.Path.{_≡_};
+ghost use Prim.Native.Nat.{_+_, _<_};
+ghost use lib.ListN.{length, take, drop};
+ghost use Rattle.form.specs.Lists.{placeEntry, entryOf, listOf, distinct, goodNames};
+ghost use Rattle.form.specs.Answer.{told, namesOutcome, pairsOutcome, placesOutcome};
+ghost use Rattle.reader.specs.Internal.Reads.{ToldEntry, Listing, emptyTable, memberOf, goodTable};
+
+// The entries of a list: of the first 32 the word, and where its expression starts and ends in the row (at one place where it has
+// none); and the number of all.
+pub struct Table {
+    pub words: [u32; 32],
+    pub starts: [usize; 32],
+    pub ends: [usize; 32],
+    pub n: usize,
+}
+
+// A table, if the row is a list.
+pub struct Listed {
+    pub ok: bool,
+    pub table: Table,
+}
+
+impl Table {
+    pub const LIMIT: usize = 32;
+
+    fn new() -> Table
+        ensures { λ r. ⌜ r ≡ emptyTable ⌝ }
+    {
+        let words = [0u32; Self::LIMIT];
+        let at = [0usize; Self::LIMIT];
+        Table {
+            words: words,
+            starts: at,
+            ends: at,
+            n: 0,
+        }
+    }
+}
+
+// A place at p, whose word is w: where it ends.
+fn place_at(row: &[u32], marks: &mut [u32], p: usize, w: u32) -> Step
+    requires { ⌜ p < length (now row) ⌝ }
+    ensures { λ r. ⌜ ToldEntry p (placeEntry w (drop (p + 1) (now (row .entry)))) (now (marks .entry)) (now (marks .exit)) r ⌝ }
+{
+    if w == 0 {
+        return Step::End(p + 1);
+    }
+    if 1 < w {
+        return Step::Bad;
+    }
+    mark_child(row, marks, p + 1, Limit::DEPTH, 0)
+}
+
+// One entry of a list at p: where it ends.
+fn entry_at(row: &[u32], kind: ListKind, marks: &mut [u32], p: usize) -> Step
+    ensures { λ r. ⌜ ToldEntry p (entryOf kind (drop p (now (row .entry)))) (now (marks .entry)) (now (marks .exit)) r ⌝ }
+{
+    if row.len() <= p {
+        return Step::Bad;
+    }
+    match kind {
+        ListKind::Pairs => mark_child(row, marks, p + 1, Limit::DEPTH, 0),
+        ListKind::Places => place_at(row, marks, p, row[p]),
+    }
+}
+
+// The entries of the row, if it is such a list; the names and indices of their expressions are marked. The marks are a work row: what
+// they hold after a refusal is free.
+pub fn mark_list(row: &[u32], kind: ListKind, marks: &mut [u32]) -> Listed
+    ensures { λ r. ⌜ Listing (listOf kind (now (row .entry))) (now (marks .entry)) (now (marks .exit)) r ⌝ }
+{
+    let mut table = Table::new();
+    let mut p = 0;
+    while p < row.len() {
+        let Step::End(q) = entry_at(row, kind, marks, p) else {
+            return Listed {
+                ok: false,
+                table: table,
+            };
+        };
+        let i = table.n;
+        if i < Table::LIMIT {
+            table.words[i] = row[p];
+            table.starts[i] = p + 1;
+            table.ends[i] = q;
+        }
+        table.n = i + 1;
+        p = q;
+    }
+    Listed {
+        ok: true,
+        table: table,
+    }
+}
+
+// Whether the name stands at `from` or after it.
+fn has_from(names: &[u32], from: usize, m: u32) -> bool
+    ensures { λ r. ⌜ r ≡ memberOf m (drop from (now (names .entry))) ⌝ }
+{
+    let mut i = from;
+    while i < names.len() {
+        if names[i] == m {
+            return true;
+        }
+        i += 1;
+    }
+    false
+}
+
+// Whether no name is over 65,535 and none stands twice.
+fn are_distinct(names: &[u32]) -> bool
+    ensures { λ r. ⌜ r ≡ distinct (now (names .entry)) ⌝ }
+{
+    let mut i = 0;
+    while i < names.len() {
+        if Limit::NAME < names[i] {
+            return false;
+        }
+        if has_from(names, i + 1, names[i]) {
+            return false;
+        }
+        i += 1;
+    }
+    true
+}
+
+// Whether the names can be bound or substituted: at most 32, none over 65,535, none twice.
+pub fn good_names(names: &[u32]) -> bool
+    ensures { λ r. ⌜ r ≡ goodNames (now (names .entry)) ⌝ }
+{
+    if Table::LIMIT < names.len() {
+        return false;
+    }
+    are_distinct(names)
+}
+
+// The check of a list of names.
+pub fn check_names(row: &[u32]) -> Answer
+    ensures { λ r. ⌜ r ≡ told (namesOutcome (now (row .entry))) ⌝ }
+{
+    if Limit::WORDS < row.len() {
+        return Answer::No(1);
+    }
+    if !good_names(row) {
+        return Answer::No(4);
+    }
+    Answer::Done(0)
+}
+
+// Whether the first n words, or all if they are fewer, can be names of one list.
+fn are_first_distinct(words: &[u32], n: usize) -> bool
+    ensures { λ r. ⌜ r ≡ distinct (take n (now (words .entry))) ⌝ }
+{
+    if words.len() < n {
+        return are_distinct(words);
+    }
+    are_distinct(&words[..n])
+}
+
+// Whether the words of the table's entries are good names.
+pub fn good_table(table: Table) -> bool
+    ensures { λ r. ⌜ r ≡ goodTable table ⌝ }
+{
+    let n = table.n;
+    if Table::LIMIT < n {
+        return false;
+    }
+    let words = table.words;
+    are_first_distinct(&words, n)
+}
+
+// The check of a substitution list.
+pub fn check_pairs(row: &[u32]) -> Answer
+    ensures { λ r. ⌜ r ≡ told (pairsOutcome (now (row .entry))) ⌝ }
+{
+    if Limit::WORDS < row.len() {
+        return Answer::No(1);
+    }
+    let mut marks = [0u32; 1];
+    let listed = mark_list(row, ListKind::Pairs, &mut marks);
+    if !listed.ok {
+        return Answer::No(2);
+    }
+    if !good_table(listed.table) {
+        return Answer::No(4);
+    }
+    Answer::Done(0)
+}
+
+// The check of a list of places for n declarations.
+pub fn check_places(row: &[u32], n: u32) -> Answer
+    ensures { λ r. ⌜ r ≡ told (placesOutcome n (now (row .entry))) ⌝ }
+{
+    if Limit::WORDS < row.len() {
+        return Answer::No(1);
+    }
+    let mut marks = [0u32; 1];
+    let listed = mark_list(row, ListKind::Places, &mut marks);
+    if !listed.ok {
+        return Answer::No(2);
+    }
+    if Limit::DECLARATIONS < n {
+        return Answer::No(5);
+    }
+    let table = listed.table;
+    if table.n != n as usize {
+        return Answer::No(5);
+    }
+    Answer::Done(0)
+}

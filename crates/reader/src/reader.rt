@@ -1,0 +1,202 @@
+// The readers of expressions and of predicates, which call one another over the word row. They also mark each name and index with the
+// number of declarations that are open there.
+use form::answer::Limit;
+use form::head::Head;
+use form::head::Step;
+use form::head::expr_head;
+use form::head::pred_head;
+use tree::tag::Tag;
+ghost use mathlib.Core.Path.{_≡_};
+ghost use Prim.Native.Nat.{_+_, _*_, _^_, _<_};
+ghost use lib.ListN.{drop, set, replicate};
+ghost use Rattle.tree.specs.Form.{pick};
+ghost use Rattle.tree.specs.Tag.{expr, pred, sorts};
+ghost use Rattle.form.specs.Decode.{decode, decodeAll};
+ghost use Rattle.reader.specs.Internal.Reads.{markTag, startsLeaf, Told, ToldAll, decodeIn};
+ghost use Rattle.form.specs.declared.head.Step.the-variants.{End, Bad};
+
+// Stores a mark, where there is room.
+fn put_mark(marks: &mut [u32], at: usize, mark: u32)
+    ensures { λ _. ⌜ now (marks .exit) ≡ set (now (marks .entry)) at mark ⌝ }
+{
+    if at < marks.len() {
+        marks[at] = mark;
+    }
+}
+
+// Marks the tag at `at`, if it is that of a name or an index.
+fn mark_tag(marks: &mut [u32], at: usize, tag: u32, under: u32)
+    requires { ⌜ under + 1 < 2 ^ 32 ⌝ }
+    ensures { λ _. ⌜ now (marks .exit) ≡ markTag tag at under (now (marks .entry)) ⌝ }
+{
+    if tag == 0 {
+        return;
+    }
+    if 2 < tag {
+        return;
+    }
+    put_mark(marks, at, under + 1);
+}
+
+// Whether a name or an index stands at `at`, within the depth.
+pub fn is_leaf(row: &[u32], at: usize, depth: u32) -> bool
+    ensures { λ r. ⌜ r ≡ startsLeaf depth (drop at (now (row .entry))) ⌝ }
+{
+    if depth == 0 {
+        return false;
+    }
+    if row.len() <= at {
+        return false;
+    }
+    if row.len() <= at + 1 {
+        return false;
+    }
+    if row[at] == 0 {
+        return false;
+    }
+    if Tag::BOUND_IDENT < row[at] {
+        return false;
+    }
+    row[at + 1] <= Limit::NAME
+}
+
+// A name or an index at `at`, under so many open declarations; whatever else stands there is left to the reader of expressions.
+fn mark_leaf(row: &[u32], marks: &mut [u32], at: usize, depth: u32, under: u32) -> Step
+    requires { ⌜ under + 32 * depth < 2 ^ 32 ⌝ }
+    ensures { λ r. ⌜ r ≡ pick (startsLeaf depth (drop at (now (row .entry)))) (End (at + 2)) Bad ⌝ }
+    ensures { λ _. ⌜ now (marks .exit) ≡ pick (startsLeaf depth (drop at (now (row .entry)))) (set (now (marks .entry)) at (under + 1)) (now (marks .entry)) ⌝ }
+{
+    if is_leaf(row, at, depth) {
+        put_mark(marks, at, under + 1);
+        return Step::End(at + 2);
+    }
+    Step::Bad
+}
+
+// An expression at `at`, under so many open declarations.
+pub(crate) fn mark_expr(row: &[u32], marks: &mut [u32], at: usize, depth: u32, under: u32) -> Step
+    requires { ⌜ under + 32 * depth < 2 ^ 32 ⌝ }
+    ensures { λ r. ⌜ Told at under (decode depth expr (drop at (now (row .entry)))) (now (marks .entry)) (now (marks .exit)) r ⌝ }
+{
+    if depth == 0 {
+        return Step::Bad;
+    }
+    if row.len() <= at {
+        return Step::Bad;
+    }
+    let tag = row[at];
+    let Head::Kids(p, preds, exprs, binds) = expr_head(row, at + 1, tag) else {
+        return Step::Bad;
+    };
+    mark_tag(marks, at, tag, under);
+    mark_kids(row, marks, p, preds, exprs, depth - 1, under + binds)
+}
+
+// A predicate at `at`, under so many open declarations.
+pub(crate) fn mark_pred(row: &[u32], marks: &mut [u32], at: usize, depth: u32, under: u32) -> Step
+    requires { ⌜ under + 32 * depth < 2 ^ 32 ⌝ }
+    ensures { λ r. ⌜ Told at under (decode depth pred (drop at (now (row .entry)))) (now (marks .entry)) (now (marks .exit)) r ⌝ }
+{
+    if depth == 0 {
+        return Step::Bad;
+    }
+    if row.len() <= at {
+        return Step::Bad;
+    }
+    let tag = row[at];
+    let Head::Kids(p, preds, exprs, binds) = pred_head(row, at + 1, tag) else {
+        return Step::Bad;
+    };
+    mark_tag(marks, at, tag, under);
+    mark_kids(row, marks, p, preds, exprs, depth - 1, under + binds)
+}
+
+// So many predicates, then so many expressions.
+fn mark_kids(
+    row: &[u32],
+    marks: &mut [u32],
+    at: usize,
+    preds: u32,
+    exprs: u32,
+    depth: u32,
+    under: u32,
+) -> Step
+    requires { ⌜ under + 32 * depth < 2 ^ 32 ⌝ }
+    ensures { λ r. ⌜ ToldAll at under (decodeAll (λ s l. decode depth s l) (sorts preds exprs) (drop at (now (row .entry)))) (now (marks .entry)) (now (marks .exit)) r ⌝ }
+{
+    let Step::End(p) = mark_preds(row, marks, at, preds, depth, under) else {
+        return Step::Bad;
+    };
+    mark_exprs(row, marks, p, exprs, depth, under)
+}
+
+// An expression at `at`: a name or an index, the common case, without a call.
+pub(crate) fn mark_child(row: &[u32], marks: &mut [u32], at: usize, depth: u32, under: u32) -> Step
+    requires { ⌜ under + 32 * depth < 2 ^ 32 ⌝ }
+    ensures { λ r. ⌜ Told at under (decode depth expr (drop at (now (row .entry)))) (now (marks .entry)) (now (marks .exit)) r ⌝ }
+{
+    let Step::End(q) = mark_leaf(row, marks, at, depth, under) else {
+        return mark_expr(row, marks, at, depth, under);
+    };
+    Step::End(q)
+}
+
+// n expressions in a row.
+fn mark_exprs(row: &[u32], marks: &mut [u32], at: usize, n: u32, depth: u32, under: u32) -> Step
+    requires { ⌜ under + 32 * depth < 2 ^ 32 ⌝ }
+    ensures { λ r. ⌜ ToldAll at under (decodeAll (λ s l. decode depth s l) (replicate n expr) (drop at (now (row .entry)))) (now (marks .entry)) (now (marks .exit)) r ⌝ }
+{
+    let mut p = at;
+    let mut left = n;
+    while 0 < left {
+        let Step::End(q) = mark_child(row, marks, p, depth, under) else {
+            return Step::Bad;
+        };
+        p = q;
+        left -= 1;
+    }
+    Step::End(p)
+}
+
+// n predicates in a row.
+fn mark_preds(row: &[u32], marks: &mut [u32], at: usize, n: u32, depth: u32, under: u32) -> Step
+    requires { ⌜ under + 32 * depth < 2 ^ 32 ⌝ }
+    ensures { λ r. ⌜ ToldAll at under (decodeAll (λ s l. decode depth s l) (replicate n pred) (drop at (now (row .entry)))) (now (marks .entry)) (now (marks .exit)) r ⌝ }
+{
+    let mut p = at;
+    let mut left = n;
+    while 0 < left {
+        let Step::End(q) = mark_pred(row, marks, p, depth, under) else {
+            return Step::Bad;
+        };
+        p = q;
+        left -= 1;
+    }
+    Step::End(p)
+}
+
+// An expression at `at`, under so many open declarations; where the depth or their number is over 65,535, none is read.
+pub fn expr_at(row: &[u32], marks: &mut [u32], at: usize, depth: u32, under: u32) -> Step
+    ensures { λ r. ⌜ Told at under (decodeIn depth under expr (drop at (now (row .entry)))) (now (marks .entry)) (now (marks .exit)) r ⌝ }
+{
+    if Limit::NAME < depth {
+        return Step::Bad;
+    }
+    if Limit::NAME < under {
+        return Step::Bad;
+    }
+    mark_expr(row, marks, at, depth, under)
+}
+
+// A predicate at `at`, likewise.
+pub fn pred_at(row: &[u32], marks: &mut [u32], at: usize, depth: u32, under: u32) -> Step
+    ensures { λ r. ⌜ Told at under (decodeIn depth under pred (drop at (now (row .entry)))) (now (marks .entry)) (now (marks .exit)) r ⌝ }
+{
+    if Limit::NAME < depth {
+        return Step::Bad;
+    }
+    if Limit::NAME < under {
+        return Step::Bad;
+    }
+    mark_pred(row, marks, at, depth, under)
+}

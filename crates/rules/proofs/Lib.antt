@@ -1,0 +1,4 @@
+pub mod Starred
+pub mod WalkLaws
+pub mod LimitLaws
+pub mod TreeLaws

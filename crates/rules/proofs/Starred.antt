@@ -1,0 +1,56 @@
+-- Document 01's starred cases, from row to row: one table, one statement about the definitions. Assumes nothing.
+use mathlib.Core.Path.{_≡_, refl}
+use mathlib.Core.List.{List, [], _∷_, map}
+use lib.IntN.{negsuc}
+use Rattle.tree.specs.Form.{encode}
+use Rattle.tree.specs.Tag.{own, ownOf, shapeOf, exprTags, predTags}
+use Rattle.form.specs.Decode.{read, decode, decodeAll, rowForm, formOf}
+use Rattle.form.specs.Lists.{entryOf, entries, listOf, distinct, goodNames}
+use Rattle.form.specs.Answer.{Outcome, answer, refusal, finish}
+use Rattle.rules.specs.Walk.{walk, collect}
+use Rattle.rules.specs.Shift as S
+use Rattle.rules.specs.Free.{substitute, freeOutcome}
+use Rattle.rules.specs.Bind as B
+use Rattle.rules.specs.Fill as F
+use Rattle.rules.specs.Prune as P
+use Rattle.rules.specs.Replacement.{accept}
+use Rattle.rules.specs.Split.{parts}
+use Rattle.rules.specs.Scan.{offerParts, scan}
+use Rattle.rules.specs.Partial.{putRound, instantiatePartial}
+use Rattle.rules.specs.Point.{onePoint, pointOutcome}
+use Rattle.rules.specs.Member.{offerAll, membership, memberOutcome}
+use Rattle.rules.specs.Command.{Command, shift, free, bind, fill, prune, point, member, outcomeOf}
+
+abbrev commands : List Command
+commands =
+    shift (negsuc 1) (852 ∷ 1 ∷ 9 ∷ 101 ∷ 2 ∷ 0 ∷ 2 ∷ 2 ∷ [])
+    ∷ shift (negsuc 0) (852 ∷ 1 ∷ 9 ∷ 101 ∷ 2 ∷ 0 ∷ 2 ∷ 2 ∷ [])
+    ∷ free (4 ∷ 2 ∷ 0 ∷ []) (852 ∷ 1 ∷ 9 ∷ 101 ∷ 2 ∷ 0 ∷ 1 ∷ 4 ∷ [])
+    ∷ bind (4 ∷ 5 ∷ []) (101 ∷ 1 ∷ 4 ∷ 2 ∷ 0 ∷ [])
+    ∷ fill (0 ∷ 1 ∷ 1 ∷ 5 ∷ []) (852 ∷ 2 ∷ 4 ∷ 5 ∷ 101 ∷ 2 ∷ 1 ∷ 2 ∷ 2 ∷ [])
+    ∷ prune (852 ∷ 2 ∷ 4 ∷ 5 ∷ 101 ∷ 2 ∷ 1 ∷ 1 ∷ 7 ∷ [])
+    ∷ point (852 ∷ 1 ∷ 4 ∷ 101 ∷ 2 ∷ 0 ∷ 1 ∷ 7 ∷ [])
+    ∷ point (851 ∷ 1 ∷ 4 ∷ 8 ∷ 101 ∷ 2 ∷ 0 ∷ 1 ∷ 7 ∷ [])
+    ∷ point (852 ∷ 1 ∷ 4 ∷ 101 ∷ 2 ∷ 0 ∷ 2 ∷ 0 ∷ [])
+    ∷ point (852 ∷ 2 ∷ 4 ∷ 5 ∷ 351 ∷ 2 ∷ 101 ∷ 2 ∷ 0 ∷ 2 ∷ 1 ∷ 851 ∷ 1 ∷ 6 ∷ 101 ∷ 2 ∷ 0 ∷ 2 ∷ 1 ∷ [])
+    ∷ member (107 ∷ 1 ∷ 7 ∷ 803 ∷ 0 ∷ 1 ∷ 4 ∷ 610 ∷ 3 ∷ 5 ∷ [])
+    ∷ []
+
+abbrev answers : List Outcome
+answers =
+    refusal 6
+    ∷ answer (852 ∷ 1 ∷ 9 ∷ 101 ∷ 2 ∷ 0 ∷ 2 ∷ 1 ∷ [])
+    ∷ answer (852 ∷ 1 ∷ 9 ∷ 101 ∷ 2 ∷ 0 ∷ 2 ∷ 1 ∷ [])
+    ∷ answer (101 ∷ 2 ∷ 1 ∷ 2 ∷ 2 ∷ [])
+    ∷ answer (852 ∷ 1 ∷ 4 ∷ 101 ∷ 2 ∷ 0 ∷ 2 ∷ 1 ∷ [])
+    ∷ answer (852 ∷ 1 ∷ 4 ∷ 101 ∷ 2 ∷ 0 ∷ 1 ∷ 7 ∷ [])
+    ∷ answer (610 ∷ [])
+    ∷ answer (611 ∷ [])
+    ∷ refusal 9
+    ∷ answer (852 ∷ 1 ∷ 4 ∷ 851 ∷ 1 ∷ 6 ∷ 101 ∷ 2 ∷ 0 ∷ 2 ∷ 1 ∷ [])
+    ∷ answer (852 ∷ 1 ∷ 4 ∷ 351 ∷ 2 ∷ 610 ∷ 101 ∷ 3 ∷ 5 ∷ 1 ∷ 7 ∷ [])
+    ∷ []
+
+pub starred : map outcomeOf commands ≡ answers
+unfolding outcomeOf S.shiftOutcome S.shift freeOutcome substitute B.bindOutcome B.bind F.fillOutcome F.fill F.quantified P.pruneOutcome P.prune pointOutcome onePoint memberOutcome membership offerAll instantiatePartial putRound scan offerParts accept parts walk collect finish goodNames distinct listOf entries entryOf formOf rowForm decode decodeAll read own ownOf shapeOf exprTags predTags encode
+starred = refl

@@ -1,0 +1,15 @@
+pub mod Replacement
+pub mod Split
+pub mod Scan
+pub mod Partial
+pub mod Point
+pub mod Member
+pub mod Command
+pub mod Free
+pub mod Fill
+pub mod Prune
+pub mod Walk
+pub mod Dangling
+pub mod Shift
+pub mod Lift
+pub mod Bind

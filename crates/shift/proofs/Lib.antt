@@ -1,0 +1,6 @@
+pub mod RowLaws
+pub mod ItemLaws
+pub mod CheckedLaws
+pub mod SameLengthLaws
+pub mod SignedLaws
+pub mod ShiftLaws
