@@ -19,7 +19,7 @@ use crate::text::word_at;
 use crate::text::words_part;
 use form::answer::Answer;
 use libc::STDIN_FILENO;
-use one_point::replacements::Replacements;
+use places::replacements::Replacements;
 
 fn offset(param: u32, sign: u32) -> i32 {
     match sign {

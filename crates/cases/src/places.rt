@@ -2,8 +2,8 @@
 use crate::print;
 use crate::text::size_at;
 use crate::text::words_part;
-use one_point::replacements::Offered;
-use one_point::replacements::Replacements;
+use places::replacements::Offered;
+use places::replacements::Replacements;
 
 // A set that no constructor makes, of any number of declarations.
 pub(crate) fn forced(n: usize) -> Offered {

@@ -2,12 +2,12 @@
 use mir.Val.{Val}
 use denote.Steps.{only}
 use denote.Struct.Laws as LL
-use Rattle.one_point.specs.declared.replacements.Replacements.{Replacements}
-use Rattle.one_point.specs.declared.replacements.Offered.{Offered}
-use Rattle.one_point.proofs.replacements.Replacements as T
-use Rattle.one_point.proofs.replacements.Replacements.Laws as T′
-use Rattle.one_point.proofs.replacements.Offered as O
-use Rattle.one_point.proofs.replacements.Offered.Laws as O′
+use Rattle.places.specs.declared.replacements.Replacements.{Replacements}
+use Rattle.places.specs.declared.replacements.Offered.{Offered}
+use Rattle.places.proofs.replacements.Replacements as T
+use Rattle.places.proofs.replacements.Replacements.Laws as T′
+use Rattle.places.proofs.replacements.Offered as O
+use Rattle.places.proofs.replacements.Offered.Laws as O′
 
 abbrev pub mach : Replacements → Val
 mach p = only (LL.vals T.the-type T′.the-laws p)

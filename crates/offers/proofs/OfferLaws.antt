@@ -4,8 +4,8 @@ use mathlib.Core.List.{List}
 use mathlib.Core.Path.{_≡_, refl, sym}
 use Prim.Native.Nat.{ℕ}
 use lib.Dec.{eqb}
-use Rattle.one_point.specs.Places.{newOf, offerAnswer}
-use Rattle.one_point.specs.declared.replacements.Offered.{Offered}
+use Rattle.places.specs.Places.{newOf, offerAnswer}
+use Rattle.places.specs.declared.replacements.Offered.{Offered}
 use Rattle.offers.specs.Offers.{thenOffer, offerTwo}
 
 -- a refused set stays as it is

@@ -9,9 +9,9 @@ use Rattle.tree.specs.Form.{Form, leaf, node, none, more, pick}
 use Rattle.form.specs.Decode.{Found, found, missing, formOf}
 use Rattle.form.specs.declared.answer.Kind.the-variants.{Predicate}
 use Rattle.rules.specs.Replacement.{Offer, offer, no-offer, offered, above, sideOf}
-use Rattle.one_point.specs.Places.{says, startOf, endOf, place, fillPlace, offerSides, offerForm, offerFound, offerAnswer}
-use Rattle.one_point.specs.declared.replacements.Replacements.{Replacements}
-use Rattle.one_point.specs.declared.replacements.Offered.{Offered}
+use Rattle.places.specs.Places.{says, startOf, endOf, place, fillPlace, offerSides, offerForm, offerFound, offerAnswer}
+use Rattle.places.specs.declared.replacements.Replacements.{Replacements}
+use Rattle.places.specs.declared.replacements.Offered.{Offered}
 
 module _ (p : Replacements) where
   abbrev Leaves : Offered → Type 0

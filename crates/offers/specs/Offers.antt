@@ -3,8 +3,8 @@ use mathlib.Core.List.{List}
 use Prim.Native.Nat.{ℕ}
 use lib.Dec.{eqb}
 use Rattle.tree.specs.Form.{pick}
-use Rattle.one_point.specs.Places.{newOf, offerAnswer}
-use Rattle.one_point.specs.declared.replacements.Offered.{Offered}
+use Rattle.places.specs.Places.{newOf, offerAnswer}
+use Rattle.places.specs.declared.replacements.Offered.{Offered}
 
 -- an accepted set is offered the row; a refused one is answered as it is
 unfoldable pub thenOffer : Offered → List ℕ → Offered

@@ -1,8 +1,8 @@
 // The set of places lent to the offers that alter it.
-use one_point::replacements::Offered;
-use one_point::replacements::Replacements;
+use places::replacements::Offered;
+use places::replacements::Replacements;
 ghost use mathlib.Core.Path.{_≡_};
-ghost use Rattle.one_point.specs.Places.{offerAnswer};
+ghost use Rattle.places.specs.Places.{offerAnswer};
 ghost use Rattle.offers.specs.Offers.{offerTwo};
 
 // A predicate row offered to the lent set: its number is answered, and a refusal leaves the set as it is.

@@ -1,8 +1,8 @@
 -- A part offered and written: from the words of its sides to the definitions. Assumes nothing.
 use mathlib.Core.Path.{_≡_, refl, ap, _∙_}
-use mathlib.Core.Bool.{Bool, true, false}
+use mathlib.Core.Bool.{Bool, true, false, _&&_}
 use mathlib.Core.List.{List, _++_}
-use Prim.Native.Nat.{ℕ, _+_, _-_, _≤_}
+use Prim.Native.Nat.{ℕ, _+_, _-_, _≤_, _<_}
 use native.Mathlib.Omega.{arith}
 use lib.Dec.{ltb}
 use lib.ListN.{length, take, drop}
@@ -10,14 +10,15 @@ use Rattle.tree.specs.Form.{Form, pick, encode}
 use Rattle.tree.specs.Tag.{expr}
 use Rattle.form.proofs.DecodeLaws.{clash, Ok}
 use Rattle.rules.specs.Replacement.{left, right, Offer, offer, no-offer, offered, taken, nothing, above, allowed, ofOffer, accept}
-use Rattle.one_point.specs.Internal.Sides.{indexWords, replaceBy, replacementWords, aboveWords}
-use Rattle.one_point.specs.Internal.Parts.{acceptBy, acceptWords, Within, TookIs}
-use Rattle.one_point.specs.declared.sides.Sides.{Sides}
-use Rattle.one_point.specs.declared.sides.Index.{Index}
-use Rattle.one_point.specs.declared.sides.Index.the-variants.{Bound, Unbound}
-use Rattle.one_point.specs.declared.sides.Replacement.{Replacement}
-use Rattle.one_point.specs.declared.sides.Replacement.the-variants.{Is, Not}
-use Rattle.one_point.proofs.SidesLaws.{placed, rule-words, above-words, part-words}
+use Rattle.places.specs.Internal.Sides.{indexWords, replaceBy, replacementWords, aboveWords}
+use Rattle.one_point.specs.Internal.Parts.{acceptBy, acceptWords, TookIs}
+use Rattle.places.specs.Internal.Positions.{Within}
+use Rattle.places.specs.declared.sides.Sides.{Sides}
+use Rattle.places.specs.declared.sides.Index.{Index}
+use Rattle.places.specs.declared.sides.Index.the-variants.{Bound, Unbound}
+use Rattle.places.specs.declared.sides.Replacement.{Replacement}
+use Rattle.places.specs.declared.sides.Replacement.the-variants.{Is, Not}
+use Rattle.places.proofs.SidesLaws.{placed, rule-words, above-words, part-words, above-is}
 
 -- the replacement is one of the sides
 module _ (row : List ℕ) (s : Sides) (h : Within row s) where
@@ -81,3 +82,7 @@ module _ (row : List ℕ) (n : ℕ) where
     pub took : TookIs row (accept n l r) (acceptWords n s row)
     unfolding accept acceptWords
     took = rw (rule-words s row l r (drop (s .middle) row) (drop (s .end) row) ok-l ok-r words-l words-r) (took-by (offered l r))
+
+-- the test of a target that is one of n declarations
+pub above-in : (i n : ℕ) (row : List ℕ) (r : Bool) → i < n → n ≤ 32 → r ≡ (ltb i 32 && aboveWords i row) → r ≡ aboveWords i row
+above-in i n row r h k e = above-is i row r e (omega arith)

@@ -10,12 +10,13 @@ use Rattle.tree.specs.Form.{Form, node, encode}
 use Rattle.form.proofs.DecodeLaws.{clash}
 use Rattle.rules.specs.Replacement.{Taken}
 use Rattle.rules.specs.Scan.{Scan, scanned, negate, scan}
-use Rattle.one_point.specs.Internal.Writes.{Wrote, Neat, neat-not, neat-other}
+use Rattle.places.specs.Internal.Wrote.{Wrote}
+use Rattle.one_point.specs.Internal.Writes.{Neat, neat-not, neat-other}
 use Rattle.one_point.specs.Internal.Scans.{Left, Became}
 use Rattle.one_point.specs.declared.scan.Scanned.{Scanned}
-use Rattle.one_point.proofs.PartsLaws.{some-words}
-use Rattle.one_point.proofs.WriteLaws.{wrote-end, negate-other}
-use Rattle.one_point.proofs.EqualityLaws.{wrote-in, kept, wrote-self, based}
+use Rattle.places.proofs.PartsLaws.{some-words}
+use Rattle.places.proofs.WroteLaws.{wrote-end, wrote-in, kept, wrote-self, based}
+use Rattle.one_point.proofs.WriteLaws.{negate-other}
 use Rattle.one_point.proofs.RebuildLaws.{notOf, not-words, scan-not}
 
 -- a negated predicate is neat, and has one word more at most

@@ -10,11 +10,12 @@ use Rattle.tree.specs.Form.{Form, Forms, none, more, count, encode, encodeAll}
 use Rattle.tree.specs.Tag.{pred}
 use Rattle.form.specs.Decode.{got, gots, decode, decodeAll}
 use Rattle.form.proofs.DecodeLaws.{OkAll, ok-none, ok-more, decode-encode, decodeAll-encode, all-sound}
-use Rattle.one_point.specs.Internal.Writes.{Wrote, Neats, no-more, and-more}
+use Rattle.places.specs.Internal.Wrote.{Wrote}
+use Rattle.one_point.specs.Internal.Writes.{Neats, no-more, and-more}
 use Rattle.one_point.specs.Internal.Scans.{kidsAt, Kids, KidsCopied}
-use Rattle.one_point.proofs.SidesLaws.{part-words}
+use Rattle.places.proofs.SidesLaws.{part-words}
 use Rattle.one_point.proofs.ScanLaws.{pred-neat}
-use Rattle.one_point.proofs.PartsLaws.{first-length}
+use Rattle.places.proofs.PartsLaws.{first-length}
 
 -- the first child
 pub record KidIs (row : List ℕ) (d q n w words : ℕ) : Type 0 where

@@ -1,23 +1,24 @@
 -- What is left of a scanned equality: its length, and that a not in it is neat. Assumes nothing.
-use mathlib.Core.Path.{_≡_, refl, ap, sym, _∙_}
+use mathlib.Core.Path.{_≡_, refl}
 use mathlib.Core.Bool.{Bool, true, false, _&&_}
 use mathlib.Core.Option.{Option}
 use mathlib.Core.List.{List, [], _∷_, _++_, append-nil}
 use Prim.Native.Nat.{ℕ, _+_, _*_, _≤_}
 use native.Mathlib.Omega.{arith}
-use lib.ListN.{length, take, length-append, length-take}
-use lib.Seq.{length-take-le, take-take, take-append-le}
+use lib.ListN.{length, length-append}
 use Rattle.tree.specs.Form.{Form, leaf, node, Forms, none, more, pick, count, encode, encodeAll}
 use Rattle.rules.specs.Replacement.{Taken, taken, nothing, accept}
 use Rattle.rules.specs.Split.{isPair, parts, partsAll, equal}
 use Rattle.rules.specs.Scan.{Scans, scans, joined, present, copied, offerPart, offerParts, with, scan}
-use Rattle.one_point.specs.Internal.Writes.{Wrote, leftWords, isGone, Neat, neat-other, Neats, no-more, and-more}
+use Rattle.places.specs.Internal.Wrote.{Wrote}
+use Rattle.one_point.specs.Internal.Writes.{leftWords, isGone, Neat, neat-other, Neats, no-more, and-more}
 use Rattle.one_point.specs.Internal.Parts.{PartsTold}
 use Rattle.one_point.specs.Internal.Scans.{NeatLeft, Left, Became}
-use Rattle.one_point.specs.declared.sides.Replacement.{Replacement}
-use Rattle.one_point.proofs.WriteLaws.{wrote-end}
-use Rattle.one_point.proofs.PartsLaws.{some-words}
-use Rattle.one_point.proofs.PartsStepLaws.{equal-length}
+use Rattle.places.specs.declared.sides.Replacement.{Replacement}
+use Rattle.places.proofs.WroteLaws.{wrote-end, wrote-in, kept, wrote-self, based}
+use Rattle.places.proofs.PartsLaws.{some-words}
+use Rattle.places.proofs.StepLaws.{equal-length}
+use Rattle.places.proofs.PartsOk.{kids-few}
 
 -- words of forms
 unfoldable pub words : Forms → ℕ
@@ -54,8 +55,8 @@ pick-short true ps l r h = h
 pick-short false ps l r h = one-short l r
 
 pub kids-words : (t : ℕ) (o ds : List ℕ) (ks : Forms) → words ks ≤ length (encode (node t o ds ks))
-unfolding words encode
-kids-words t o ds ks = rw (length-append o, length-append ds) (omega arith)
+unfolding words
+kids-words t o ds ks = kids-few t o ds ks
 
 mutual
   unfolding parts
@@ -126,30 +127,6 @@ unfolding encode words
 joined-words t none = omega arith
 joined-words t (more f none) = rw append-nil (omega arith)
 joined-words t (more f (more g fs)) = omega arith
-
--- the output row before and after
-module _ (pos end : ℕ) (out ws out′ : List ℕ) (low : pos ≤ length out) (w : Wrote pos out ws end out′) where
-  pub wrote-in : end ≤ length out′
-  unfolding Wrote
-  wrote-in =
-      let a = ap length (w .1) ∙ length-append (take pos out) ws in
-      let b = length-take-le pos out low in
-      let c = length-take end out′ in
-      omega (arith, w .0)
-
-  pub kept : (q : ℕ) → q ≤ pos → take q out′ ≡ take q out
-  unfolding Wrote
-  kept q h =
-      let b = length-take-le pos out low in
-      sym (take-take q end out′ (omega (arith, w .0))) ∙ ap (take q) (w .1) ∙ take-append-le q (take pos out) ws (omega arith) ∙ take-take q pos out h
-
-  pub wrote-self : Wrote pos out′ ws end out′
-  unfolding Wrote
-  wrote-self = (w .0, rw (kept pos (omega arith)) (w .1))
-
-pub based : (q end : ℕ) (out out₁ ws out′ : List ℕ) → take q out₁ ≡ take q out → Wrote q out₁ ws end out′ → Wrote q out ws end out′
-unfolding Wrote
-based q end out out₁ ws out′ e w = (w .0, w .1 ∙ ap (λ a. a ++ ws) e)
 
 -- the equality scanned
 left-by : (row : List ℕ) (pos e m : ℕ) (out out₂ out₃ : List ℕ) (found : Replacement) (gone : Bool) (next end : ℕ) → pos + 2 ≤ length out → (z : Scans) → Neats (present (leftOf z)) → PartsTold row (pos + 2) out 0 z found e m out₂

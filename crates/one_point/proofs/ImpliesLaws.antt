@@ -11,11 +11,11 @@ use Rattle.tree.specs.Form.{Form, encode}
 use Rattle.form.proofs.DecodeLaws.{clash}
 use Rattle.rules.specs.Replacement.{Taken, taken, nothing}
 use Rattle.rules.specs.Scan.{scanned, negate, implies, scan}
-use Rattle.one_point.specs.Internal.Writes.{Wrote, leftWords, Neat, neat-other}
+use Rattle.places.specs.Internal.Wrote.{Wrote}
+use Rattle.one_point.specs.Internal.Writes.{leftWords, Neat, neat-other}
 use Rattle.one_point.specs.Internal.Scans.{Left, Became, nextScan}
 use Rattle.one_point.specs.declared.scan.Scanned.{Scanned}
-use Rattle.one_point.proofs.WriteLaws.{wrote-end, wrote-on, wrote-word}
-use Rattle.one_point.proofs.EqualityLaws.{kept, wrote-self, based}
+use Rattle.places.proofs.WroteLaws.{wrote-end, wrote-on, wrote-word, kept, wrote-self, based}
 use Rattle.one_point.proofs.RebuildLaws.{impliesOf, scan-left, scan-both}
 use Rattle.one_point.proofs.BecameLaws.{neat-negate, negate-words, child-of, child-room}
 

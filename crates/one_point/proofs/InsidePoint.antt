@@ -6,7 +6,7 @@ use Prim.Native.Nat.{ℕ, zero, suc, _+_, _-_, _≤_, _<_}
 use native.Mathlib.Omega.{arith}
 use borrow.Author.Tests.{leb-true, eqb-true}
 use lib.Dec.{eqb, leb}
-use lib.ListN.{length, getD, take, drop, replicate, length-append, length-set, length-replicate}
+use lib.ListN.{length, getD, take, drop, replicate, length-append, length-set, length-replicate, length-take, length-drop}
 use Rattle.tree.specs.Form.{Form, none, more, between, encode}
 use Rattle.tree.specs.Tag.{expr, pred}
 use Rattle.form.specs.Decode.{rowForm}
@@ -20,16 +20,18 @@ use Rattle.shift.specs.Internal.Items.{items}
 use Rattle.rules.proofs.WalkLaws.{and-left, and-right}
 use Rattle.shift.proofs.RowLaws.{itemsOf, marksOf}
 use Rattle.rules.specs.Fill.{quantified, quantify, keptNames, fillFor, fill}
-use Rattle.replace.specs.Internal.Pieces.{part, headWords, areNames}
+use Rattle.replace.specs.Internal.Pieces.{part, headWords, areNames, downPlan, Ready}
 use Rattle.replace.proofs.BuildLaws.{emit-sure}
-use Rattle.replace.proofs.OkLaws.{ok-deep}
+use Rattle.rules.proofs.OkLaws.{ok-deep}
 use Rattle.replace.proofs.QuantLaws.{Quant, quant-tag}
 use Rattle.replace.proofs.PruneTree.{names-kept, node-names, quantify-ok}
 use Rattle.replace.proofs.InsideLaws.{Small, SmallPlaces, small-append, quant-body, names-take, names-drop, partial-body}
 use Rattle.rules.specs.Partial.{noPlaces, setPlace, front, lowerPlace, joinWith, putRound, instantiatePartial}
-use Rattle.one_point.specs.Internal.Rest.{joins, innerNames, partialHead, partialRow}
+use Rattle.replace.specs.Internal.Partial.{joins, innerNames, partialHead, partialRow}
 use Rattle.rules.specs.Replacement.{above}
-use Rattle.one_point.proofs.PartialLaws.{lower-places, join-same, Heads, ok-heads, inner-are, filled-quant, same-tag, places-are, front-is, from-front, point-stays, point-words}
+use Rattle.one_point.proofs.PartialLaws.{lower-places, point-stays, point-words}
+use Rattle.replace.proofs.PartialLaws.{join-same, Heads, ok-heads, inner-are, filled-quant, same-tag, inner-of, partial-is}
+use Rattle.rules.proofs.FrontLaws.{places-are, front-is, from-front}
 
 names-join : (a b : List ℕ) → areNames a ≡ true → areNames b ≡ true → areNames (a ++ b) ≡ true
 names-join [] b h g = g
@@ -116,23 +118,26 @@ head-few t (k ∷ ks) h = omega arith
 module _ (t : ℕ) (which : (eqb t 851 || eqb t 852) ≡ true) (ns : List ℕ) (i : ℕ) (e : Form) (low : i < length ns) (most : length ns ≤ 32) (tb : Table) (list lm : List ℕ) (number : tb .n ≡ suc i)
     (words : take (tb .n) (tb .words) ≡ 1 ∷ replicate i 0)
     (there : items (part (getD (tb .starts) 0 0) (getD (tb .ends) 0 0) list) (part (getD (tb .starts) 0 0) (getD (tb .ends) 0 0) lm) ≡ itemsOf 0 e) {d : ℕ} (ok-e : Ok d expr e) (over : above i e ≡ true)
-    (g : Form) (ok : Ok 63 pred g) (marks after : List ℕ) (marked : marks ≡ marksOf (tb .n) g ++ after) (names : areNames ns ≡ true) where
+    (g : Form) (ok : Ok 63 pred g) (marks after : List ℕ) (marked : marks ≡ marksOf (tb .n) g ++ after) (names : areNames ns ≡ true) (ready : Ready (downPlan tb (tb .n)) list lm) where
   abbrev ps : List Place
   ps = setPlace (length ns) i e (noPlaces (length ns))
 
-  names-few : length (partialHead t (take (length ns - suc i) ns) (drop (length ns - suc i) ns) tb (encode g)) ≤ 34 → length (headNames t ns ps g (front ps) (length (drop (front ps) ns))) ≤ 32
+  names-few : length (partialHead t (take (length ns - suc i) ns) (drop (length ns - suc i + 1) ns) (encode g)) ≤ 34 → length (headNames t ns ps g (front ps) (length (drop (front ps) ns))) ≤ 32
   names-few h =
-      rw (front-is (length ns) i e low, from-front (length ns) i e low, ← point-stays t which ns i e low most tb list lm number words there ok-e over g ok marks after marked)
+      rw (front-is (length ns) i e low, from-front (length ns) i e low, point-stays t which ns i e low most tb list lm number words there ok-e over g ok marks after marked)
       (head-few t _ h)
 
   pub point-row : (sure : Bool) → (sure ≡ true → Fitting e g) → (room : ℕ)
-      → partialRow sure t (take (length ns - suc i) ns) (drop (length ns - suc i) ns) tb list lm (encode g) marks room ≡ finish pred room (instantiatePartial t ns ps g)
+      → partialRow sure t (take (length ns - suc i) ns) (drop (length ns - suc i + 1) ns) tb (tb .n) list lm (encode g) marks room ≡ finish pred room (instantiatePartial t ns ps g)
   point-row sure h room =
-      let hd = partialHead t (take (length ns - suc i) ns) (drop (length ns - suc i) ns) tb (encode g) in
-      rw (point-words t which ns i e low most tb list lm number words there ok-e over g ok marks after marked)
+      let hd = partialHead t (take (length ns - suc i) ns) (drop (length ns - suc i + 1) ns) (encode g) in
+      let a = length-take (length ns - suc i) ns in
+      let b = length-drop (length ns - suc i + 1) ns in
+      partial-is sure t (take (length ns - suc i) ns) (drop (length ns - suc i + 1) ns) tb (tb .n) list lm (encode g) marks room (inner-of t which (omega arith) ok) (omega arith) (omega arith) ready
+      ∙ rw (point-words t which ns i e low most tb list lm number words there ok-e over g ok marks after marked)
       (emit-sure (leb (length hd) 34 && sure) pred room (instantiatePartial t ns ps g) (λ y l. within (leb-true (length hd) 34 (and-left (leb (length hd) 34) sure y)) (h (and-right (leb (length hd) 34) sure y)) l))
     where
-      within : length (partialHead t (take (length ns - suc i) ns) (drop (length ns - suc i) ns) tb (encode g)) ≤ 34 → Fitting e g → length (encode (instantiatePartial t ns ps g)) ≤ 8192
+      within : length (partialHead t (take (length ns - suc i) ns) (drop (length ns - suc i + 1) ns) (encode g)) ≤ 34 → Fitting e g → length (encode (instantiatePartial t ns ps g)) ≤ 8192
           → isOne (rowForm pred (encode (instantiatePartial t ns ps g))) ≡ true
       within a b l =
           point-fits (b .over) t which ns names most ps (length-set (noPlaces (length ns)) (length ns - suc i) (filled e) ∙ length-replicate (length ns) kept) (one-small (b .over) (length ns) i e low (b .small)) g (b .deep) (b .ok) (b .sum) (names-few a) l

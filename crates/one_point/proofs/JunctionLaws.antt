@@ -10,13 +10,14 @@ use Rattle.tree.specs.Form.{Form, Forms, none, more, count, encode, encodeAll}
 use Rattle.form.proofs.DecodeLaws.{clash}
 use Rattle.rules.specs.Replacement.{Taken, taken, nothing}
 use Rattle.rules.specs.Scan.{scanned, Scans, scans, present, copies, before, follow, scan, scanAll}
-use Rattle.one_point.specs.Internal.Writes.{Wrote, Neats, no-more, and-more}
+use Rattle.places.specs.Internal.Wrote.{Wrote}
+use Rattle.one_point.specs.Internal.Writes.{Neats, no-more, and-more}
 use Rattle.one_point.specs.Internal.Parts.{isTaken, TookIs}
 use Rattle.one_point.specs.Internal.Scans.{Left, Became, kidsAt, Kids, oneMore, KidsTold, KidsCopied}
-use Rattle.one_point.specs.declared.sides.Replacement.{Replacement}
-use Rattle.one_point.specs.declared.sides.Replacement.the-variants.{Not}
+use Rattle.places.specs.declared.sides.Replacement.{Replacement}
+use Rattle.places.specs.declared.sides.Replacement.the-variants.{Not}
 use Rattle.one_point.specs.declared.scan.Scanned.{Scanned}
-use Rattle.one_point.proofs.WriteLaws.{wrote-end, wrote-on}
+use Rattle.places.proofs.WroteLaws.{wrote-end, wrote-on}
 use Rattle.one_point.proofs.BecameLaws.{child-of}
 use Rattle.one_point.proofs.ChildrenLaws.{KidIs, kid-length}
 

@@ -1,8 +1,4 @@
-pub mod ViewLaws
-pub mod SidesLaws
-pub mod PlacesLaws
 pub mod WriteLaws
-pub mod PartsLaws
 pub mod AcceptLaws
 pub mod PartsStepLaws
 pub mod ScanLaws
@@ -15,16 +11,8 @@ pub mod JunctionLaws
 pub mod NodeLaws
 pub mod PartialLaws
 pub mod ScanLimits
-pub mod RestLaws
 pub mod PlaceLaws
 pub mod PointLaws
 pub mod ShapeLaws
 pub mod OutputLaws
-pub mod MemberTree
-pub mod ShareLaws
-pub mod FillingLaws
-pub mod BodyLaws
-pub mod SetLaws
-pub mod FillBodyLaws
-pub mod MemberLaws
 pub mod InsidePoint

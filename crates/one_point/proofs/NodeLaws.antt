@@ -17,15 +17,16 @@ use Rattle.form.proofs.DecodeLaws.{clash, Ok, ok-node, OkAll, decodeAll-encode,
 use Rattle.rules.specs.Replacement.{Taken, taken, nothing}
 use Rattle.rules.specs.Scan as S
 use Rattle.rules.specs.Scan.{Scan, scanned, Scans, scans, joined, present, Role, roleOf, with, scan, scanAll}
-use Rattle.one_point.specs.Internal.Writes.{Wrote, leftWords, isGone}
+use Rattle.places.specs.Internal.Wrote.{Wrote}
+use Rattle.one_point.specs.Internal.Writes.{leftWords, isGone}
 use Rattle.one_point.specs.Internal.Parts.{isTaken, TookIs}
 use Rattle.one_point.specs.Internal.Scans.{Left, Became, nextScan, kidsAt, Kids, KidsTold}
-use Rattle.one_point.specs.declared.sides.Replacement.{Replacement}
+use Rattle.places.specs.declared.sides.Replacement.{Replacement}
 use Rattle.one_point.specs.declared.scan.Scanned.{Scanned}
-use Rattle.one_point.proofs.WriteLaws.{wrote-end}
-use Rattle.one_point.proofs.PartsLaws.{tagOf, tag-at}
+use Rattle.places.proofs.WroteLaws.{wrote-end, wrote-in, kept, wrote-self, based}
+use Rattle.places.proofs.PartsLaws.{tagOf, tag-at}
 use Rattle.one_point.proofs.PartsStepLaws.{not-taken, took-not}
-use Rattle.one_point.proofs.EqualityLaws.{words, wrote-in, kept, wrote-self, based, joined-neat, joined-words}
+use Rattle.one_point.proofs.EqualityLaws.{words, joined-neat, joined-words}
 use Rattle.one_point.proofs.RebuildLaws.{scan-and, scan-or, scan-other, positive-other, negative-other}
 use Rattle.one_point.proofs.ScanLaws.{stands-words, stands-ok}
 

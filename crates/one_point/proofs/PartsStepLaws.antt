@@ -3,39 +3,29 @@ use mathlib.Core.Path.{_≡_, refl, ap, sym, _∙_}
 use mathlib.Core.Bool.{true, false}
 use mathlib.Core.Option.{some}
 use mathlib.Core.List.{List, [], _∷_, append-nil}
-use Prim.Native.Nat.{ℕ, zero, suc, _+_, _-_, _≤_}
+use Prim.Native.Nat.{ℕ, suc, _+_, _-_, _≤_}
 use native.Mathlib.Omega.{arith}
-use lib.ListN.{length, take, drop, length-append}
+use lib.ListN.{length, take, drop}
 use Rattle.tree.specs.Form.{Form, encode, encodeAll}
-use Rattle.form.specs.Decode.{decodeAll}
-use Rattle.form.proofs.DecodeLaws.{clash, decode-encode}
+use Rattle.form.proofs.DecodeLaws.{clash}
 use Rattle.rules.specs.Replacement.{Taken, taken, nothing, accept}
-use Rattle.rules.specs.Split.{parts, equal}
+use Rattle.rules.specs.Split.{equal}
 use Rattle.rules.specs.Scan.{Scans, scans, present, copied, before, offerPart, offerParts}
-use Rattle.one_point.specs.Internal.Sides.{endAt}
-use Rattle.one_point.specs.Internal.Writes.{Wrote}
-use Rattle.one_point.specs.Internal.Parts.{Beside, partsAt, partWords, equalWords, acceptWords, Within, isTaken, TookIs, PartsTold, PartsCopied}
-use Rattle.one_point.specs.declared.sides.Sides.{Sides}
-use Rattle.one_point.specs.declared.sides.Replacement.{Replacement}
-use Rattle.one_point.specs.declared.sides.Replacement.the-variants.{Is, Not}
-use Rattle.one_point.proofs.SidesLaws.{part-words}
+use Rattle.places.specs.Internal.Positions.{partsAt, partWords}
+use Rattle.places.specs.Internal.Wrote.{Wrote}
+use Rattle.one_point.specs.Internal.Parts.{equalWords, acceptWords, isTaken, TookIs, PartsTold, PartsCopied}
+use Rattle.places.specs.declared.sides.Sides.{Sides}
+use Rattle.places.specs.declared.sides.Replacement.{Replacement}
+use Rattle.places.specs.declared.sides.Replacement.the-variants.{Is, Not}
+use Rattle.places.proofs.SidesLaws.{part-words}
 use Rattle.one_point.proofs.AcceptLaws.{took}
-use Rattle.one_point.proofs.WriteLaws.{wrote-end, wrote-on}
-use Rattle.one_point.proofs.PartsLaws.{in-row, PartIs}
-
--- no parts
-pub parts-none : (row : List ℕ) (p q n : ℕ) → n ≤ 0 → partsAt row p q n ≡ []
-unfolding partsAt decodeAll parts
-parts-none row p q zero h = refl
-parts-none row p q (suc n) h = absurd (omega arith)
+use Rattle.places.proofs.WroteLaws.{wrote-end, wrote-on}
+use Rattle.places.proofs.PartsLaws.{in-row, PartIs}
+use Rattle.places.proofs.StepLaws.{equal-length, sides-are, rest-is}
 
 pub copied-none : (ps : List (Form × Form)) (w k : ℕ) (out : List ℕ) → ps ≡ [] → PartsCopied ps w out k w k out
 unfolding PartsCopied Wrote encode
 copied-none ps w k out e = rw e ((omega arith, sym (append-nil (take w out))), omega arith)
-
-pub equal-length : (l r : Form) → length (encode (equal l r)) ≡ suc (length (encode l) + length (encode r))
-unfolding encode
-equal-length l r = rw append-nil (ap suc (length-append (encode l) (encode r)))
 
 -- a part that is passed, and one that is taken
 pub not-taken : (r : Replacement) → isTaken r ≡ false → r ≡ Not
@@ -63,48 +53,17 @@ pub search-none : (row : List ℕ) (d : ℕ) (ps : List (Form × Form)) (w k : �
 unfolding PartsTold PartsCopied TookIs offerParts
 search-none row d ps w k out f n h e m o t = rw h (n, rw h at (t .0), rw h at (t .1))
 
+-- what is written of a part
 module _ {row : List ℕ} {p q n w k words : ℕ} (x : PartIs row p q n w k words) (s : Sides) (is : s ≡ partWords row p q) where
-  sides-are : s ≡ record { left = p; middle = p + length (encode (x .l)); right = q; end = q + length (encode (x .r)) }
-  unfolding partWords endAt
-  sides-are = is ∙ rw (x .words-l, x .words-r, decode-encode (x .ok-l), decode-encode (x .ok-r)) refl
-
-  pub left-is : s .left ≡ p
-  left-is = ap (λ z. z .left) sides-are
-
-  pub middle-is : s .middle ≡ p + length (encode (x .l))
-  middle-is = ap (λ z. z .middle) sides-are
-
-  pub right-is : s .right ≡ q
-  right-is = ap (λ z. z .right) sides-are
-
-  pub end-is : s .end ≡ q + length (encode (x .r))
-  end-is = ap (λ z. z .end) sides-are
-
-  pub part-in : Within row s
-  part-in =
-      let a = in-row row (encode (x .l)) (drop (p + length (encode (x .l))) row) p (x .words-l) (x .some-l) in
-      let b = in-row row (encode (x .r)) (drop (q + length (encode (x .r))) row) q (x .words-r) (x .some-r) in
-      let c = left-is in
-      let d = middle-is in
-      let e = right-is in
-      let f = end-is in
-      record { left-up = omega arith; left-in = omega arith; right-up = omega arith; right-in = omega arith }
-
   equal-words : equalWords row s ≡ encode (equal (x .l) (x .r))
   unfolding encode
   equal-words =
       rw (
-        sides-are,
+        sides-are x s is,
         part-words row (encode (x .l)) (drop (p + length (encode (x .l))) row) p (p + length (encode (x .l))) (x .words-l) refl,
         part-words row (encode (x .r)) (drop (q + length (encode (x .r))) row) q (q + length (encode (x .r))) (x .words-r) refl,
         append-nil,
       )
-
-  pub rest-is : partsAt row p q n ≡ (x .l, x .r) ∷ partsAt row (s .middle) (s .end) (n - 1)
-  rest-is = rw (middle-is, end-is) (x .split)
-
-  pub next-is : (w′ k′ : ℕ) → w′ ≤ w + 1 + (length (encode (x .l)) + length (encode (x .r))) → k′ ≤ k + 1 → Beside row (s .middle) (s .end) (n - 1) w′ k′ words
-  next-is w′ k′ h g = rw (middle-is, end-is) (x .next w′ k′ h g)
 
   -- a part written
   copied-more : (ps : List (Form × Form)) (out out₁ : List ℕ) (w₁ : ℕ) → Wrote w out (equalWords row s) w₁ out₁
@@ -115,7 +74,7 @@ module _ {row : List ℕ} {p q n w k words : ℕ} (x : PartIs row p q n w k word
 
   pub copy-on : (out out₁ : List ℕ) (w₁ : ℕ) → Wrote w out (equalWords row s) w₁ out₁
       → (e m : ℕ) (o : List ℕ) → PartsCopied (partsAt row (s .middle) (s .end) (n - 1)) w₁ out₁ (k + 1) e m o → PartsCopied (partsAt row p q n) w out k e m o
-  copy-on out out₁ w₁ h e m o t = rw rest-is (copied-more (partsAt row (s .middle) (s .end) (n - 1)) out out₁ w₁ h e m o t)
+  copy-on out out₁ w₁ h e m o t = rw (rest-is x s is) (copied-more (partsAt row (s .middle) (s .end) (n - 1)) out out₁ w₁ h e m o t)
 
   pub wrote-length : (out out₁ : List ℕ) (w₁ : ℕ) → Wrote w out (equalWords row s) w₁ out₁ → w₁ ≡ w + 1 + (length (encode (x .l)) + length (encode (x .r)))
   wrote-length out out₁ w₁ h =
@@ -129,7 +88,7 @@ module _ {row : List ℕ} {p q n w k words : ℕ} (x : PartIs row p q n w k word
     took-here =
         let a = in-row row (encode (x .l)) (drop (p + length (encode (x .l))) row) p (x .words-l) (x .some-l) in
         let b = in-row row (encode (x .r)) (drop (q + length (encode (x .r))) row) q (x .words-r) (x .some-r) in
-        rw sides-are
+        rw (sides-are x s is)
         (took row d (record { left = p; middle = p + length (encode (x .l)); right = q; end = q + length (encode (x .r)) }) (x .l) (x .r) (x .ok-l) (x .ok-r) (omega arith) (omega arith) refl refl
         (x .words-l) (x .words-r))
 
@@ -141,10 +100,10 @@ module _ {row : List ℕ} {p q n w k words : ℕ} (x : PartIs row p q n w k word
     unfolding offerParts
     search-pass r a b out out₁ w₁ h f e m o t =
         let c : acceptWords d s row ≡ Not = sym a ∙ not-taken r b in
-        rw (rest-is, took-not row (accept d (x .l) (x .r)) (rw c at took-here))
+        rw (rest-is x s is, took-not row (accept d (x .l) (x .r)) (rw c at took-here))
         (before-told row (equal (x .l) (x .r)) w k w₁ out out₁ (rw equal-words at h) (offerParts d Rest) f e m o t)
 
     pub search-take : (r : Replacement) → r ≡ acceptWords d s row → isTaken r ≡ true → (out : List ℕ)
         → (e m : ℕ) (o : List ℕ) → PartsCopied Rest w out k e m o → PartsTold row w out k (offerParts d (partsAt row p q n)) r e m o
     unfolding offerParts
-    search-take r a b out e m o t = rw rest-is (taken-told row (x .l) (x .r) w k out r b (accept d (x .l) (x .r)) (rw (← a) at took-here) Rest (offerParts d Rest) e m o t)
+    search-take r a b out e m o t = rw (rest-is x s is) (taken-told row (x .l) (x .r) w k out r b (accept d (x .l) (x .r)) (rw (← a) at took-here) Rest (offerParts d Rest) e m o t)

@@ -7,7 +7,7 @@ use native.Mathlib.Nat.{zero-add}
 use native.Mathlib.Omega.{arith}
 use borrow.Author.Tests.{eq-eqb, ne-eqb, lt-ltb}
 use lib.Dec.{ltb}
-use lib.ListN.{length, getD, take, drop, set, replicate, length-replicate}
+use lib.ListN.{length, getD, take, drop, set, replicate, length-replicate, getD-replicate}
 use lib.Seq.{drop-length}
 use Rattle.tree.specs.Form.{Form, encode}
 use Rattle.tree.specs.Tag.{expr, pred}
@@ -15,24 +15,25 @@ use Rattle.form.specs.Decode.{Got, got, decode}
 use Rattle.form.specs.Answer.{finish}
 use Rattle.reader.specs.Internal.Reads.{mark, Told, decodeIn}
 use Rattle.form.specs.declared.head.Step.{Step}
-use Rattle.form.specs.declared.head.Step.the-variants.{End, Bad}
-use Rattle.form.proofs.DecodeLaws.{clash, Ok, decode-encode, decode-sound}
+use Rattle.form.specs.declared.head.Step.the-variants.{End}
+use Rattle.form.proofs.DecodeLaws.{Ok, decode-encode, decode-sound}
 use Rattle.reader.proofs.ReaderLaws.{told-end}
 use Rattle.shift.specs.Internal.Items.{items}
-use Rattle.shift.proofs.RowLaws.{itemsOf, marksOf}
-use Rattle.replace.specs.Internal.Pieces.{part as part-of, declaredIn, Leaves}
-use Rattle.replace.proofs.QuantLaws.{Quant, quant-by-tag, quant-long}
-use Rattle.replace.proofs.OkLaws.{ok-deep}
+use Rattle.shift.proofs.RowLaws.{itemsOf, marksOf, mark-front}
+use Rattle.replace.specs.Internal.Pieces.{part as part-of, declaredIn, Leaves, InRow, Ready, downPlan}
+use Rattle.rules.proofs.OkLaws.{ok-deep}
 use Rattle.replace.proofs.InsideLaws.{Small}
 use Rattle.replace.proofs.SmallLaws.{small-form}
-use Rattle.one_point.specs.Internal.Rest.{partialRow}
-use Rattle.one_point.specs.Internal.Reduce.{isQuantifier, quantifierIn, Inner, oneTable, Resting, placedForm, placedOutcome, Placing, Cleared, Marking, RestLeaves, readingDepth}
+use Rattle.replace.specs.Internal.Partial.{partialRow}
+use Rattle.one_point.specs.Internal.Reduce.{quantifierIn, oneTable, placedForm, placedOutcome, Placing, Marking, RestLeaves, readingDepth}
+use Rattle.places.specs.Internal.Positions.{Cleared}
 use Rattle.one_point.specs.declared.one_point_inference.Quantifier.the-variants.{Of, None}
-use Rattle.one_point.proofs.SidesLaws.{told-plain}
-use Rattle.one_point.proofs.PartsLaws.{some-words}
-use Rattle.one_point.proofs.PlacesLaws.{place-from}
-use Rattle.one_point.proofs.PartialLaws.{mark-front, first-filled, part-items}
+use Rattle.places.proofs.SidesLaws.{told-plain}
+use Rattle.places.proofs.PlacesLaws.{place-from}
+use Rattle.one_point.proofs.PartialLaws.{first-filled, part-items}
 use Rattle.one_point.proofs.InsidePoint.{Fitting, point-row}
+use Rattle.reader.specs.declared.lists.Table.{Table}
+use Rattle.replace.proofs.BuildLaws.{rest-part}
 
 -- the head of a row as the code finds it
 module _ (row : List ℕ) (n : ℕ) (is : n ≡ declaredIn row) where
@@ -68,39 +69,19 @@ module _ (row : List ℕ) (f : Form) where
 row-all : (row ws : List ℕ) → row ≡ ws → row ≡ ws ++ drop (length row) row
 row-all row ws e = e ∙ (sym (append-nil ws) ∙ ap (λ (z : List ℕ). ws ++ z) (sym (drop-length row)))
 
--- what a reader of the whole row tells
-module _ (u : ℕ) (f : Form) (g : Got) (x a b : List ℕ) (r : Step) (e : g ≡ got f x) (h : Told 0 u g a b r) where
-  pub told-marks : b ≡ mark f 0 u a
-  unfolding Told
-  told-marks = (rw e at h) .1
+-- a table of which the first place is filled by a whole row
+module _ (n : ℕ) (few : n ≤ 32) (part pm : List ℕ) (marked : length part ≤ length pm) where
+  one-inside : InRow (downPlan (oneTable n (length part)) n) (length part)
+  unfolding InRow
+  one-inside i h = rw (getD-replicate {A = ℕ} 32 i 0 0 (omega arith), getD-replicate {A = ℕ} 32 i (length part) 0 (omega arith)) (omega arith, omega arith)
 
-  pub told-not-bad : r ≡ Bad → ⊥
-  unfolding Told
-  told-not-bad q = let z = (rw e at h) .0 in clash cc
+  one-ready : Ready (downPlan (oneTable n (length part)) n) part pm
+  one-ready = record { tabled = record { few = few; words = refl; starts = refl; ends = refl }; in-row = one-inside; marked = marked }
 
--- a body that begins with a quantifier's tag has its head
-quant-head : (row : List ℕ) (g : Form) → row ≡ encode g → (y : Quant g) → (getD row 1 0 ≤ 32) × (2 + getD row 1 0 ≤ length row)
-unfolding encode
-quant-head row g w y =
-    let c : getD row 1 0 ≡ length (y .decls) = ap (λ l. getD l 1 0) w ∙ ap (λ f. getD (encode f) 1 0) (y .form) in
-    let l : length row ≡ length (encode g) = ap length w in
-    let k = quant-long g y in
-    let m = y .most in
-    (omega arith, omega arith)
-
-module _ (t : ℕ) (which : isQuantifier t ≡ true) (row : List ℕ) (g : Form) (is : decode 63 pred row ≡ got g []) where
-  same-head : getD row 0 0 ≡ t → (getD row 1 0 ≤ 32) × (2 + getD row 1 0 ≤ length row)
-  same-head e =
-      let w = whole-pred row g is in
-      let q : isQuantifier (getD (encode g) 0 0) ≡ true = rw (← w .0, e) which in
-      quant-head row g (w .0) (quant-by-tag (ok-deep (w .1) 64 (omega arith)) q)
-
-  pub inner-of : Inner t row
-  inner-of =
-      let w = whole-pred row g is in
-      let s = some-words g in
-      let l : length row ≡ length (encode g) = ap length (w .0) in
-      record { some = omega arith; long = λ e. same-head e .1; few = λ e. same-head e .0 }
+-- the declarations behind one, as a part of the names
+pub rest-same : (sure : Bool) (t : ℕ) (ns : List ℕ) (p : ℕ) (tb tb′ : Table) → tb ≡ tb′ → (d : ℕ) (part pm row marks : List ℕ) (room : ℕ)
+    → partialRow sure t (take p ns) (take (length ns - (p + 1)) (drop (p + 1) ns)) tb d part pm row marks room ≡ partialRow sure t (take p ns) (drop (p + 1) ns) tb′ d part pm row marks room
+rest-same sure t ns p tb tb′ e d part pm row marks room = rw (e, rest-part ns (p + 1))
 
 -- the marks of a replacement
 pub marking-of : (part pm pm′ : List ℕ) (f : Form) → Cleared part pm → decode 63 expr part ≡ got f [] → pm′ ≡ mark f 0 0 pm → length pm′ ≡ length pm → Marking part pm′
@@ -168,11 +149,8 @@ module _ (part : List ℕ) (f : Form) (is : decode 63 expr part ≡ got f []) (g
 
 -- the target's place filled in the rest
 module _ (t : ℕ) (ns : List ℕ) (i : ℕ) (part rest : List ℕ) (h : Placing t ns i part rest) where
-  place-within : (p : ℕ) → p ≡ length ns - 1 - i → p < length ns
-  place-within p e = let a = h .target in omega arith
-
-  pub resting : (p : ℕ) (pm : List ℕ) → p ≡ length ns - 1 - i → length part ≤ length pm → Resting t ns p part pm rest
-  resting p pm e m = record { within = place-within p e; few = h .few; marked = m; inner = inner-of t (h .which) rest (h .form) (h .is-rest) }
+  pub resting : (p : ℕ) → p ≡ length ns - 1 - i → (p < length ns) × (length ns ≤ 32)
+  resting p e = let a = h .target in (omega arith, h .few)
 
   outcome-is : (room : ℕ) → placedOutcome t ns i part rest room ≡ finish pred room (placedForm t ns i (h .by) (h .form))
   unfolding placedOutcome
@@ -180,7 +158,7 @@ module _ (t : ℕ) (ns : List ℕ) (i : ℕ) (part rest : List ℕ) (h : Placing
 
   module _ (pm : List ℕ) (k : Marking part pm) (marks marks′ : List ℕ) (c : Cleared rest marks) (is : marks′ ≡ mark (h .form) 0 (i + 1) marks) where
     pub placed-row : (sure : Bool) → (sure ≡ true → Fitting (h .by) (h .form)) → (p : ℕ) → p ≡ length ns - 1 - i → (room : ℕ)
-        → partialRow sure t (take p ns) (drop p ns) (oneTable (length ns - p) (length part)) part pm rest marks′ room ≡ placedOutcome t ns i part rest room
+        → partialRow sure t (take p ns) (drop (p + 1) ns) (oneTable (length ns - p) (length part)) (length ns - p) part pm rest marks′ room ≡ placedOutcome t ns i part rest room
     placed-row sure inside p e room =
         let w = whole-pred rest (h .form) (h .is-rest) in
         let v = whole-expr part (h .by) (h .is-part) in
@@ -194,9 +172,9 @@ module _ (t : ℕ) (ns : List ℕ) (i : ℕ) (part rest : List ℕ) (h : Placing
         let there : items (part-of 0 (length part) part) (part-of 0 (length part) pm) ≡ itemsOf 0 (h .by)
         = part-items (h .by) part pm 0 (length part) (length pm) (ap length (v .0) ∙ sym (zero-add (length (encode (h .by))))) (row-all part (encode (h .by)) (v .0)) (k .enough) (k .are (h .by) (h .is-part)) in
         rw (a, b) (
-        ap (λ (r : List ℕ). partialRow sure t (take (length ns - suc i) ns) (drop (length ns - suc i) ns) (oneTable (suc i) (length part)) part pm r marks′ room) (w .0)
+        ap (λ (r : List ℕ). partialRow sure t (take (length ns - suc i) ns) (drop (length ns - suc i + 1) ns) (oneTable (suc i) (length part)) (suc i) part pm r marks′ room) (w .0)
         ∙ (
-        point-row t (h .which) ns i (h .by) (h .target) (h .few) (oneTable (suc i) (length part)) part pm refl (first-filled 32 i (omega arith)) there (v .1) (h .up) (h .form) (w .1) marks′ (replicate (length marks - length (encode (h .form))) 0) m (h .names) sure inside room
+        point-row t (h .which) ns i (h .by) (h .target) (h .few) (oneTable (suc i) (length part)) part pm refl (first-filled 32 i (omega arith)) there (v .1) (h .up) (h .form) (w .1) marks′ (replicate (length marks - length (encode (h .form))) 0) m (h .names) (one-ready (suc i) (omega arith) part pm (k .enough)) sure inside room
         ∙ sym (outcome-is room)
         )
         )

@@ -26,18 +26,19 @@ use Rattle.replace.proofs.PruneTree.{node-names}
 use Rattle.rules.specs.Replacement.{Taken, taken, nothing}
 use Rattle.rules.specs.Scan.{Scan, scanned, scan}
 use Rattle.rules.specs.Point.{polarity, restOf, reduce, reduceQuantified, onePoint, ofResult, pointOutcome}
-use Rattle.one_point.specs.Internal.Writes.{Wrote, leftWords, isGone}
+use Rattle.places.specs.Internal.Wrote.{Wrote}
+use Rattle.one_point.specs.Internal.Writes.{leftWords, isGone}
 use Rattle.one_point.specs.Internal.Parts.{TookIs}
 use Rattle.one_point.specs.Internal.Scans.{Left, Became, Room, ScanTold}
 use Rattle.one_point.specs.Internal.Reduce.{quantifierIn, placedOutcome, Placing, emptyWord, bodyOutcome, Reducing}
-use Rattle.one_point.specs.declared.sides.Replacement.{Replacement}
-use Rattle.one_point.specs.declared.sides.Replacement.the-variants.{Is, Not}
+use Rattle.places.specs.declared.sides.Replacement.{Replacement}
+use Rattle.places.specs.declared.sides.Replacement.the-variants.{Is, Not}
 use Rattle.one_point.specs.declared.scan.Scanned.{Scanned}
 use Rattle.one_point.specs.declared.one_point_inference.Quantifier.{Quantifier}
 use Rattle.one_point.specs.declared.one_point_inference.Quantifier.the-variants.{Of, None}
-use Rattle.one_point.proofs.SidesLaws.{part-words}
-use Rattle.one_point.proofs.PlacesLaws.{PredRow}
-use Rattle.one_point.proofs.PartsLaws.{some-words, in-row}
+use Rattle.places.proofs.SidesLaws.{part-words}
+use Rattle.places.proofs.PlacesLaws.{PredRow}
+use Rattle.places.proofs.PartsLaws.{some-words, in-row}
 use Rattle.one_point.proofs.ScanLimits.{OkScan, rest-ok, scan-ok}
 use Rattle.one_point.proofs.PlaceLaws.{whole-pred}
 

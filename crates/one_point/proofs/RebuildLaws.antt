@@ -17,8 +17,8 @@ use Rattle.rules.specs.Replacement.{Taken, taken, nothing}
 use Rattle.rules.specs.Split.{isNil}
 use Rattle.rules.specs.Scan as S
 use Rattle.rules.specs.Scan.{scanned, scans, implies, negate, joined, present, roleOf, role, with, scan, scanAll}
-use Rattle.one_point.proofs.ViewLaws.{plain-node, two-more}
-use Rattle.one_point.proofs.PartsLaws.{tagOf, tag-at}
+use Rattle.places.proofs.ViewLaws.{plain-node, two-more}
+use Rattle.places.proofs.PartsLaws.{tagOf, tag-at}
 use Rattle.one_point.proofs.ScanLaws.{one-more, stands-words, stands-ok}
 
 abbrev pub notOf : Form → Form

@@ -15,20 +15,21 @@ use Rattle.form.specs.Decode.{got, gots, decode}
 use Rattle.form.specs.declared.head.Step.{Step}
 use Rattle.form.specs.declared.head.Step.the-variants.{End, Bad}
 use Rattle.form.proofs.DecodeLaws.{clash, Ok, ok-node, OkAll, ok-none, ok-more, decode-encode, decodeAll-encode, decode-sound}
-use Rattle.replace.proofs.OkLaws.{ok-deep}
+use Rattle.rules.proofs.OkLaws.{ok-deep}
 use Rattle.rules.specs.Replacement.{nothing}
 use Rattle.rules.specs.Split.{parts, equal}
 use Rattle.rules.specs.Scan.{scanned}
-use Rattle.one_point.specs.Internal.Sides.{endAt}
-use Rattle.one_point.specs.Internal.Writes.{Wrote, Neat, neat-not, neat-other}
-use Rattle.one_point.specs.Internal.Parts.{readAll, Beside, partsAt, partWords, TookIs}
+use Rattle.places.specs.Internal.Positions.{endAt, readAll, Beside, partsAt, partWords}
+use Rattle.places.specs.Internal.Wrote.{Wrote}
+use Rattle.one_point.specs.Internal.Writes.{Neat, neat-not, neat-other}
+use Rattle.one_point.specs.Internal.Parts.{TookIs}
 use Rattle.one_point.specs.Internal.Scans.{Left, Became}
-use Rattle.one_point.specs.declared.sides.Replacement.the-variants.{Not}
-use Rattle.one_point.proofs.ViewLaws.{plain-node, Equal, equal-node}
-use Rattle.one_point.proofs.SidesLaws.{part-words}
-use Rattle.one_point.proofs.WriteLaws.{wrote-end}
-use Rattle.one_point.proofs.PartsLaws.{tagOf, tag-at, some-words, in-row}
-use Rattle.one_point.proofs.PartsStepLaws.{equal-length}
+use Rattle.places.specs.declared.sides.Replacement.the-variants.{Not}
+use Rattle.places.proofs.ViewLaws.{plain-node, Equal, equal-node}
+use Rattle.places.proofs.SidesLaws.{part-words}
+use Rattle.places.proofs.WroteLaws.{wrote-end}
+use Rattle.places.proofs.PartsLaws.{tagOf, tag-at, some-words, in-row}
+use Rattle.places.proofs.StepLaws.{equal-length}
 
 -- a well-formed predicate that is a not has one child
 pub one-more : {d : ℕ} {s : Sort} {ks : Forms} → OkAll d (s ∷ []) ks → (g : Form) × (ks ≡ more g none) × Ok d s g

@@ -7,12 +7,13 @@ use native.Mathlib.Nat.{add-zero}
 use native.Mathlib.Numerals.{add-one}
 use native.Mathlib.Omega.{arith}
 use borrow.Author.Tests.{ne-eqb}
-use lib.ListN.{length, getD, take, drop, set, length-append}
+use lib.ListN.{length, getD, take, drop, set}
 use lib.Seq.{take-suc, take-suc-set, take-set-lt, drop-set-lt, drop-drop, take-add, getD-at, getD-drop, getD-take, set-at, length-take-le}
 use Rattle.tree.specs.Form.{Form, node, Forms, none, more, count, encode, encodeAll}
-use Rattle.form.proofs.HeadLaws.{here}
 use Rattle.rules.specs.Scan.{negate, joined}
-use Rattle.one_point.specs.Internal.Writes.{Wrote, leftWords, isGone, Neat, neat-not, neat-other}
+use Rattle.places.specs.Internal.Wrote.{Wrote}
+use Rattle.one_point.specs.Internal.Writes.{leftWords, isGone, Neat, neat-not, neat-other}
+use Rattle.places.proofs.WroteLaws.{headed, nothing-written}
 
 -- a loop that writes the words s from pos on
 pub copy-none : (pos : ℕ) (out s : List ℕ) → take (pos + 0) out ≡ take pos out ++ take 0 s
@@ -60,29 +61,6 @@ stands pos end out ws h w =
 pub moved : (pos end r : ℕ) (out ws out′ : List ℕ) → pos + 2 ≤ length out → Wrote (pos + 2) out ws end out → Wrote pos out (take (end - (pos + 2)) (drop (pos + 2) out)) r out′ → Wrote pos out ws r out′
 moved pos end r out ws out′ h w m = rw (stands (pos + 2) end out ws h w) at m
 
--- two words stored before them
-pub headed : (pos end t k : ℕ) (out ws : List ℕ) → pos + 2 ≤ length out → Wrote (pos + 2) out ws end out → Wrote pos out (t ∷ k ∷ ws) end (set (set out pos t) (pos + 1) k)
-unfolding Wrote
-headed pos end t k out ws h w =
-    let x : drop pos out ≡ getD out pos 0 ∷ getD out (pos + 1) 0 ∷ drop (pos + 1 + 1) out = rw (here out pos (omega arith), here out (pos + 1) (omega arith)) in
-    let a : take (pos + 2) out ≡ take pos out ++ (getD out pos 0 ∷ getD out (pos + 1) 0 ∷ []) = rw (take-add pos 2 out, x) in
-    let l : length (take pos out) ≡ pos = length-take-le pos out (omega arith) in
-    let m : length (take pos out ++ (t ∷ [])) ≡ pos + 1 = rw (length-append, l) in
-    let g : take pos out ++ (t ∷ (getD out (pos + 1) 0 ∷ ws)) ≡ (take pos out ++ (t ∷ [])) ++ (getD out (pos + 1) 0 ∷ ws) = simp append-assoc in (
-      omega (arith, w .0),
-      rw (
-        take-set-lt end (set out pos t) (pos + 1) k (omega (arith, w .0)),
-        take-set-lt end out pos t (omega (arith, w .0)),
-        w .1,
-        a,
-        append-assoc,
-        set-at (take pos out) (getD out pos 0) (getD out (pos + 1) 0 ∷ ws) t pos l,
-        g,
-        set-at (take pos out ++ (t ∷ [])) (getD out (pos + 1) 0) ws k (pos + 1) m,
-        append-assoc,
-      ) refl,
-    )
-
 -- one word stored before them
 pub behind : (pos end t : ℕ) (out ws : List ℕ) → pos + 1 ≤ length out → Wrote (pos + 1) out ws end out → Wrote pos out (t ∷ ws) end (set out pos t)
 unfolding Wrote
@@ -92,10 +70,6 @@ behind pos end t out ws h w =
       omega (arith, w .0),
       rw (take-set-lt end out pos t (omega (arith, w .0)), w .1, a, append-assoc, set-at (take pos out) (getD out pos 0) ws t pos l) refl,
     )
-
-pub nothing-written : (pos : ℕ) (out : List ℕ) → Wrote pos out [] pos out
-unfolding Wrote
-nothing-written pos out = (sym (add-zero pos), sym (append-nil (take pos out)))
 
 -- an associative node of what is left
 module _ (pos end t : ℕ) (out : List ℕ) (room : pos + 2 ≤ length out) where
@@ -153,22 +127,3 @@ module _ (pos end : ℕ) (out : List ℕ) (room : pos + 2 ≤ length out) where
   say h f (neat-not {f = g} n) w = absurd (h (first-word (pos + 1) end 8 out (encode g ++ []) (omega arith) w))
   say h f (neat-other {t = t} {o = o} {ds = ds} {ks = ks} ne) w =
       rw (negate-other t o ds ks ne, append-nil) (behind pos end 8 out (encode (node t o ds ks)) (omega arith) w)
-
--- words after words
-pub wrote-end : (pos end : ℕ) (out ws out′ : List ℕ) → Wrote pos out ws end out′ → end ≡ pos + length ws
-unfolding Wrote
-wrote-end pos end out ws out′ w = w .0
-
-pub wrote-on : (pos mid end : ℕ) (out a out₁ b out₂ : List ℕ) → Wrote pos out a mid out₁ → Wrote mid out₁ b end out₂ → Wrote pos out (a ++ b) end out₂
-unfolding Wrote
-wrote-on pos mid end out a out₁ b out₂ w v =
-    let l : length (a ++ b) ≡ length a + length b = length-append a b in
-    (omega (arith, w .0, v .0), rw (v .1, w .1, append-assoc))
-
-pub wrote-word : (pos t : ℕ) (out : List ℕ) → pos < length out → Wrote pos out (t ∷ []) (pos + 1) (set out pos t)
-unfolding Wrote
-wrote-word pos t out h = (refl, rw (add-one, take-suc-set out pos t h))
-
-pub wrote-equal : (pos mid end : ℕ) (out a out₁ b out₂ : List ℕ) (t : ℕ) → pos < length out → Wrote (pos + 1) (set out pos t) a mid out₁ → Wrote mid out₁ b end out₂ → Wrote pos out (t ∷ (a ++ b)) end out₂
-wrote-equal pos mid end out a out₁ b out₂ t h w v =
-    wrote-on pos (pos + 1) end out (t ∷ []) (set out pos t) (a ++ b) out₂ (wrote-word pos t out h) (wrote-on (pos + 1) mid end (set out pos t) a out₁ b out₂ w v)

@@ -1,8 +1,5 @@
 -- What the contracts of private functions cite. Nothing here is needed to read a public contract.
-pub mod Sides
 pub mod Writes
 pub mod Parts
 pub mod Scans
-pub mod Rest
 pub mod Reduce
-pub mod Member

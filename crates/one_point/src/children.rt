@@ -1,12 +1,12 @@
 // Children of an associative node: those that are copied, and where a search among them stopped.
-use crate::scan::skip_pred;
-use crate::sides::Replacement;
 use form::head::Step;
+use places::positions::skip_pred;
+use places::sides::Replacement;
 ghost use mathlib.Core.Path.{_≡_};
 ghost use Prim.Native.Nat.{_+_, _*_, _≤_, _<_};
 ghost use lib.ListN.{length};
 ghost use Rattle.one_point.specs.Internal.Scans.{Kids, kidsAt, oneMore};
-ghost use Rattle.tree.specs.Form.{encodeAll, count};
+ghost use Rattle.tree.specs.Form.{encodeAll};
 
 // What a search took, where it stopped in the row and how many children are left there, and what was written.
 pub struct Stopped {

@@ -1,14 +1,8 @@
-// The one-point rule and membership: replacements for bound identifiers, found and filled.
+// The one-point rule: a quantified predicate is reduced by the first equality that its body offers.
 mod children;
-mod filling;
-mod member;
 pub mod one_point_inference;
 mod parts;
 mod reduce;
-pub mod replacements;
 mod rest;
-pub mod rewrite_in_compset;
 mod scan;
-mod shares;
-mod sides;
 mod writes;

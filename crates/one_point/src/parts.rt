@@ -1,17 +1,18 @@
 // An equality of two pairs, split as deep as both sides are pairs: its parts, offered in order.
-use crate::sides::Replacement;
-use crate::sides::Sides;
-use crate::sides::is_above;
-use crate::sides::match_replacement;
-use crate::sides::skip_expr;
 use crate::writes::copy_part;
-use form::head::Step;
+use places::positions::both_pairs;
+use places::positions::part_at;
+use places::sides::Replacement;
+use places::sides::Sides;
+use places::sides::is_above;
+use places::sides::match_replacement;
 use tree::tag::Tag;
 ghost use mathlib.Core.Path.{_≡_};
 ghost use Prim.Native.Nat.{_+_, _-_, _<_, _≤_};
 ghost use lib.ListN.{length};
-ghost use Rattle.one_point.specs.Internal.Writes.{Wrote};
-ghost use Rattle.one_point.specs.Internal.Parts.{Beside, Within, partsAt, bothPairs, partWords, acceptWords, equalWords, isTaken, PartsCopied, Searched};
+ghost use Rattle.places.specs.Internal.Wrote.{Wrote};
+ghost use Rattle.places.specs.Internal.Positions.{Beside, Within, partsAt};
+ghost use Rattle.one_point.specs.Internal.Parts.{acceptWords, equalWords, isTaken, PartsCopied, Searched};
 
 // Where the written parts end, and how many there are.
 pub struct Written {
@@ -27,43 +28,6 @@ pub struct Search {
     pub todo: u32,
     pub end: usize,
     pub count: u32,
-}
-
-pub fn both_pairs(row: &[u32], p: usize, q: usize) -> bool
-    ensures { λ r. ⌜ r ≡ bothPairs (now (row .entry)) p q ⌝ }
-{
-    if row.len() <= p {
-        return false;
-    }
-    if row.len() <= q {
-        return false;
-    }
-    if row[p] != Tag::MAPSTO {
-        return false;
-    }
-    row[q] == Tag::MAPSTO
-}
-
-// Where the expression at `at` ends; where none stands there, `at` itself.
-pub fn expr_end(row: &[u32], at: usize) -> usize
-    ensures { λ r. ⌜ r ≡ partWords (now (row .entry)) at at .middle ⌝ }
-{
-    let Step::End(end) = skip_expr(row, at, 64) else {
-        return at;
-    };
-    end
-}
-
-// The part whose sides stand at p and q.
-pub fn part_at(row: &[u32], p: usize, q: usize) -> Sides
-    ensures { λ r. ⌜ r ≡ partWords (now (row .entry)) p q ⌝ }
-{
-    Sides {
-        left: p,
-        middle: expr_end(row, p),
-        right: q,
-        end: expr_end(row, q),
-    }
 }
 
 // The rule of Places for n declarations, with all places free.

@@ -1,9 +1,9 @@
 // A body reduced by the equality that its scan takes.
 use crate::rest::put_rest;
 use crate::scan::scan_pred;
-use crate::sides::Replacement;
 use form::answer::Answer;
 use form::head::Step;
+use places::sides::Replacement;
 use reader::reader::expr_at;
 use reader::reader::pred_at;
 use replace::small::depth_left;
@@ -14,7 +14,8 @@ ghost use Prim.Native.Nat.{_≤_};
 ghost use lib.ListN.{length, take};
 ghost use Rattle.tree.specs.Form.{pick};
 ghost use Rattle.form.specs.Answer.{told, written};
-ghost use Rattle.one_point.specs.Internal.Reduce.{Placing, Marking, Cleared, placedOutcome, RestLeaves, readingDepth, emptyWord, Reducing, bodyOutcome};
+ghost use Rattle.one_point.specs.Internal.Reduce.{Placing, Marking, placedOutcome, RestLeaves, readingDepth, emptyWord, Reducing, bodyOutcome};
+ghost use Rattle.places.specs.Internal.Positions.{Cleared};
 
 // The target's place filled in the rest of a body, with the replacement's marks.
 fn place_deep(

@@ -3,15 +3,15 @@ use crate::children::Stopped;
 use crate::children::one_more;
 use crate::children::skip_preds;
 use crate::parts::copy_parts;
-use crate::parts::expr_end;
 use crate::parts::is_taken;
 use crate::parts::search_parts;
-use crate::sides::Replacement;
 use crate::writes::copy_part;
 use crate::writes::finish_junction;
 use crate::writes::finish_not;
 use form::head::Step;
-use reader::reader::pred_at;
+use places::positions::expr_end;
+use places::positions::skip_pred;
+use places::sides::Replacement;
 use tree::tag::Tag;
 ghost use mathlib.Core.Path.{_≡_};
 ghost use mathlib.Core.Bool.{true, false};
@@ -23,7 +23,6 @@ ghost use Rattle.tree.specs.Tag.{pred};
 ghost use Rattle.form.specs.Decode.{got, decode};
 ghost use Rattle.rules.specs.Replacement.{Taken, nothing};
 ghost use Rattle.rules.specs.Scan.{scanned, scan, roleOf, junction};
-ghost use Rattle.one_point.specs.Internal.Sides.{endAt};
 ghost use Rattle.one_point.specs.Internal.Parts.{TookIs};
 ghost use Rattle.one_point.specs.Internal.Scans.{Room, Became, ScanTold, nextScan, Kids, SearchedKids};
 
@@ -33,15 +32,6 @@ pub struct Scanned {
     pub found: Replacement,
     pub gone: bool,
     pub end: usize,
-}
-
-// Where the predicate at `at` ends.
-pub(crate) fn skip_pred(row: &[u32], at: usize, depth: u32) -> Step
-    requires { ⌜ depth ≤ 64 ⌝ }
-    ensures { λ r. ⌜ r ≡ endAt at (decode depth pred (drop at (now (row .entry)))) ⌝ }
-{
-    let mut marks = [0u32; 1];
-    pred_at(row, &mut marks, at, depth, 0)
 }
 
 // A predicate that the scan does not enter.

@@ -1,11 +1,13 @@
 // Words written into the output row: parts copied, and nodes rebuilt from what is left of their children.
+use replace::places::put_words;
 use tree::tag::Tag;
 ghost use mathlib.Core.Path.{_≡_};
 ghost use Prim.Native.Nat.{_+_, _-_, _<_, _≤_};
 ghost use lib.ListN.{length, take, drop};
 ghost use Rattle.tree.specs.Form.{Form, Forms, count, encode, encodeAll};
 ghost use Rattle.rules.specs.Scan.{negate, joined};
-ghost use Rattle.one_point.specs.Internal.Writes.{Wrote, Neat, leftWords, isGone};
+ghost use Rattle.places.specs.Internal.Wrote.{Wrote};
+ghost use Rattle.one_point.specs.Internal.Writes.{Neat, leftWords, isGone};
 
 // Where what is left of a node ends, and whether nothing is.
 pub struct Left {
@@ -19,13 +21,8 @@ pub(crate) fn copy_part(row: &[u32], from: usize, to: usize, out: &mut [u32], po
     ensures { λ r. ⌜ Wrote pos (now (out .entry)) (take (to - from) (drop from (now (row .entry)))) r (now (out .exit)) ⌝ }
     ensures { λ r. ⌜ r ≡ pos + (to - from) ⌝ }
 {
-    let n = to - from;
-    let mut i = 0;
-    while i < n {
-        out[pos + i] = row[from + i];
-        i += 1;
-    }
-    pos + n
+    put_words(&row[from..to], out, pos);
+    pos + (to - from)
 }
 
 // Moves the words from two behind `pos` up to `end` down to `pos`.

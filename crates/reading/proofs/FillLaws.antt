@@ -15,7 +15,7 @@ use Rattle.rules.specs.Shift.{reaches, fall, lower}
 use Rattle.rules.specs.Fill.{keptCount, keptNames, fillIndex, fillFor}
 use Rattle.rules.proofs.WalkLaws.{binding-add, self, undo}
 use Rattle.rules.specs.Replacement.{above}
-use Rattle.one_point.proofs.MemberTree.{reverse-kept}
+use Rattle.rules.proofs.FrontLaws.{reverse-kept}
 use Rattle.reading.specs.Reading.{Reading, Env, cons, value}
 use Rattle.reading.specs.Premise.{push, readInBody}
 use Rattle.reading.proofs.ValueLaws.{outerValue, push-add, lift-value, subst-value}

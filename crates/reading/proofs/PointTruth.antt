@@ -20,7 +20,7 @@ use Rattle.rules.specs.Replacement.{above, taken, nothing}
 use Rattle.rules.specs.Scan.{Scan, scanned, scan}
 use Rattle.rules.specs.Partial.{noPlaces, setPlace, putRound, instantiatePartial}
 use Rattle.rules.specs.Point.{polarity, restOf, reduce, reduceQuantified, onePoint}
-use Rattle.one_point.proofs.PartialLaws.{front-is, rest-is}
+use Rattle.rules.proofs.FrontLaws.{front-is, rest-is}
 use Rattle.reading.specs.Reading.{Reading, truth, same, valueOf, Env, value, holds}
 use Rattle.reading.specs.Premise.{has, readInBody, inRange, premiseOf, premise}
 use Rattle.reading.proofs.Exists.{exOver, every-over, tagOf, quantified-node}

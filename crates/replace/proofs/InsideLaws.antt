@@ -25,7 +25,7 @@ use Rattle.rules.proofs.TreeLaws.{up-up}
 use Rattle.rules.specs.Fill.{keptCount, keptNames, fillIndex, fillFor, fill}
 use Rattle.rules.specs.Free.{orName, seek, freeFor, substitute}
 use Rattle.replace.specs.Internal.Pieces.{smallWords as small, areNames}
-use Rattle.replace.proofs.OkLaws.{ok-deep}
+use Rattle.rules.proofs.OkLaws.{ok-deep}
 use Rattle.replace.proofs.FillTree.{count-both, kept-reverse, lowPlace}
 use Rattle.replace.proofs.QuantLaws.{Quant, tag-heading}
 use Rattle.replace.proofs.PruneTree.{few-names, names-kept, node-names, quantify-ok}

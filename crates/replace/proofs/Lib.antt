@@ -21,3 +21,4 @@ pub mod PruneTree
 pub mod InsideLaws
 pub mod ShallowLaws
 pub mod SmallLaws
+pub mod PartialLaws

@@ -19,7 +19,7 @@ use Rattle.shift.specs.Internal.Items.{Fresh, items, store}
 use Rattle.shift.specs.declared.items.Item.the-variants.{Plain, Ident}
 use Rattle.form.proofs.RowLaws.{found-row}
 use Rattle.shift.proofs.ItemLaws.{stored, store-front}
-use Rattle.shift.proofs.RowLaws.{zeros, marksOf, zeros-append, zeros-length, marks-length, mark-zeros}
+use Rattle.shift.proofs.RowLaws.{zeros, marksOf, zeros-append, zeros-length, marks-length, mark-zeros, only-mark}
 
 pub zeros-are : (l : List ℕ) → replicate (length l) 0 ≡ zeros l
 zeros-are [] = refl
@@ -40,9 +40,6 @@ clear-none l at i n h = let a : n - i ≡ 0 = omega arith in rw a
 -- a form's marks at the start of a row
 front-mark : (f : Form) (b : List ℕ) → mark f 0 0 (zeros (encode f) ++ b) ≡ marksOf 0 f ++ b
 front-mark f b = mark-zeros f 0 0 [] b refl
-
-pub only-mark : (f : Form) → mark f 0 0 (replicate (length (encode f)) 0) ≡ marksOf 0 f
-only-mark f = rw (zeros-are (encode f)) (rw (append-nil, append-nil) at (front-mark f []))
 
 take-mark : (f : Form) (row l l′ m : List ℕ) → row ≡ encode f → length row ≤ length l → l′ ≡ store l 0 (replicate (length row) 0) → m ≡ mark f 0 0 l′ → take (length row) m ≡ mark f 0 0 (replicate (length row) 0)
 take-mark f row l l′ m e h s k =
@@ -162,13 +159,15 @@ pub listing-kept : (kind : ListKind) (list l l′ : List ℕ) (r : Listed) → d
 listing-kept kind list l l′ r e h = rw e h
 
 -- one more word copied
-pub copy-more : (ws l l′ : List ℕ) (i : ℕ) → i < length ws → l′ ≡ set l i (getD ws i 0) → store l i (drop i ws) ≡ store l′ (i + 1) (drop (i + 1) ws)
+pub copy-more : (ws l l′ : List ℕ) (at i : ℕ) → i < length ws → l′ ≡ set l (at + i) (getD ws i 0) → store l (at + i) (drop i ws) ≡ store l′ (at + (i + 1)) (drop (i + 1) ws)
 unfolding store
-copy-more ws l l′ i h e = rw (here ws i h, e)
+copy-more ws l l′ at i h e =
+    let b : at + (i + 1) ≡ at + i + 1 = omega arith in
+    rw (b, here ws i h, e)
 
-pub copy-none : (ws l : List ℕ) (i : ℕ) → length ws ≤ i → store l i (drop i ws) ≡ l
+pub copy-none : (ws l : List ℕ) (at i : ℕ) → length ws ≤ i → store l (at + i) (drop i ws) ≡ l
 unfolding store
-copy-none ws l i h = rw (gone ws i h)
+copy-none ws l at i h = rw (gone ws i h)
 
 -- marks past the row's end say nothing
 pub items-take : (ws ms : List ℕ) → items ws (take (length ws) ms) ≡ items ws ms

@@ -21,7 +21,8 @@ use Rattle.rules.proofs.LimitLaws.{small, ok-small, fineLeaf, walk-length}
 use Rattle.rules.specs.Fill.{keptCount, keptNames, fillIndex, fillFor, fill, quantify, ofQuantified, quantified}
 use Rattle.rules.specs.Prune.{isNot, unused, usedPlaces, prune, pruneOutcome}
 use Rattle.replace.specs.Internal.Pieces.{declaredIn, areNames}
-use Rattle.replace.proofs.OkLaws.{ok-deep, ok-walk, names-good, names-made}
+use Rattle.rules.proofs.OkLaws.{ok-deep, ok-walk}
+use Rattle.replace.proofs.OkLaws.{names-good, names-made}
 use Rattle.replace.proofs.FillTree.{kept-reverse}
 use Rattle.replace.proofs.QuantLaws.{Quant, is-quant, not-quant, tag-own, tag-node}
 

@@ -16,10 +16,9 @@ use Rattle.reader.specs.Internal.Reads.{mark}
 use Rattle.form.proofs.DecodeLaws.{clash, Ok, ok-node, OkAll, ok-none, ok-more}
 use Rattle.shift.specs.Internal.Items.{items}
 use Rattle.rules.proofs.WalkLaws.{and-left, and-right}
-use Rattle.shift.proofs.RowLaws.{itemsOf, marksOf, zeros, zeros-length, items-encode}
+use Rattle.shift.proofs.RowLaws.{itemsOf, marksOf, zeros, zeros-length, items-encode, only-mark}
 use Rattle.rules.specs.Fill.{quantifier, other, quantified}
 use Rattle.replace.specs.Internal.Pieces.{declaredIn}
-use Rattle.replace.proofs.MarkLaws.{only-mark}
 
 -- a word or a name was read: what it was, and what was read after it
 pub only-word : (b : Bool) (w : ℕ) (h : Head) (o ds : List ℕ) (p e : ℕ) (r : List ℕ) → only b (addWord w h) ≡ head o ds p e r → (b ≡ true) × (o′ : List ℕ) × (w ∷ o′ ≡ o) × (h ≡ head o′ ds p e r)

@@ -26,7 +26,7 @@ use Rattle.replace.specs.declared.marks.Reading.{Reading}
 use Rattle.replace.specs.declared.marks.Reading.the-variants.{Taken, Refused}
 use Rattle.replace.proofs.BuildLaws.{is-found}
 use Rattle.replace.proofs.MarkLaws.{marked-front}
-use Rattle.replace.proofs.OkLaws.{ok-deep}
+use Rattle.rules.proofs.OkLaws.{ok-deep}
 
 pub told-shallow : (deep : ℕ) → deep ≤ 64 → (s : Sort) (row a b : List ℕ) (r : Step) → Told 0 0 (decodeIn deep 0 s row) a b r → Told 0 0 (decode deep s row) a b r
 told-shallow deep most s row a b r t = rw (in-decode s row deep 0 (omega arith) (omega arith)) at t

@@ -28,7 +28,7 @@ use Rattle.form.proofs.ListLaws.{GoodAll, list-sound}
 use Rattle.reader.proofs.TableLaws.{listed-n}
 use Rattle.rules.proofs.WalkLaws.{and-left, and-right}
 use Rattle.replace.specs.Internal.Pieces.{part, smallWords, deepPart, deepAt, Depth, PartsDepth, Leaves, LeavesBy}
-use Rattle.replace.proofs.OkLaws.{ok-deep}
+use Rattle.rules.proofs.OkLaws.{ok-deep}
 use Rattle.replace.proofs.EntryLaws.{listed-part}
 use Rattle.replace.proofs.InsideLaws.{Small, SmallPlace, SmallPlaces, small-split, small-places}
 

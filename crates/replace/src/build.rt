@@ -18,14 +18,14 @@ ghost use Rattle.form.specs.Answer.{told, written};
 ghost use Rattle.shift.specs.Internal.Items.{items, store};
 ghost use Rattle.replace.specs.Internal.Pieces.{sizes, longest, half, lengthRefusal, planFor, Tabled, Ready, shortWords, emitted, replacedWords, replaced};
 
-// The words, stored at the start of the output row.
-pub(crate) fn copy(words: &[u32], out: &mut [u32])
-    requires { ⌜ length (now words) ≤ length (now out) ⌝ }
-    ensures { λ _. ⌜ now (out .exit) ≡ store (now (out .entry)) 0 (now (words .entry)) ⌝ }
+// The words, stored at `at`.
+pub(crate) fn copy(words: &[u32], out: &mut [u32], at: usize)
+    requires { ⌜ at + length (now words) ≤ length (now out) ⌝ }
+    ensures { λ _. ⌜ now (out .exit) ≡ store (now (out .entry)) at (now (words .entry)) ⌝ }
 {
     let mut i = 0;
     while i < words.len() {
-        out[i] = words[i];
+        out[at + i] = words[i];
         i += 1;
     }
 }
@@ -41,7 +41,7 @@ fn emit(kind: Kind, words: &[u32], out: &mut [u32]) -> Answer
     if out.len() < words.len() {
         return Answer::No(14);
     }
-    copy(words, out);
+    copy(words, out, 0);
     Answer::Done(words.len())
 }
 
@@ -56,7 +56,7 @@ fn emit_short(words: &[u32], out: &mut [u32]) -> Answer
     if out.len() < words.len() {
         return Answer::No(14);
     }
-    copy(words, out);
+    copy(words, out, 0);
     Answer::Done(words.len())
 }
 
@@ -133,7 +133,7 @@ fn write_words(
     ensures { λ r. ⌜ r ≡ length (now (head .entry)) + sizes (planFor rule (now (words .entry)) (now (starts .entry)) (now (ends .entry))) (items (drop from (now (row .entry))) (drop from (now (marks .entry)))) ⌝ }
     ensures { λ _. ⌜ now (out .exit) ≡ store (now (out .entry)) 0 (replacedWords (now (head .entry)) (planFor rule (now (words .entry)) (now (starts .entry)) (now (ends .entry))) (now (list .entry)) (now («list_marks» .entry)) (drop from (now (row .entry))) (drop from (now (marks .entry)))) ⌝ }
 {
-    copy(head, out);
+    copy(head, out, 0);
     write_pieces(
         rule,
         words,

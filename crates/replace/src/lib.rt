@@ -2,6 +2,7 @@
 mod build;
 pub mod fill;
 pub mod free;
+pub mod instantiate_partial;
 mod marks;
 mod pieces;
 pub mod places;

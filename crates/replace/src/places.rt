@@ -1,4 +1,5 @@
 // The places of a table filled in a body, under a head that is given.
+use crate::build::copy;
 use crate::build::replace;
 use crate::pieces::Plan;
 use crate::pieces::filled_from;
@@ -103,4 +104,17 @@ pub fn put_lifted(row: &[u32], marks: &[u32], up: u32, out: &mut [u32], at: usiz
         return;
     }
     write_part(row, marks, up, 0, out, at);
+}
+
+// The words, stored at `at`, where there is room for all of them.
+pub fn put_words(words: &[u32], out: &mut [u32], at: usize)
+    ensures { λ _. ⌜ now (out .exit) ≡ pick (leb (at + length (now (words .entry))) (length (now (out .entry)))) (store (now (out .entry)) at (now (words .entry))) (now (out .entry)) ⌝ }
+{
+    if out.len() < words.len() {
+        return;
+    }
+    if out.len() - words.len() < at {
+        return;
+    }
+    copy(words, out, at);
 }

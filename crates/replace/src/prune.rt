@@ -144,7 +144,7 @@ fn drop_decls(words: &[u32], row: &[u32], marks: &[u32], out: &mut [u32]) -> Ans
     }
     let mut falls = [0u32; 33];
     count_falls(words, &mut falls);
-    copy(&head[..h], out);
+    copy(&head[..h], out, 0);
     write_fallen(words, &falls, row, marks, from, out, h);
     Answer::Done(n)
 }

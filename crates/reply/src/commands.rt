@@ -92,6 +92,6 @@ pub(crate) fn run_command(
         Head::Fill => replace::fill::instantiate(list, row, work, result),
         Head::Prune => replace::prune::remove_unused_decls(row, result),
         Head::Point => one_point::one_point_inference::one_point_inference(row, work, result),
-        Head::Member => one_point::rewrite_in_compset::rewrite_in_compset(row, work, result),
+        Head::Member => member::rewrite_in_compset::rewrite_in_compset(row, work, result),
     }
 }

@@ -2,3 +2,5 @@ pub mod Starred
 pub mod WalkLaws
 pub mod LimitLaws
 pub mod TreeLaws
+pub mod OkLaws
+pub mod FrontLaws

@@ -126,13 +126,21 @@ zeros-replicate (w ∷ l) (suc n) h =
     let e : suc n - suc (length l) ≡ n - length l = omega arith in
     rw e (ap (λ z. 0 ∷ z) (zeros-replicate l n (omega arith)))
 
+-- the marks that a reader makes in a row of zeros, under u declarations
+pub mark-front : (f : Form) (u n : ℕ) → length (encode f) ≤ n → mark f 0 u (replicate n 0) ≡ marksOf u f ++ replicate (n - length (encode f)) 0
+mark-front f u n h = rw (zeros-replicate (encode f) n h) (mark-zeros f 0 u [] (replicate (n - length (encode f)) 0) refl)
+
+pub only-mark : (f : Form) → mark f 0 0 (replicate (length (encode f)) 0) ≡ marksOf 0 f
+only-mark f =
+    let z : length (encode f) - length (encode f) ≡ 0 = omega arith in
+    rw (z, append-nil) at (mark-front f 0 (length (encode f)) (omega arith))
+
 -- the items of a form's row with the marks that the walk made
 pub marked-items : (f : Form) (n : ℕ) → length (encode f) ≤ n → items (encode f) (mark f 0 0 (replicate n 0)) ≡ itemsOf 0 f
 unfolding items
 marked-items f n h =
-    let m : mark f 0 0 (replicate n 0) ≡ marksOf 0 f ++ replicate (n - length (encode f)) 0 = rw (zeros-replicate (encode f) n h) (mark-zeros f 0 0 [] (replicate (n - length (encode f)) 0) refl) in
     let i = items-encode 0 f [] (replicate (n - length (encode f)) 0) in
-    rw m (rw (append-nil, append-nil) at i)
+    rw (mark-front f 0 n h) (rw (append-nil, append-nil) at i)
 
 -- a rewriting of each item is the walk
 pub rewritten-append : (g : Item → List ℕ) (a b : List Item) → rewritten g (a ++ b) ≡ rewritten g a ++ rewritten g b

@@ -5,7 +5,7 @@ use lib.ListN.{length}
 use Rattle.form.specs.Answer.{number, lengthOf}
 use Rattle.form.specs.declared.answer.Answer.{Answer}
 use Rattle.rules.specs.Lift.{Part, base, copy, empty}
-use Rattle.one_point.specs.declared.replacements.Replacements.{Replacements}
+use Rattle.places.specs.declared.replacements.Replacements.{Replacements}
 
 -- a first number, counted in steps of 2 ^ 32, and a second one
 abbrev pub packed : ℕ → ℕ → ℕ

@@ -1,8 +1,8 @@
 // The set of places, exported as its two arrays and the number of declarations.
 use crate::code::refusal_code;
-use one_point::replacements::Replacements;
+use places::replacements::Replacements;
 ghost use mathlib.Core.Path.{_≡_};
-ghost use Rattle.one_point.specs.Places.{newOf, offerAnswer};
+ghost use Rattle.places.specs.Places.{newOf, offerAnswer};
 ghost use Rattle.sogbayile.specs.Code.{packed, placesOf};
 
 // An empty set for n declarations.

@@ -2,8 +2,8 @@
 use crate::code::code_of;
 use crate::code::part_code;
 use form::answer::Limit;
+use member::rewrite_in_compset::rewrite_in_compset;
 use one_point::one_point_inference::one_point_inference;
-use one_point::rewrite_in_compset::rewrite_in_compset;
 use replace::fill::instantiate;
 use replace::free::substitute_free_idents;
 use replace::prune::remove_unused_decls;

@@ -42,18 +42,18 @@ use denote.Triple.Table.{entered, cited}
 use denote.Triple.Walked.{says, Stays, stay-ref, stay-none-slice, walkOf, AllGo, goes-ref, goes-none-slice, Walks, ends-at, walked, walk-meets}
 use denote.Triple.Clauses.{ensured, lasts}
 use denote.Exit.{yes}
-use Rattle.one_point.specs.Places.{offerAnswer}
-use Rattle.one_point.specs.declared.replacements.Replacements.{Replacements}
-use Rattle.one_point.specs.declared.replacements.Offered.{Offered}
+use Rattle.places.specs.Places.{offerAnswer}
+use Rattle.places.specs.declared.replacements.Replacements.{Replacements}
+use Rattle.places.specs.declared.replacements.Offered.{Offered}
 use Rattle.offers.proofs.Machine.{mach}
-use Rattle.one_point.proofs.replacements.Replacements as T
-use Rattle.one_point.proofs.replacements.Replacements.Laws as T′
-use Rattle.one_point.proofs.replacements.Offered as O
-use Rattle.one_point.proofs.replacements.Offered.Laws as O′
-use Rattle.one_point.proofs.replacements.Replacements.check as check
-use Rattle.one_point.proofs.replacements.Replacements.check.Symbol as check-def
-use Rattle.one_point.proofs.replacements.Replacements.check.Symbol.{name as #check}
-use Rattle.one_point.proofs.replacements.Replacements.check.Met as check-thm
+use Rattle.places.proofs.replacements.Replacements as T
+use Rattle.places.proofs.replacements.Replacements.Laws as T′
+use Rattle.places.proofs.replacements.Offered as O
+use Rattle.places.proofs.replacements.Offered.Laws as O′
+use Rattle.places.proofs.replacements.Replacements.check as check
+use Rattle.places.proofs.replacements.Replacements.check.Symbol as check-def
+use Rattle.places.proofs.replacements.Replacements.check.Symbol.{name as #check}
+use Rattle.places.proofs.replacements.Replacements.check.Met as check-thm
 use Rattle.offers.proofs.offer.Key.{name as #offer}
 use Rattle.offers.proofs.offer as offer
 use Rattle.offers.proofs.offer.Statement as stated
@@ -162,4 +162,4 @@ offer-spec 𝓤 H 𝓜 𝓖 𝓡 =
     entered 𝓤 H (tripleOf 𝓤 H (𝓖 .A) offer.signature (offer.spec 𝓤 H (𝓖 .A) (𝓜 .mem) (𝓡 .run)))
     (tables 𝓤 H 𝓜 𝓡 code.env .C) (tables 𝓤 H 𝓜 𝓡 code.env .Λ) #offer code.function (code.unfolded 𝓤 H 𝓜 𝓡)
     (offer-meets 𝓤 H (𝓖 .A) (givenOf 𝓤 H 𝓜 𝓖) (𝓜 .mem) (𝓡 .run) (tablesOf 𝓤 H 𝓜 (tables 𝓤 H 𝓜 𝓡 code.env))
-    (cited 𝓤 H (Check 𝓤 H (𝓖 .A) (𝓜 .mem) (𝓡 .run)) 𝓜 𝓡 code.env #check check-def.routine code.calls-one-point·replacements·Replacements·check (check-thm.met 𝓤 H 𝓜 𝓖 𝓡)))
+    (cited 𝓤 H (Check 𝓤 H (𝓖 .A) (𝓜 .mem) (𝓡 .run)) 𝓜 𝓡 code.env #check check-def.routine code.calls-places·replacements·Replacements·check (check-thm.met 𝓤 H 𝓜 𝓖 𝓡)))

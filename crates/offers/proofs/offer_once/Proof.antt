@@ -43,14 +43,14 @@ use denote.Triple.Table.{entered, cited}
 use denote.Triple.Walked.{says, Stays, stay-none, stay-none-slice, walkOf, AllGo, goes-none, goes-none-slice, Walks, ends-at, walked, walk-meets}
 use denote.Triple.Clauses.{ensured, lasts}
 use denote.Exit.{yes}
-use Rattle.one_point.specs.Places.{offerAnswer}
-use Rattle.one_point.specs.declared.replacements.Replacements.{Replacements}
-use Rattle.one_point.specs.declared.replacements.Offered.{Offered}
+use Rattle.places.specs.Places.{offerAnswer}
+use Rattle.places.specs.declared.replacements.Replacements.{Replacements}
+use Rattle.places.specs.declared.replacements.Offered.{Offered}
 use Rattle.offers.proofs.Machine.{mach, machO}
-use Rattle.one_point.proofs.replacements.Replacements as T
-use Rattle.one_point.proofs.replacements.Replacements.Laws as T′
-use Rattle.one_point.proofs.replacements.Offered as O
-use Rattle.one_point.proofs.replacements.Offered.Laws as O′
+use Rattle.places.proofs.replacements.Replacements as T
+use Rattle.places.proofs.replacements.Replacements.Laws as T′
+use Rattle.places.proofs.replacements.Offered as O
+use Rattle.places.proofs.replacements.Offered.Laws as O′
 use Rattle.offers.proofs.offer as offer
 use Rattle.offers.proofs.offer.Symbol as offer-def
 use Rattle.offers.proofs.offer.Symbol.{name as #offer}

@@ -1,64 +1,20 @@
 -- The parts of an equality, by the words at two positions: as many expressions stand at the one as at the other.
 use mathlib.Core.Path.{_≡_}
-use mathlib.Core.Bool.{Bool, true, false, _&&_}
-use mathlib.Core.List.{List, [], _∷_, _++_}
-use Prim.Native.Nat.{ℕ, _+_, _-_, _*_, _≤_}
-use lib.Dec.{ltb, eqb}
-use lib.ListN.{length, getD, take, drop, replicate}
-use Rattle.tree.specs.Form.{Form, Forms, pick, count, encode, encodeAll}
-use Rattle.tree.specs.Tag.{expr}
-use Rattle.form.specs.Decode.{Gots, gots, no-forms, decode, decodeAll}
-use Rattle.form.specs.declared.head.Step.{Step}
-use Rattle.form.specs.declared.head.Step.the-variants.{End, Bad}
+use mathlib.Core.Bool.{Bool, true, false}
+use mathlib.Core.List.{List, _∷_, _++_}
+use Prim.Native.Nat.{ℕ, _+_, _-_}
+use lib.Dec.{ltb}
+use lib.ListN.{length, take, drop}
+use Rattle.tree.specs.Form.{Form, pick, count, encode, encodeAll}
 use Rattle.rules.specs.Replacement.{Taken, taken, nothing}
-use Rattle.rules.specs.Split.{partsAll}
 use Rattle.rules.specs.Scan.{Scans, scans, present, copied, offerParts}
-use Rattle.one_point.specs.Internal.Sides.{endAt, replacementWords, aboveWords}
-use Rattle.one_point.specs.Internal.Writes.{Wrote}
+use Rattle.places.specs.Internal.Positions.{Beside, partsAt}
+use Rattle.places.specs.Internal.Sides.{replacementWords, aboveWords}
+use Rattle.places.specs.Internal.Wrote.{Wrote}
 use Rattle.one_point.specs.declared.parts.Search.{Search}
-use Rattle.one_point.specs.declared.sides.Sides.{Sides}
-use Rattle.one_point.specs.declared.sides.Replacement.{Replacement}
-use Rattle.one_point.specs.declared.sides.Replacement.the-variants.{Is, Not}
-
-abbrev pub readAll : ℕ → List ℕ → Gots
-readAll n ws = decodeAll (λ s l. decode 64 s l) (replicate n expr) ws
-
--- n expressions stand at p, and n at q; there is room for their parts behind w, in an output row of so many words, and for counting them after k
--- others
-pub record Beside (row : List ℕ) (p q n w k words : ℕ) : Type 0 where
-  pub lefts : Forms
-  pub rights : Forms
-  pub left-rest : List ℕ
-  pub right-rest : List ℕ
-  pub is-left : readAll n (drop p row) ≡ gots lefts left-rest
-  pub is-right : readAll n (drop q row) ≡ gots rights right-rest
-  pub room : w + 2 * (length (encodeAll lefts) + length (encodeAll rights)) ≤ words
-  pub few : k + length (encodeAll lefts) ≤ 16384
-
-abbrev pub partsOf : Gots → Gots → List (Form × Form)
-partsOf (gots fs x) (gots gs y) = partsAll fs gs
-partsOf (gots fs x) no-forms = []
-partsOf no-forms b = []
-
-unfoldable pub partsAt : List ℕ → ℕ → ℕ → ℕ → List (Form × Form)
-partsAt row p q n = partsOf (readAll n (drop p row)) (readAll n (drop q row))
-
-unfoldable pub bothPairs : List ℕ → ℕ → ℕ → Bool
-bothPairs row p q = eqb (getD row p 0) 201 && eqb (getD row q 0) 201
-
--- where the expressions at p and q end
-abbrev pub endOr : ℕ → Step → ℕ
-endOr p (End e) = e
-endOr p Bad = p
-
-unfoldable pub partWords : List ℕ → ℕ → ℕ → Sides
-partWords row p q =
-    record {
-      left = p;
-      middle = endOr p (endAt p (decode 64 expr (drop p row)));
-      right = q;
-      end = endOr q (endAt q (decode 64 expr (drop q row)));
-    }
+use Rattle.places.specs.declared.sides.Sides.{Sides}
+use Rattle.places.specs.declared.sides.Replacement.{Replacement}
+use Rattle.places.specs.declared.sides.Replacement.the-variants.{Is, Not}
 
 -- the rule of Places, with all places free
 abbrev pub acceptBy : ℕ → List ℕ → Replacement → Replacement
@@ -67,13 +23,6 @@ acceptBy n row Not = Not
 
 unfoldable pub acceptWords : ℕ → Sides → List ℕ → Replacement
 acceptWords n s row = acceptBy n row (replacementWords s row)
-
--- the sides of a part stand in the row
-pub record Within (row : List ℕ) (s : Sides) : Type 0 where
-  pub left-up : s .left ≤ s .middle
-  pub left-in : s .middle ≤ length row
-  pub right-up : s .right ≤ s .end
-  pub right-in : s .end ≤ length row
 
 abbrev pub equalWords : List ℕ → Sides → List ℕ
 equalWords row s = 101 ∷ (take (s .middle - s .left) (drop (s .left) row) ++ take (s .end - s .right) (drop (s .right) row))

@@ -2,7 +2,7 @@
 use mathlib.Core.Path.{_≡_}
 use mathlib.Core.Bool.{Bool, true, _||_}
 use mathlib.Core.List.{List, []}
-use Prim.Native.Nat.{ℕ, _+_, _≤_, _<_}
+use Prim.Native.Nat.{ℕ, _≤_, _<_}
 use lib.Dec.{eqb}
 use lib.ListN.{length, getD, set, replicate}
 use Rattle.tree.specs.Form.{Form, pick}
@@ -26,24 +26,9 @@ isQuantifier t = eqb t 851 || eqb t 852
 unfoldable pub quantifierIn : List ℕ → Quantifier
 quantifierIn row = pick (eqb (declaredIn row) 0) None (Of (getD row 0 0) (declaredIn row))
 
--- a body that begins with the tag t has the head of a quantifier
-pub record Inner (t : ℕ) (body : List ℕ) : Type 0 where
-  pub some : 1 ≤ length body
-  pub long : getD body 0 0 ≡ t → 2 + getD body 1 0 ≤ length body
-  pub few : getD body 0 0 ≡ t → getD body 1 0 ≤ 32
-
-abbrev pub innerStart : ℕ → ℕ
-innerStart e = pick (eqb e 0) 0 2
-
 -- the first of n places is filled by the part that ends at e
 abbrev pub oneTable : ℕ → ℕ → Table
 oneTable n e = record { words = set (replicate 32 0) 0 1; starts = replicate 32 0; ends = replicate 32 e; n = n }
-
-pub record Resting (t : ℕ) (names : List ℕ) (p : ℕ) (part pm body : List ℕ) : Type 0 where
-  pub within : p < length names
-  pub few : length names ≤ 32
-  pub marked : length part ≤ length pm
-  pub inner : Inner t body
 
 -- the expression e put for the target i of the declarations ns in the body g
 abbrev pub placedForm : ℕ → List ℕ → ℕ → Form → Form → Form
@@ -71,11 +56,7 @@ pub record Placing (t : ℕ) (ns : List ℕ) (i : ℕ) (part rest : List ℕ) : 
   pub is-rest : decode 63 pred rest ≡ got form []
   pub long : length rest ≤ 16384
 
--- marks that hold 0, and those of an expression
-pub record Cleared (row marks : List ℕ) : Type 0 where
-  pub zeros : marks ≡ replicate (length marks) 0
-  pub enough : length row ≤ length marks
-
+-- the marks of an expression
 pub record Marking (part pm : List ℕ) : Type 0 where
   pub enough : length part ≤ length pm
   pub are : (e : Form) → decode 63 expr part ≡ got e [] → pm ≡ mark e 0 0 (replicate (length pm) 0)

@@ -9,10 +9,11 @@ use Rattle.tree.specs.Form.{Form, Forms, none, pick, count, encode, encodeAll}
 use Rattle.tree.specs.Tag.{pred}
 use Rattle.form.specs.Decode.{got, Gots, gots, no-forms, decode, decodeAll}
 use Rattle.rules.specs.Scan.{Scan, scanned, Scans, scans, present, scan, scanAll}
-use Rattle.one_point.specs.Internal.Writes.{Wrote, leftWords, isGone, Neat, Neats}
+use Rattle.places.specs.Internal.Wrote.{Wrote}
+use Rattle.one_point.specs.Internal.Writes.{leftWords, isGone, Neat, Neats}
 use Rattle.rules.specs.Replacement.{Taken, taken, nothing}
 use Rattle.one_point.specs.Internal.Parts.{TookIs}
-use Rattle.one_point.specs.declared.sides.Replacement.{Replacement}
+use Rattle.places.specs.declared.sides.Replacement.{Replacement}
 use Rattle.one_point.specs.declared.scan.Scanned.{Scanned}
 use Rattle.one_point.specs.declared.children.Stopped.{Stopped}
 

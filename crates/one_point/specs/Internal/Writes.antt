@@ -2,14 +2,9 @@
 use mathlib.Core.Path.{_≡_}
 use mathlib.Core.Bool.{Bool, true, false}
 use mathlib.Core.Option.{Option, none as absent, some}
-use mathlib.Core.List.{List, [], _++_}
-use Prim.Native.Nat.{ℕ, _+_}
-use lib.ListN.{length, take}
+use mathlib.Core.List.{List, []}
+use Prim.Native.Nat.{ℕ}
 use Rattle.tree.specs.Form.{Form, node, Forms, none, more, encode}
-
--- the words ws follow what stood before pos, and end at `end`; past the end the row may hold anything
-unfoldable pub Wrote : ℕ → List ℕ → List ℕ → ℕ → List ℕ → Type 0
-Wrote pos out ws end out′ = (end ≡ pos + length ws) × (take end out′ ≡ take pos out ++ ws)
 
 -- the words of what is left of a node
 abbrev pub leftWords : Option Form → List ℕ

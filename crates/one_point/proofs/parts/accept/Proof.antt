@@ -3,7 +3,7 @@ use mathlib.Core.Path.{sym, _∙_}
 use native.Mathlib.Omega.{arith}
 use borrow.Author.Tests.{lt-ltb, le-ltb, not-true, not-false}
 use Rattle.one_point.specs.Internal.Parts.{acceptWords}
-use Rattle.one_point.proofs.AcceptLaws.{rule-within}
+use Rattle.one_point.proofs.AcceptLaws.{rule-within, above-in}
 use borrow.Author.Needs.{needs}
 use Rattle.one_point.proofs.parts.accept.Statement.{statement}
 use Rattle.one_point.proofs.parts.accept.Tie as tie
@@ -45,16 +45,15 @@ unfolding acceptWords
 part-is-above-end c = let h = rule-within _ _ (c .before .before .before .before .before .before .pre .2) _ _ _ (sym (c .before .before .before .before .match-replacement .ensures) ∙ c .before .before .target .given .1) in omega arith
 
 is-above-requires : tie.Need-is-above-requires
-unfolding acceptWords
-is-above-requires c κs = let h = rule-within _ _ (c .before .before .before .before .before .before .before .pre .2) _ _ _ (sym (c .before .before .before .before .before .match-replacement .ensures) ∙ c .before .before .before .target .given .1) in omega arith
+is-above-requires c κs = search needs
 
 returns-3 : tie.Need-returns-3
 unfolding acceptWords
-returns-3 c = rw (sym (c .before .before .before .before .before .before .before .match-replacement .ensures) ∙ c .before .before .before .before .before .target .given .1, lt-ltb _ _ (c .before .before .before .if1 .left), sym (c .before .is-above .ensures) ∙ not-true _ (c .if2 .taken))
+returns-3 c = rw (sym (c .before .before .before .before .before .before .before .match-replacement .ensures) ∙ c .before .before .before .before .before .target .given .1, lt-ltb _ _ (c .before .before .before .if1 .left), sym (above-in _ _ _ _ (c .before .before .before .if1 .left) (c .before .before .before .before .before .before .before .before .before .pre .0) (c .before .is-above .ensures)) ∙ not-true _ (c .if2 .taken))
 
 returns-4 : tie.Need-returns-4
 unfolding acceptWords
-returns-4 c = rw (sym (c .before .before .before .before .before .before .before .match-replacement .ensures) ∙ c .before .before .before .before .before .target .given .1, lt-ltb _ _ (c .before .before .before .if1 .left), sym (c .before .is-above .ensures) ∙ not-false _ (c .if2 .left))
+returns-4 c = rw (sym (c .before .before .before .before .before .before .before .match-replacement .ensures) ∙ c .before .before .before .before .before .target .given .1, lt-ltb _ _ (c .before .before .before .if1 .left), sym (above-in _ _ _ _ (c .before .before .before .if1 .left) (c .before .before .before .before .before .before .before .before .before .pre .0) (c .before .is-above .ensures)) ∙ not-false _ (c .if2 .left))
 
 pub accept-spec : {M : Type 1} → statement M
 accept-spec =

@@ -5,9 +5,11 @@ use mathlib.Core.List.{List}
 use Prim.Native.Nat.{ℕ, _-_}
 use lib.ListN.{length}
 use native.Mathlib.Omega.{arith}
-use Rattle.one_point.specs.Internal.Parts.{Beside, partsAt, PartsCopied}
-use Rattle.one_point.proofs.PartsLaws.{open-both, part-of, beside-in}
-use Rattle.one_point.proofs.PartsStepLaws.{parts-none, copied-none, left-is, middle-is, right-is, end-is, part-in, next-is, wrote-length, copy-on}
+use Rattle.places.specs.Internal.Positions.{Beside, partsAt}
+use Rattle.one_point.specs.Internal.Parts.{PartsCopied}
+use Rattle.places.proofs.PartsLaws.{open-both, part-of, beside-in}
+use Rattle.places.proofs.StepLaws.{parts-none, left-is, middle-is, right-is, end-is, part-in, next-is}
+use Rattle.one_point.proofs.PartsStepLaws.{copied-none, wrote-length, copy-on}
 use Rattle.one_point.proofs.parts.copy_parts.Statement.{statement}
 use Rattle.one_point.proofs.parts.copy_parts.Tie as tie
 

@@ -6,11 +6,13 @@ use Prim.Native.Nat.{ℕ, _-_}
 use lib.ListN.{length}
 use native.Mathlib.Omega.{arith}
 use Rattle.rules.specs.Scan.{offerParts}
-use Rattle.one_point.specs.Internal.Parts.{Beside, partsAt, PartsTold}
-use Rattle.one_point.specs.declared.sides.Replacement.{Replacement}
-use Rattle.one_point.specs.declared.sides.Replacement.the-variants.{Not}
-use Rattle.one_point.proofs.PartsLaws.{open-both, part-of, beside-in}
-use Rattle.one_point.proofs.PartsStepLaws.{parts-none, left-is, middle-is, right-is, end-is, part-in, next-is, wrote-length, search-none, search-pass, search-take}
+use Rattle.places.specs.Internal.Positions.{Beside, partsAt}
+use Rattle.one_point.specs.Internal.Parts.{PartsTold}
+use Rattle.places.specs.declared.sides.Replacement.{Replacement}
+use Rattle.places.specs.declared.sides.Replacement.the-variants.{Not}
+use Rattle.places.proofs.PartsLaws.{open-both, part-of, beside-in}
+use Rattle.places.proofs.StepLaws.{parts-none, left-is, middle-is, right-is, end-is, part-in, next-is}
+use Rattle.one_point.proofs.PartsStepLaws.{wrote-length, search-none, search-pass, search-take}
 use Rattle.one_point.proofs.parts.search_parts.Statement.{statement}
 use Rattle.one_point.proofs.parts.search_parts.Tie as tie
 

@@ -2,7 +2,7 @@
 use mathlib.Core.Path.{_∙_}
 use native.Mathlib.Omega.{arith}
 use lib.ListN.{length-set}
-use Rattle.one_point.proofs.WriteLaws.{wrote-equal}
+use Rattle.places.proofs.WroteLaws.{wrote-equal}
 use borrow.Author.Needs.{needs}
 use Rattle.one_point.proofs.parts.write_equal.Statement.{statement}
 use Rattle.one_point.proofs.parts.write_equal.Tie as tie

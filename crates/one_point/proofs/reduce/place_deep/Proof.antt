@@ -4,10 +4,9 @@ use mathlib.Core.List.{[]}
 use native.Mathlib.Omega.{arith}
 use borrow.Author.Needs.{needs}
 use Rattle.form.proofs.DecodeLaws.{clash}
-use Rattle.one_point.proofs.SidesLaws.{told-plain}
+use Rattle.places.proofs.SidesLaws.{told-plain, told-marks, told-not-bad}
 use Rattle.shift.proofs.CheckedLaws.{passed}
-use Rattle.one_point.proofs.PlaceLaws.{told-marks, told-not-bad, fresh-cleared, resting, placed-row}
-use borrow.Author.Needs.{needs}
+use Rattle.one_point.proofs.PlaceLaws.{fresh-cleared, resting, placed-row}
 use Rattle.one_point.proofs.reduce.place_deep.Statement.{statement}
 use Rattle.one_point.proofs.reduce.place_deep.Tie as tie
 use Rattle.one_point.proofs.reduce.place_deep.Reads as reads
@@ -43,7 +42,7 @@ slice-aggregate-put-rest : tie.Need-slice-aggregate-put-rest
 slice-aggregate-put-rest c = search needs
 
 put-rest-requires : tie.Need-put-rest-requires
-put-rest-requires c κs = let b13 = c .before .before .before .before .before .before .before .before .before .before .before .before .before in resting (b13 .args .tag) (b13 .args .names .now) (b13 .args .target) (b13 .args .part .now) (b13 .args .rest .now) (b13 .pre .0) _ _ refl (b13 .pre .1 .enough)
+put-rest-requires c κs = let b13 = c .before .before .before .before .before .before .before .before .before .before .before .before .before in resting (b13 .args .tag) (b13 .args .names .now) (b13 .args .target) (b13 .args .part .now) (b13 .args .rest .now) (b13 .pre .0) _ refl
 
 same-length : tie.Need-same-length
 same-length c = search needs

@@ -45,7 +45,7 @@ sub-p-2 : tie.Need-sub-p-2
 sub-p-2 c = search needs
 
 put-rest-requires : tie.Need-put-rest-requires
-put-rest-requires c κs = let b17 = c .before .before .before .before .before .before .before .before .before .before .before .before .before .before .before .before .before in resting (b17 .args .tag) (b17 .args .names .now) (b17 .args .target) (b17 .args .part .now) (b17 .args .rest .now) (b17 .pre .0) _ _ refl (b17 .pre .1 .enough)
+put-rest-requires c κs = let b17 = c .before .before .before .before .before .before .before .before .before .before .before .before .before .before .before .before .before in resting (b17 .args .tag) (b17 .args .names .now) (b17 .args .target) (b17 .args .part .now) (b17 .args .rest .now) (b17 .pre .0) _ refl
 
 same-length-3 : tie.Need-same-length-3
 same-length-3 c = search needs

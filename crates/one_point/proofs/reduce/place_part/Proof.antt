@@ -2,8 +2,8 @@
 use mathlib.Core.List.{[]}
 use native.Mathlib.Omega.{arith}
 use borrow.Author.Needs.{needs}
-use Rattle.one_point.proofs.SidesLaws.{told-plain}
-use Rattle.one_point.proofs.PlaceLaws.{told-marks, told-not-bad, marking-of}
+use Rattle.places.proofs.SidesLaws.{told-plain, told-marks, told-not-bad}
+use Rattle.one_point.proofs.PlaceLaws.{marking-of}
 use Rattle.one_point.proofs.reduce.place_part.Statement.{statement}
 use Rattle.one_point.proofs.reduce.place_part.Tie as tie
 

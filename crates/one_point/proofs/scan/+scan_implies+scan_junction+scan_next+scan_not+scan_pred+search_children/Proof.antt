@@ -9,9 +9,9 @@ use lib.ListN.{length, getD, set, length-set}
 use Rattle.tree.specs.Form.{encode, encodeAll}
 use Rattle.rules.specs.Scan.{scanAll}
 use Rattle.one_point.specs.Internal.Scans.{kidsAt, Kids, KidsTold}
-use Rattle.one_point.specs.declared.sides.Replacement.{Replacement}
-use Rattle.one_point.specs.declared.sides.Replacement.the-variants.{Not}
-use Rattle.one_point.proofs.PartsLaws.{some-words}
+use Rattle.places.specs.declared.sides.Replacement.{Replacement}
+use Rattle.places.specs.declared.sides.Replacement.the-variants.{Not}
+use Rattle.places.proofs.PartsLaws.{some-words}
 use Rattle.one_point.proofs.ScanLaws.{fits}
 use Rattle.one_point.proofs.RebuildLaws.{not-at, implies-at}
 use Rattle.one_point.proofs.BecameLaws.{child-room, not-gone, not-became}

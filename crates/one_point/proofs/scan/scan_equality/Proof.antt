@@ -6,9 +6,8 @@ use Prim.Native.Nat.{_+_, _≤_}
 use lib.ListN.{length}
 use Rattle.tree.specs.Form.{encode}
 use Rattle.one_point.proofs.ScanLaws.{equal-at}
-use Rattle.one_point.proofs.PartsStepLaws.{equal-length}
+use Rattle.places.proofs.StepLaws.{equal-length}
 use Rattle.one_point.proofs.EqualityLaws.{parts-written, parts-inside, equality-done}
-use borrow.Author.Needs.{needs}
 use Rattle.one_point.proofs.scan.scan_equality.Statement.{statement}
 use Rattle.one_point.proofs.scan.scan_equality.Tie as tie
 

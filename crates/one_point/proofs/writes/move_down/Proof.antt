@@ -2,8 +2,7 @@
 use mathlib.Core.Path.{_≡_, refl}
 use mathlib.Core.List.{_++_}
 use Prim.Native.Nat.{_+_, _-_, _≤_}
-use lib.ListN.{length, take, drop}
-use lib.ListN.{length-drop, length-set}
+use lib.ListN.{length, take, drop, length-drop, length-set}
 use native.Mathlib.Omega.{arith}
 use Rattle.one_point.proofs.WriteLaws.{copy-none, copy-more, copy-all, move-word, move-rest}
 use Rattle.one_point.proofs.writes.move_down.Statement.{statement}

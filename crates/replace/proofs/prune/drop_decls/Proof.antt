@@ -14,6 +14,7 @@ use Rattle.replace.proofs.fill.write_head.Reads as write-head-reads
 use Rattle.replace.proofs.pieces.filled_from.Reads as filled-from-reads
 use Rattle.replace.proofs.prune.count_falls.Reads as count-falls-reads
 use Rattle.replace.proofs.prune.write_fallen.Reads as write-fallen-reads
+use native.Mathlib.Nat.{zero-add}
 
 filled-from-requires : tie.Need-filled-from-requires
 filled-from-requires c κs = search needs
@@ -52,7 +53,7 @@ slice-aggregate-copy : tie.Need-slice-aggregate-copy
 slice-aggregate-copy c = sym (length-take-le _ _ (built-fits (c .before .before .before .before .before .before .write-head .kept .1 .1 .0) refl (c .before .before .before .before .before .before .write-head .ensures .0)))
 
 copy-requires : tie.Need-copy-requires
-copy-requires c κs = head-fits _ _ (length-take-le _ _ (built-fits (c .before .before .before .before .before .before .before .write-head .kept .1 .1 .0) refl (c .before .before .before .before .before .before .before .write-head .ensures .0))) (c .before .before .before .before .before .if2 .left)
+copy-requires c κs = rw zero-add (head-fits _ _ (length-take-le _ _ (built-fits (c .before .before .before .before .before .before .before .write-head .kept .1 .1 .0) refl (c .before .before .before .before .before .before .before .write-head .ensures .0))) (c .before .before .before .before .before .if2 .left))
 
 slice-aggregate-write-fallen : tie.Need-slice-aggregate-write-fallen
 slice-aggregate-write-fallen c = search needs

@@ -1,0 +1,4 @@
+-- What the contracts of private functions cite. Nothing here is needed to read a public contract.
+pub mod Positions
+pub mod Wrote
+pub mod Sides
