@@ -8,8 +8,8 @@ use lib.ListN.{length}
 use Rattle.tree.specs.Form.{Leaf, free, bound, Form, leaf, Forms, between}
 use Rattle.tree.specs.Tag.{Sort, expr}
 use Rattle.form.proofs.DecodeLaws.{Ok, ok-free, ok-bound, ok-node, OkAll, ok-none, ok-more}
-use Rattle.rules.specs.Walk.{Binding, inside, outside, binding, Outer, named, dangling, walkIndex, walk, walkAll, collectIndex, collect, each, eachAll}
-use Rattle.rules.proofs.WalkLaws.{and-left, and-right}
+use Rattle.rules.specs.Walk.{Binding, inside, outside, binding, Outer, named, dangling, walkIndex, walk, walkAll, collectIndex, collect, each}
+use Rattle.rules.proofs.WalkLaws.{eachAll, and-left, and-right}
 use Rattle.rules.proofs.LimitLaws.{fineLeaf}
 
 -- a form within one depth is within a greater one
