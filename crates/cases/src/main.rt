@@ -7,7 +7,7 @@
 // and -2147483648. The output row holds 88 everywhere before the call and the work row 77. What is printed: the name, document 01's number,
 // the length, and every word of the output row. For lift it is the part that it answers; for a set of places its number, the numbers of the
 // offers, the number of declarations, and place, start and end of each filled place.
-mod places;
+mod place_sets;
 mod print;
 mod text;
 
@@ -108,8 +108,8 @@ fn run_words(words: &[u32]) {
     let row = words_part(words, 6 + n, words.len());
     match call {
         8 => lift_fresh(row, w, param),
-        9 => places::run(row, Replacements::new(param as usize)),
-        10 => places::run(row, places::forced(param as usize)),
+        9 => place_sets::run(row, Replacements::new(param as usize)),
+        10 => place_sets::run(row, place_sets::forced(param as usize)),
         _ => run_fresh(
             call,
             offset(param, word_at(words, 4)),

@@ -1,9 +1,9 @@
--- `cases::places::show` meets its contract. Assumes nothing.
+-- `cases::place_sets::show` meets its contract. Assumes nothing.
 use native.Mathlib.Omega.{arith}
 use borrow.Author.Needs.{needs}
 use Prim.Native.Nat.{_-_, _≤_}
-use Rattle.cases.proofs.places.show.Statement.{statement}
-use Rattle.cases.proofs.places.show.Tie as tie
+use Rattle.cases.proofs.place_sets.show.Statement.{statement}
+use Rattle.cases.proofs.place_sets.show.Tie as tie
 
 abbrev Inv-loop : tie.InvT-loop
 Inv-loop starts ends i₀ i = i ≤ 32

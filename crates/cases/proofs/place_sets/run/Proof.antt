@@ -1,10 +1,10 @@
--- `cases::places::run` meets its contract. Assumes nothing.
+-- `cases::place_sets::run` meets its contract. Assumes nothing.
 use native.Mathlib.Omega.{arith}
 use borrow.Author.Tests.{ltb-true}
 use borrow.Author.Needs.{needs}
 use Prim.Native.Nat.{_≤_}
-use Rattle.cases.proofs.places.run.Statement.{statement}
-use Rattle.cases.proofs.places.run.Tie as tie
+use Rattle.cases.proofs.place_sets.run.Statement.{statement}
+use Rattle.cases.proofs.place_sets.run.Tie as tie
 
 abbrev Inv-loop : tie.InvT-loop
 Inv-loop rows places₀ at₀ left₀ places at left = 0 ≤ left
