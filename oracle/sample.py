@@ -1,5 +1,5 @@
 #!/usr/bin/env python3
-"""Makes the list of commands and answers that the program replay runs.
+"""Makes the list of commands and answers that the cell program is run on first.
 
   sample.py [--oracle target/oracle] [--commands shift,free,..] [--each N] > LIST
 

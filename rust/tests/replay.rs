@@ -1,38 +1,55 @@
-//! Runs lists of command lines through the static library and compares the answers. A list has pairs of lines: a
-//! command, and its answer. The lists are tests/cases.txt and, where it is there, ../crates/replay/stdin; or the
-//! one that LIST names.
+//! Runs lists of command lines through the static library and compares the answers: the pairs of lines of
+//! tests/cases.txt (a command, and its answer), and the stored list, which the cell program is run on first:
+//! the first lines of ../crates/cell/stdin, whose answers are those of ../crates/cell/stdout. Or the pairs of
+//! the file that LIST names.
 
-use std::path::PathBuf;
+use std::path::{Path, PathBuf};
 
 use sogbayile::text::Runner;
 
-fn lists() -> Vec<PathBuf> {
-    let here = PathBuf::from(env!("CARGO_MANIFEST_DIR"));
-    match std::env::var("LIST") {
-        Ok(path) => vec![path.into()],
-        Err(_) => [here.join("tests/cases.txt"), here.join("../crates/replay/stdin")]
-            .into_iter()
-            .filter(|p| p.exists())
-            .collect(),
-    }
+/// How many lines of the cell program's input are the stored list (oracle/sample.py).
+const STORED: usize = 3467;
+
+type Pairs = Vec<(String, String)>;
+
+fn read(path: &Path) -> Vec<String> {
+    std::fs::read_to_string(path).unwrap().lines().map(String::from).collect()
 }
 
-fn replay(path: PathBuf) {
-    let text = std::fs::read_to_string(&path).unwrap();
-    let lines: Vec<&str> = text.lines().collect();
+fn pairs(path: &Path) -> Pairs {
+    let lines = read(path);
     assert!(lines.len() % 2 == 0, "{}: a command without its answer", path.display());
+    lines.chunks(2).map(|pair| (pair[0].clone(), pair[1].clone())).collect()
+}
+
+fn stored(cell: &Path) -> Pairs {
+    let answers = read(&cell.join("stdout"));
+    read(&cell.join("stdin")).into_iter().zip(answers).take(STORED).collect()
+}
+
+fn lists() -> Vec<(String, Pairs)> {
+    let here = PathBuf::from(env!("CARGO_MANIFEST_DIR"));
+    if let Ok(path) = std::env::var("LIST") {
+        return vec![(path.clone(), pairs(Path::new(&path)))];
+    }
+    let cases = here.join("tests/cases.txt");
+    let cell = here.join("../crates/cell");
+    vec![(cases.display().to_string(), pairs(&cases)), (cell.display().to_string(), stored(&cell))]
+}
+
+fn replay((name, pairs): (String, Pairs)) {
     let mut runner = Runner::default();
     let (mut equal, mut different) = (0, 0);
-    for (i, pair) in lines.chunks(2).enumerate() {
-        let got = runner.answer(pair[0]);
-        if got == pair[1] {
+    for (i, (command, answer)) in pairs.iter().enumerate() {
+        let got = runner.answer(command);
+        if got == *answer {
             equal += 1;
         } else {
             different += 1;
-            println!("{}:{}: {}\n  is   {}\n  asks {}", path.display(), 2 * i + 1, pair[0], got, pair[1]);
+            println!("{name}, line {}: {command}\n  is   {got}\n  asks {answer}", i + 1);
         }
     }
-    println!("{}: {equal} equal, {different} different", path.display());
+    println!("{name}: {equal} equal, {different} different");
     assert!(different == 0 && equal > 0);
 }
 

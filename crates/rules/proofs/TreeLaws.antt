@@ -2,17 +2,18 @@
 -- Assumes nothing.
 use mathlib.Core.Path.{_≡_, refl, ap, sym, _∙_}
 use mathlib.Core.Bool.{Bool, true, false}
-use mathlib.Core.List.{List}
+use mathlib.Core.List.{List, _∷_}
 use mathlib.Core.Option.{none as absent, some}
 use Prim.Native.Nat.{ℕ, suc, _+_, _-_, _≤_}
 use native.Mathlib.Omega.{arith}
-use borrow.Author.Tests.{le-leb, leb-true, leb-false}
+use borrow.Author.Tests.{le-leb, leb-true, leb-false, eq-eqb}
 use lib.Dec.{leb}
 use lib.IntN.{ℤ, pos, negsuc}
 use lib.ListN.{length}
 use Rattle.tree.specs.Form.{free, bound, Form, leaf, node, Forms, none, more, pick}
 use Rattle.tree.specs.Tag.{Sort}
 use Rattle.form.specs.Decode.{found, formOf}
+use Rattle.form.specs.Lists.{Place, Entry, entry}
 use Rattle.form.specs.Answer.{answer, finish}
 use Rattle.form.specs.declared.answer.Kind.the-variants.{Either}
 use Rattle.form.proofs.DecodeLaws.{clash}
@@ -20,6 +21,7 @@ use Rattle.form.proofs.RowLaws.{row-encode, found-row}
 use Rattle.rules.specs.Walk.{Binding, inside, outside, binding, Outer, named, dangling, walkIndex, walk, walkAll, up, lift, put, collectIndex, collect, each}
 use Rattle.rules.specs.Dangling.{isNamed, closed}
 use Rattle.rules.specs.Shift.{reaches, fall, lower, shift, shiftOutcome}
+use Rattle.rules.specs.Free.{orName, seek}
 use Rattle.rules.proofs.WalkLaws.{eachAll, binding-add, binding-back, fuse-level, shift-shift, self, each-agree, each-all, walk-agree}
 
 -- the walk that puts each identifier for itself
@@ -146,3 +148,7 @@ shift-down-down a b f g h p q =
     let (x, y) = shifted-is (each (reaches (suc b)) 0 g) (lower (suc b) g) h q in
     let n : suc (suc (a + b)) ≡ suc a + suc b = omega arith in
     rw n (shift-sum (suc a) (suc b) f g c d x ∙ ap some y)
+
+-- the list of a free substitution is searched from its front
+pub seek-front : (n : ℕ) (p : Place) (es : List Entry) → seek (entry n p ∷ es) n ≡ orName n p
+seek-front n p es = rw (eq-eqb n n refl)
