@@ -64,11 +64,17 @@ fn fill_kept(
     ensures { λ r. ⌜ r ≡ told (partialRow false 852 (take j (now (kept .entry))) (drop j (now (kept .entry))) table 0 (now (row .entry)) (now («row_marks» .entry)) (now (body .entry)) (now (marks .entry)) (length (now (out .entry)))) ⌝ }
     ensures { λ _. ⌜ now (out .exit) ≡ written (partialRow false 852 (take j (now (kept .entry))) (drop j (now (kept .entry))) table 0 (now (row .entry)) (now («row_marks» .entry)) (now (body .entry)) (now (marks .entry)) (length (now (out .entry)))) (now (out .entry)) ⌝ }
 {
+    let words = table.words;
+    let starts = table.starts;
+    let ends = table.ends;
     instantiate_partial(
         Tag::EXISTS,
         &kept[..j],
         &kept[j..],
-        table,
+        table.n,
+        &words,
+        &starts,
+        &ends,
         0,
         false,
         row,

@@ -79,9 +79,9 @@ module _ (n : ℕ) (few : n ≤ 32) (part pm : List ℕ) (marked : length part �
   one-ready = record { tabled = record { few = few; words = refl; starts = refl; ends = refl }; in-row = one-inside; marked = marked }
 
 -- the declarations behind one, as a part of the names
-pub rest-same : (sure : Bool) (t : ℕ) (ns : List ℕ) (p : ℕ) (tb tb′ : Table) → tb ≡ tb′ → (d : ℕ) (part pm row marks : List ℕ) (room : ℕ)
-    → partialRow sure t (take p ns) (take (length ns - (p + 1)) (drop (p + 1) ns)) tb d part pm row marks room ≡ partialRow sure t (take p ns) (drop (p + 1) ns) tb′ d part pm row marks room
-rest-same sure t ns p tb tb′ e d part pm row marks room = rw (e, rest-part ns (p + 1))
+pub rest-same : (sure : Bool) (t : ℕ) (ns : List ℕ) (p : ℕ) (tb : Table) (d : ℕ) (part pm row marks : List ℕ) (room : ℕ)
+    → partialRow sure t (take p ns) (take (length ns - (p + 1)) (drop (p + 1) ns)) tb d part pm row marks room ≡ partialRow sure t (take p ns) (drop (p + 1) ns) tb d part pm row marks room
+rest-same sure t ns p tb d part pm row marks room = rw (rest-part ns (p + 1))
 
 -- the marks of a replacement
 pub marking-of : (part pm pm′ : List ℕ) (f : Form) → Cleared part pm → decode 63 expr part ≡ got f [] → pm′ ≡ mark f 0 0 pm → length pm′ ≡ length pm → Marking part pm′

@@ -1,6 +1,5 @@
 // A rest of declarations of which the first is replaced, filled in a body, and the declarations before it put round it.
 use form::answer::Answer;
-use reader::lists::Table;
 use replace::instantiate_partial::instantiate_partial;
 ghost use mathlib.Core.Path.{_≡_};
 ghost use Prim.Native.Nat.{_+_, _-_, _<_, _≤_};
@@ -8,22 +7,6 @@ ghost use lib.ListN.{length, take, drop};
 ghost use Rattle.form.specs.Answer.{told, written};
 ghost use Rattle.replace.specs.Internal.Partial.{partialRow};
 ghost use Rattle.one_point.specs.Internal.Reduce.{oneTable};
-
-// The first of so many places is filled by the expression that ends there.
-fn one_table(n: usize, end: usize) -> Table
-    ensures { λ r. ⌜ r ≡ oneTable n end ⌝ }
-{
-    let mut words = [0u32; 32];
-    words[0] = 1;
-    let starts = [0usize; 32];
-    let ends = [end; 32];
-    Table {
-        words: words,
-        starts: starts,
-        ends: ends,
-        n: n,
-    }
-}
 
 // The declarations from place p on: the first replaced by the expression, the others kept. The result is checked as a form where it is
 // not sure to be one.
@@ -43,11 +26,18 @@ pub(crate) fn put_rest(
     ensures { λ _. ⌜ now (out .exit) ≡ written (partialRow sure tag (take p (now (names .entry))) (drop (p + 1) (now (names .entry))) (oneTable (length (now (names .entry)) - p) (length (now (part .entry)))) (length (now (names .entry)) - p) (now (part .entry)) (now («part_marks» .entry)) (now (body .entry)) (now (marks .entry)) (length (now (out .entry)))) (now (out .entry)) ⌝ }
 {
     let n = names.len() - p;
+    let mut words = [0u32; 32];
+    words[0] = 1;
+    let starts = [0usize; 32];
+    let ends = [part.len(); 32];
     instantiate_partial(
         tag,
         &names[..p],
         &names[p + 1..],
-        one_table(n, part.len()),
+        n,
+        &words,
+        &starts,
+        &ends,
         n as u32,
         sure,
         part,

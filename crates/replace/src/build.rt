@@ -1,5 +1,4 @@
 // The words that a plan makes of a form: counted where they may be too many, built, checked as a form where they may be none, and answered.
-use crate::pieces::Plan;
 use crate::pieces::Rule;
 use crate::pieces::longest_part;
 use crate::pieces::words_between;
@@ -356,7 +355,10 @@ pub(crate) fn replace(
     sure: bool,
     kind: Kind,
     head: &[u32],
-    plan: Plan,
+    rule: Rule,
+    words: &[u32],
+    starts: &[usize],
+    ends: &[usize],
     list: &[u32],
     list_marks: &[u32],
     row: &[u32],
@@ -364,27 +366,17 @@ pub(crate) fn replace(
     from: usize,
     out: &mut [u32],
 ) -> Answer
-    requires { ⌜ Ready plan (now list) (now «list_marks») ⌝ }
-    ensures { λ r. ⌜ r ≡ told (replaced sure kind (now (head .entry)) plan (now (list .entry)) (now («list_marks» .entry)) (drop from (now (row .entry))) (drop from (now (marks .entry))) (length (now (out .entry)))) ⌝ }
-    ensures { λ _. ⌜ now (out .exit) ≡ written (replaced sure kind (now (head .entry)) plan (now (list .entry)) (now («list_marks» .entry)) (drop from (now (row .entry))) (drop from (now (marks .entry))) (length (now (out .entry)))) (now (out .entry)) ⌝ }
+    requires { ⌜ Ready (planFor rule (now words) (now starts) (now ends)) (now list) (now «list_marks») ⌝ }
+    ensures { λ r. ⌜ r ≡ told (replaced sure kind (now (head .entry)) (planFor rule (now (words .entry)) (now (starts .entry)) (now (ends .entry))) (now (list .entry)) (now («list_marks» .entry)) (drop from (now (row .entry))) (drop from (now (marks .entry))) (length (now (out .entry)))) ⌝ }
+    ensures { λ _. ⌜ now (out .exit) ≡ written (replaced sure kind (now (head .entry)) (planFor rule (now (words .entry)) (now (starts .entry)) (now (ends .entry))) (now (list .entry)) (now («list_marks» .entry)) (drop from (now (row .entry))) (drop from (now (marks .entry))) (length (now (out .entry)))) (now (out .entry)) ⌝ }
 {
-    let table = plan.table;
-    let rule = Rule {
-        n: table.n,
-        fills: plan.fills,
-        gone: plan.gone,
-        down: plan.down,
-    };
-    let words = table.words;
-    let starts = table.starts;
-    let ends = table.ends;
     if sure {
         return replace_sure(
             head,
             rule,
-            &words,
-            &starts,
-            &ends,
+            words,
+            starts,
+            ends,
             list,
             list_marks,
             row,
@@ -397,9 +389,9 @@ pub(crate) fn replace(
         kind,
         head,
         rule,
-        &words,
-        &starts,
-        &ends,
+        words,
+        starts,
+        ends,
         list,
         list_marks,
         row,

@@ -4,7 +4,7 @@ use crate::marks::Reading;
 use crate::marks::mark_entries;
 use crate::marks::mark_row;
 use crate::marks::refuse_list;
-use crate::pieces::Plan;
+use crate::pieces::Rule;
 use crate::pieces::filled_from;
 use crate::small::depth_left_by;
 use form::answer::Answer;
@@ -100,8 +100,10 @@ fn fill_with(
 {
     let n = table.n;
     let words = table.words;
-    let plan = Plan {
-        table: table,
+    let starts = table.starts;
+    let ends = table.ends;
+    let rule = Rule {
+        n: n,
         fills: true,
         gone: filled_from(&words[..n], 0),
         down: 0,
@@ -112,7 +114,10 @@ fn fill_with(
         sure,
         Kind::Predicate,
         &head[..h],
-        plan,
+        rule,
+        &words,
+        &starts,
+        &ends,
         list,
         list_marks,
         row,

@@ -4,7 +4,7 @@ use crate::marks::Reading;
 use crate::marks::mark_entries;
 use crate::marks::mark_row;
 use crate::marks::refuse_list;
-use crate::pieces::Plan;
+use crate::pieces::Rule;
 use crate::small::depth_left_by;
 use form::answer::Answer;
 use form::answer::Kind;
@@ -45,17 +45,23 @@ fn substitute_marked(
     ensures { λ r. ⌜ r ≡ told (replaced sure (kindFor (asExpr Either (now (row .entry)))) [] (freePlan table) (now (list .entry)) (drop 8192 (now (work .entry))) (now (row .entry)) (now (work .entry)) (length (now (out .entry)))) ⌝ }
     ensures { λ _. ⌜ now (out .exit) ≡ written (replaced sure (kindFor (asExpr Either (now (row .entry)))) [] (freePlan table) (now (list .entry)) (drop 8192 (now (work .entry))) (now (row .entry)) (now (work .entry)) (length (now (out .entry)))) (now (out .entry)) ⌝ }
 {
-    let plan = Plan {
-        table: table,
+    let rule = Rule {
+        n: table.n,
         fills: false,
         gone: 0,
         down: 0,
     };
+    let words = table.words;
+    let starts = table.starts;
+    let ends = table.ends;
     replace(
         sure,
         kind_of(row),
         &row[..0],
-        plan,
+        rule,
+        &words,
+        &starts,
+        &ends,
         list,
         &work[8192..],
         row,

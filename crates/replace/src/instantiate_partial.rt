@@ -3,7 +3,6 @@
 use crate::build::copy;
 use crate::places::fill_places;
 use form::answer::Answer;
-use reader::lists::Table;
 ghost use mathlib.Core.Path.{_≡_};
 ghost use mathlib.Core.Bool.{_&&_};
 ghost use mathlib.Core.List.{_++_};
@@ -11,7 +10,7 @@ ghost use Prim.Native.Nat.{_+_, _≤_};
 ghost use lib.Dec.{leb};
 ghost use lib.ListN.{length, getD, take};
 ghost use Rattle.form.specs.Answer.{told, written};
-ghost use Rattle.replace.specs.Internal.Pieces.{headWords};
+ghost use Rattle.replace.specs.Internal.Pieces.{tableOf, headWords};
 ghost use Rattle.replace.specs.Internal.Partial.{innerEnd, innerStart, headFits, partialRow};
 
 // The word at `at`; 0 past the end.
@@ -96,13 +95,16 @@ fn is_sure_under(h: usize, sure: bool) -> bool
     sure
 }
 
-// The declarations in front and those that stay round the body, with the places of the table filled by expressions of the list row, which
+// The declarations in front and those that stay round the body, with the places of a table filled, whose rows are lent and whose expressions
 // are moved down. The result is checked as a form where it is not sure to be one; 7 too where there are more than 32 names of a kind.
 pub fn instantiate_partial(
     tag: u32,
     front: &[u32],
     stay: &[u32],
-    table: Table,
+    n: usize,
+    words: &[u32; 32],
+    starts: &[usize; 32],
+    ends: &[usize; 32],
     down: u32,
     sure: bool,
     list: &[u32],
@@ -111,8 +113,8 @@ pub fn instantiate_partial(
     marks: &[u32],
     out: &mut [u32],
 ) -> Answer
-    ensures { λ r. ⌜ r ≡ told (partialRow sure tag (now (front .entry)) (now (stay .entry)) table down (now (list .entry)) (now («list_marks» .entry)) (now (row .entry)) (now (marks .entry)) (length (now (out .entry)))) ⌝ }
-    ensures { λ _. ⌜ now (out .exit) ≡ written (partialRow sure tag (now (front .entry)) (now (stay .entry)) table down (now (list .entry)) (now («list_marks» .entry)) (now (row .entry)) (now (marks .entry)) (length (now (out .entry)))) (now (out .entry)) ⌝ }
+    ensures { λ r. ⌜ r ≡ told (partialRow sure tag (now (front .entry)) (now (stay .entry)) (tableOf n (now (words .entry)) (now (starts .entry)) (now (ends .entry))) down (now (list .entry)) (now («list_marks» .entry)) (now (row .entry)) (now (marks .entry)) (length (now (out .entry)))) ⌝ }
+    ensures { λ _. ⌜ now (out .exit) ≡ written (partialRow sure tag (now (front .entry)) (now (stay .entry)) (tableOf n (now (words .entry)) (now (starts .entry)) (now (ends .entry))) down (now (list .entry)) (now («list_marks» .entry)) (now (row .entry)) (now (marks .entry)) (length (now (out .entry)))) (now (out .entry)) ⌝ }
 {
     let from = inner_end(tag, front, stay, row);
     if !has_room(front.len(), stay.len(), from, row.len()) {
@@ -122,7 +124,10 @@ pub fn instantiate_partial(
     let h = write_head(tag, front, stay, &row[inner_start(from)..from], &mut head);
     fill_places(
         &head[..h],
-        table,
+        n,
+        words,
+        starts,
+        ends,
         down,
         is_sure_under(h, sure),
         list,

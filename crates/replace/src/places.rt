@@ -1,7 +1,7 @@
 // The places of a table filled in a body, under a head that is given.
 use crate::build::copy;
 use crate::build::replace;
-use crate::pieces::Plan;
+use crate::pieces::Rule;
 use crate::pieces::filled_from;
 use crate::pieces::write_part;
 use form::answer::Answer;
@@ -10,11 +10,11 @@ use reader::lists::Table;
 ghost use mathlib.Core.Path.{_≡_};
 ghost use Prim.Native.Nat.{_+_, _≤_};
 ghost use lib.Dec.{leb};
-ghost use lib.ListN.{length, drop};
+ghost use lib.ListN.{length, take, drop};
 ghost use Rattle.tree.specs.Form.{pick};
 ghost use Rattle.form.specs.Answer.{told, written};
 ghost use Rattle.shift.specs.Internal.Items.{items, rewritten, movedWords, store};
-ghost use Rattle.replace.specs.Internal.Pieces.{partsIn, isReady, placedRow};
+ghost use Rattle.replace.specs.Internal.Pieces.{filledWords, partsIn, tableOf, placedRow};
 
 // Whether each of the first n parts lies in a row of so many words.
 fn are_inside(starts: &[usize], ends: &[usize], n: usize, words: usize) -> bool
@@ -35,27 +35,23 @@ fn are_inside(starts: &[usize], ends: &[usize], n: usize, words: usize) -> bool
     true
 }
 
-// Whether the table's parts stand in the list row, and all of it is marked.
-fn is_ready(table: Table, list: &[u32], list_marks: &[u32]) -> bool
-    ensures { λ r. ⌜ r ≡ isReady table (now (list .entry)) (now («list_marks» .entry)) ⌝ }
+// How many of the first n words are not 0.
+fn filled_first(words: &[u32], n: usize) -> u32
+    requires { ⌜ n ≤ 32 ⌝ }
+    requires { ⌜ n ≤ length (now words) ⌝ }
+    ensures { λ r. ⌜ r ≡ filledWords (take n (now (words .entry))) ⌝ }
 {
-    let n = table.n;
-    if Table::LIMIT < n {
-        return false;
-    }
-    if list_marks.len() < list.len() {
-        return false;
-    }
-    let starts = table.starts;
-    let ends = table.ends;
-    are_inside(&starts, &ends, n, list.len())
+    filled_from(&words[..n], 0)
 }
 
-// The head, and the items from `from` on with their outermost declarations filled by the places of the table, whose expressions are
-// moved down: as a predicate, of which only the length is checked where it is sure to be one.
+// The head, and the items from `from` on with their outermost n declarations filled by the places of a table, whose rows are lent and
+// whose expressions are moved down: as a predicate, of which only the length is checked where it is sure to be one.
 pub fn fill_places(
     head: &[u32],
-    table: Table,
+    n: usize,
+    words: &[u32; 32],
+    starts: &[usize; 32],
+    ends: &[usize; 32],
     down: u32,
     sure: bool,
     list: &[u32],
@@ -65,25 +61,33 @@ pub fn fill_places(
     from: usize,
     out: &mut [u32],
 ) -> Answer
-    ensures { λ r. ⌜ r ≡ told (placedRow sure (now (head .entry)) table down (now (list .entry)) (now («list_marks» .entry)) (drop from (now (row .entry))) (drop from (now (marks .entry))) (length (now (out .entry)))) ⌝ }
-    ensures { λ _. ⌜ now (out .exit) ≡ written (placedRow sure (now (head .entry)) table down (now (list .entry)) (now («list_marks» .entry)) (drop from (now (row .entry))) (drop from (now (marks .entry))) (length (now (out .entry)))) (now (out .entry)) ⌝ }
+    ensures { λ r. ⌜ r ≡ told (placedRow sure (now (head .entry)) (tableOf n (now (words .entry)) (now (starts .entry)) (now (ends .entry))) down (now (list .entry)) (now («list_marks» .entry)) (drop from (now (row .entry))) (drop from (now (marks .entry))) (length (now (out .entry)))) ⌝ }
+    ensures { λ _. ⌜ now (out .exit) ≡ written (placedRow sure (now (head .entry)) (tableOf n (now (words .entry)) (now (starts .entry)) (now (ends .entry))) down (now (list .entry)) (now («list_marks» .entry)) (drop from (now (row .entry))) (drop from (now (marks .entry))) (length (now (out .entry)))) (now (out .entry)) ⌝ }
 {
-    if !is_ready(table, list, list_marks) {
+    if Table::LIMIT < n {
         return Answer::No(7);
     }
-    let n = table.n;
-    let words = table.words;
-    let plan = Plan {
-        table: table,
+    if list_marks.len() < list.len() {
+        return Answer::No(7);
+    }
+    if !are_inside(starts, ends, n, list.len()) {
+        return Answer::No(7);
+    }
+    let rule = Rule {
+        n: n,
         fills: true,
-        gone: filled_from(&words[..n], 0),
+        gone: filled_first(words, n),
         down: down,
     };
+    let kind = Kind::Predicate;
     replace(
         sure,
-        Kind::Predicate,
+        kind,
         head,
-        plan,
+        rule,
+        words,
+        starts,
+        ends,
         list,
         list_marks,
         row,

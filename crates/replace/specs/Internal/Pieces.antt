@@ -264,6 +264,10 @@ droppedRow ws row marks =
 unfoldable pub droppedOutcome : List ℕ → List ℕ → List ℕ → ℕ → Outcome
 droppedOutcome ws row marks room = needs 9 (not (eqb (filledWords ws) 0)) (needs 14 (leb (length (droppedRow ws row marks)) room) (answer (droppedRow ws row marks)))
 
+-- the table of n places whose rows are lent
+abbrev pub tableOf : ℕ → List ℕ → List ℕ → List ℕ → Table
+tableOf n ws ss es = record { words = ws; starts = ss; ends = es; n = n }
+
 -- whether the first n parts lie in a row of so many words; whether a table's parts stand in the list row, and all of it is marked
 unfoldable pub partsIn : List ℕ → List ℕ → ℕ → ℕ → Bool
 partsIn starts ends words zero = true

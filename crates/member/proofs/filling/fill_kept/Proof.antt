@@ -8,7 +8,9 @@ use Rattle.member.proofs.filling.fill_kept.Statement.{statement}
 use Rattle.member.proofs.filling.fill_kept.Tie as tie
 
 slice-aggregate-instantiate-partial : tie.Need-slice-aggregate-instantiate-partial
-slice-aggregate-instantiate-partial c = sym (length-take-le _ _ (c .before .before .before .before .before .before .before .pre))
+slice-aggregate-instantiate-partial c =
+    let b10 = c .before .before .before .before .before .before .before .before .before .before in
+    sym (length-take-le _ _ (b10 .pre))
 
 mul-instantiate-partial : tie.Need-mul-instantiate-partial
 mul-instantiate-partial c = search needs
@@ -29,7 +31,9 @@ same-length : tie.Need-same-length
 same-length c = search needs
 
 returns : tie.Need-returns
-returns c = passed _ _ _ _ _ (kept-same (c .before .before .before .before .before .before .before .before .before .before .before .before .args .kept .now) (c .before .before .before .before .before .before .before .before .before .before .before .before .args .j) _ _ _ _ _ _) (c .before .before .instantiate-partial .ensures)
+returns c =
+    let b18 = c .before .before .before .before .before .before .before .before .before .before .before .before .before .before .before .before .before .before in
+    passed _ _ _ _ _ (kept-same (b18 .args .kept .now) (b18 .args .j) _ _ _ _ _ _) (c .before .before .instantiate-partial .ensures)
 
 pub fill-kept-spec : {M : Type 1} → statement M
 fill-kept-spec =

@@ -13,6 +13,9 @@ use Rattle.one_point.proofs.rest.put_rest.Tie as tie
 sub-n : tie.Need-sub-n
 sub-n c = search needs
 
+array-write-words : tie.Need-array-write-words
+array-write-words c = search needs
+
 slice-aggregate-instantiate-partial : tie.Need-slice-aggregate-instantiate-partial
 slice-aggregate-instantiate-partial c =
     let b7 = c .before .before .before .before .before .before .before in
@@ -33,9 +36,6 @@ part-instantiate-partial-start c = search needs
 part-instantiate-partial-end : tie.Need-part-instantiate-partial-end
 part-instantiate-partial-end c = search needs
 
-one-table-requires : tie.Need-one-table-requires
-one-table-requires c κs = search needs
-
 cast-instantiate-partial : tie.Need-cast-instantiate-partial
 cast-instantiate-partial c = search needs
 
@@ -47,21 +47,21 @@ same-length c = search needs
 
 returns : tie.Need-returns
 returns c =
-    let b4 = c .before .before .before .before in let b13 = b4 .before .before .before .before .before .before .before .before .before in
-    passed _ _ _ _ _ (rest-same _ _ (b13 .args .names .now) (b13 .args .p) _ _ (b4 .one-table .ensures) _ _ _ _ _ _) (c .before .before .instantiate-partial .ensures)
+    let b15 = c .before .before .before .before .before .before .before .before .before .before .before .before .before .before .before in
+    passed _ _ _ _ _ (rest-same _ _ (b15 .args .names .now) (b15 .args .p) _ _ _ _ _ _ _) (c .before .before .instantiate-partial .ensures)
 
 pub put-rest-spec : {M : Type 1} → statement M
 put-rest-spec =
     tie.close
     (tie.spec
     sub-n
+    array-write-words
     slice-aggregate-instantiate-partial
     add-instantiate-partial
     mul-instantiate-partial
     sub-instantiate-partial
     part-instantiate-partial-start
     part-instantiate-partial-end
-    one-table-requires
     cast-instantiate-partial
     instantiate-partial-requires
     same-length
