@@ -4,12 +4,15 @@ use mathlib.Core.List.{List, _∷_, _++_, map, [], reverse, reverse-cons}
 use Prim.Native.Nat.{ℕ, zero, suc, _+_, _-_, _<_}
 use native.Mathlib.Nat.{zero-add, suc-add}
 use native.Mathlib.Omega.{arith}
+use mathlib.Core.Bool.{false}
+use lib.Dec.{eqb}
 use lib.ListN.{drop, set, replicate, length-replicate}
 use lib.Seq.{drop-at}
 use Rattle.tree.specs.Form.{Form}
 use Rattle.form.specs.Lists.{Place, kept, filled}
 use Rattle.rules.specs.Shift.{lower}
-use Rattle.rules.specs.Partial.{noPlaces, setPlace, front, lowerPlace}
+use Rattle.rules.specs.Fill.{quantifier, quantified, quantify}
+use Rattle.rules.specs.Partial.{noPlaces, setPlace, front, lowerPlace, putRound}
 
 pub map-replicate : {A B : Type 0} (f : A → B) (n : ℕ) (a : A) → map f (replicate n a) ≡ replicate n (f a)
 map-replicate f zero a = refl
@@ -46,3 +49,8 @@ kept-snoc (suc j) = ap (λ z. kept ∷ z) (kept-snoc j)
 pub reverse-kept : (j : ℕ) → reverse (replicate j kept) ≡ replicate j kept
 reverse-kept zero = refl
 reverse-kept (suc j) = rw (reverse-cons kept (replicate j kept), reverse-kept j) (kept-snoc j)
+
+-- the body's own quantifier is joined only if its operator is the same
+pub unlike-stays : (t u n : ℕ) (ns ds : List ℕ) (f g : Form) → quantified g ≡ quantifier u ds f → eqb u t ≡ false → putRound t (n ∷ ns) g ≡ quantify t (n ∷ ns) g
+unfolding putRound
+unlike-stays t u n ns ds f g e h = rw (e, h)
