@@ -1,3 +1,3 @@
-// Forms as rows of words: the shape check of document 01, for forms and for the three lists.
+// Forms as rows of words: what every call answers, and what stands between a tag and its children.
 pub mod answer;
 pub mod head;

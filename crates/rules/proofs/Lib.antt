@@ -1,6 +1,6 @@
-pub mod Starred
 pub mod WalkLaws
 pub mod LimitLaws
 pub mod TreeLaws
 pub mod OkLaws
 pub mod FrontLaws
+pub mod Starred

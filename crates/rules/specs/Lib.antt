@@ -1,3 +1,11 @@
+pub mod Walk
+pub mod Dangling
+pub mod Shift
+pub mod Lift
+pub mod Bind
+pub mod Free
+pub mod Fill
+pub mod Prune
 pub mod Replacement
 pub mod Split
 pub mod Scan
@@ -5,11 +13,3 @@ pub mod Partial
 pub mod Point
 pub mod Member
 pub mod Command
-pub mod Free
-pub mod Fill
-pub mod Prune
-pub mod Walk
-pub mod Dangling
-pub mod Shift
-pub mod Lift
-pub mod Bind
