@@ -3,4 +3,5 @@ pub mod ItemLaws
 pub mod CheckedLaws
 pub mod SameLengthLaws
 pub mod SignedLaws
+pub mod WordwiseLaws
 pub mod ShiftLaws

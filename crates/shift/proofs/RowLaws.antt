@@ -5,7 +5,7 @@ use mathlib.Core.List.{List, [], _∷_, _++_, append-assoc, append-nil}
 use Prim.Native.Nat.{ℕ, zero, suc, _+_, _-_, _≤_}
 use native.Mathlib.Nat.{sub-zero, add-zero, add-assoc}
 use native.Mathlib.Omega.{arith}
-use lib.ListN.{length, length-append, set, replicate}
+use lib.ListN.{length, length-append, length-replicate, set, replicate}
 use Rattle.tree.specs.Form.{Leaf, free, bound, Form, leaf, node, Forms, none, more, encode, encodeAll}
 use Rattle.reader.specs.Internal.Reads.{mark, markAll}
 use Rattle.rules.specs.Walk.{Outer, walkLeaf, walk, walkAll, collectLeaf, collect, each}
@@ -129,6 +129,9 @@ zeros-replicate (w ∷ l) (suc n) h =
 -- the marks that a reader makes in a row of zeros, under u declarations
 pub mark-front : (f : Form) (u n : ℕ) → length (encode f) ≤ n → mark f 0 u (replicate n 0) ≡ marksOf u f ++ replicate (n - length (encode f)) 0
 mark-front f u n h = rw (zeros-replicate (encode f) n h) (mark-zeros f 0 u [] (replicate (n - length (encode f)) 0) refl)
+
+pub mark-length : (f : Form) (u n : ℕ) → length (encode f) ≤ n → length (mark f 0 u (replicate n 0)) ≡ n
+mark-length f u n h = rw (mark-front f u n h, length-append, marks-length u f, length-replicate) (omega arith)
 
 pub only-mark : (f : Form) → mark f 0 0 (replicate (length (encode f)) 0) ≡ marksOf 0 f
 only-mark f =

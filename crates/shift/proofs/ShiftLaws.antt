@@ -1,12 +1,12 @@
 -- Shift on the row and its marks is shift on the tree. Assumes nothing.
-use mathlib.Core.Path.{_≡_, refl, ap, sym}
+use mathlib.Core.Path.{_≡_, refl, ap, sym, _∙_}
 use mathlib.Core.Bool.{Bool, true, false, _&&_}
 use mathlib.Core.List.{List, [], _∷_}
 use mathlib.Core.Option.{none as absent, some}
-use Prim.Native.Nat.{ℕ, suc, _+_, _-_, _≤_, _<_}
+use Prim.Native.Nat.{ℕ, zero, suc, _+_, _-_, _≤_, _<_}
 use native.Mathlib.Omega.{arith}
 use borrow.Author.Tests.{ne-eqb, le-leb, leb-true, ltb-true, lt-ltb, le-ltb}
-use lib.Dec.{leb, ltb}
+use lib.Dec.{leb, ltb, eqb}
 use lib.IntN.{ℤ, pos, negsuc}
 use lib.ListN.{length, replicate}
 use Rattle.tree.specs.Form.{Leaf, free, bound, Form, leaf, pick, between, encode}
@@ -19,13 +19,14 @@ use Rattle.form.proofs.DecodeLaws.{clash, Ok}
 use Rattle.form.proofs.HeadLaws.{between-in}
 use Rattle.rules.specs.Walk.{Binding, inside, outside, binding, Outer, named, dangling, walkIndex, walkLeaf, walk, up, lift, put, collectIndex, collectLeaf, each}
 use Rattle.rules.specs.Shift.{reaches, fall, lower, shift, ofShifted, shiftOutcome}
-use Rattle.shift.specs.Internal.Items.{sizeOf, wordsOf, upBy, downBy, itemIn, moveWord, moveItem, movedWords, lowOrHigh, sameLength, shiftWords}
+use Rattle.shift.specs.Internal.Items.{sizeOf, wordsOf, upBy, downBy, itemIn, moveWord, moveItem, moveAt, movedWords, lowOrHigh, sameLength, shiftWords}
 use Rattle.shift.specs.declared.items.Item.{Item}
 use Rattle.shift.specs.declared.items.Item.the-variants.{Plain, Ident}
 use Rattle.rules.proofs.WalkLaws.{binding-inside, binding-back, each-agree, each-all, walk-agree}
 use Rattle.rules.proofs.LimitLaws.{small, ok-small, fine, walk-length, inside-limits}
 use Rattle.shift.proofs.CheckedLaws.{Checked, too-long, no-form-there}
-use Rattle.shift.proofs.RowLaws.{identOf, marked-items, walk-items, each-items}
+use Rattle.shift.proofs.RowLaws.{identOf, mark-length, marked-items, walk-items, each-items}
+use Rattle.shift.proofs.WordwiseLaws.{wordwise-items, marks-apart}
 
 -- the test of a row's indices
 abbrev pub inRange : ℕ → ℕ → ℕ → Outer → Bool
@@ -73,6 +74,45 @@ pub keeps : (u d : ℕ) (y : Item) → length (movedWords u d y) ≡ sizeOf y
 unfolding wordsOf moveItem sizeOf
 keeps u d (Plain w) = refl
 keeps u d (Ident k t v) = refl
+
+-- a word behind a tag, by the tests of the code; k is the mark of a tag of indices
+pub unmoved : (u d t v : ℕ) → moveAt u d 0 t v ≡ v
+unfolding moveAt
+unmoved u d t v = refl
+
+moved-ident : (u d k t v : ℕ) → movedWords u d (Ident k t v) ≡ t ∷ moveAt u d (suc k) t v ∷ []
+unfolding wordsOf moveItem moveAt
+moved-ident u d k t v = refl
+
+module _ (u d t v : ℕ) where
+  none-by : (m : ℕ) (b : Bool) → eqb t 2 ≡ b → pick b m 0 ≡ 0 → v ≡ moveAt u d m t v
+  unfolding moveAt
+  none-by zero b q z = refl
+  none-by (suc m) true q z = absurd (omega arith)
+  none-by (suc m) false q z = rw q
+
+  below-by : (m : ℕ) (b : Bool) → eqb t 2 ≡ b → (k : ℕ) → k ≡ pick b m 0 → (k ≡ 0 → ⊥) → v < k - 1 → v ≡ moveAt u d m t v
+  unfolding moveAt
+  below-by zero b q k e n l = refl
+  below-by (suc m) true q k e n l = rw (q, lt-ltb v m (omega arith))
+  below-by (suc m) false q k e n l = absurd (n e)
+
+  above-by : (m : ℕ) (b : Bool) → eqb t 2 ≡ b → (k : ℕ) → k ≡ pick b m 0 → (k ≡ 0 → ⊥) → k - 1 ≤ v → (w : ℕ) → w ≡ moveWord u d v → w ≡ moveAt u d m t v
+  unfolding moveAt
+  above-by zero true q k e n l w h = absurd (n e)
+  above-by zero false q k e n l w h = absurd (n e)
+  above-by (suc m) true q k e n l w h = rw (q, le-ltb v m (omega arith)) h
+  above-by (suc m) false q k e n l w h = absurd (n e)
+
+  module _ (m k : ℕ) (e : k ≡ pick (eqb t 2) m 0) where
+    pub at-none : k ≡ 0 → v ≡ moveAt u d m t v
+    at-none z = none-by m (eqb t 2) refl (sym e ∙ z)
+
+    pub at-below : (k ≡ 0 → ⊥) → v < k - 1 → v ≡ moveAt u d m t v
+    at-below n l = below-by m (eqb t 2) refl k e n l
+
+    pub at-above : (k ≡ 0 → ⊥) → k - 1 ≤ v → (w : ℕ) → w ≡ moveWord u d v → w ≡ moveAt u d m t v
+    at-above n l w h = above-by m (eqb t 2) refl k e n l w h
 
 -- two truths of numbers
 pub same-test : (a b : Bool) → (a ≡ true → b ≡ true) → (b ≡ true → a ≡ true) → a ≡ b
@@ -160,7 +200,10 @@ module _ (s : Sort) (f : Form) (ok : Ok 64 s f) (short : length (encode f) ≤ 8
       ≡ pick (each (inRange d (65536 - u)) 0 f) (pick (leb (length (encode f)) room) (answer (encode (walk (moved u d) 0 f))) (refusal 14)) (refusal (lowOrHigh d))
   unfolding shiftWords sameLength
   words-tree u d =
+      let long : length (mark f 0 0 (replicate n 0)) ≡ n = mark-length f 0 n marked in
       rw (
+        le-leb (length (encode f)) (length (mark f 0 0 (replicate n 0))) (rw long marked),
+        ← wordwise-items (moveAt u d) (unmoved u d) (movedWords u d) (moved-word u d) (moved-ident u d) 0 (encode f) (mark f 0 0 (replicate n 0)) (marks-apart f 0 n marked),
         marked-items f n marked,
         each-items (itemIn d (65536 - u)) (inRange d (65536 - u)) (range-word d (65536 - u)) (range-leaf d (65536 - u)) 0 f,
         walk-items (movedWords u d) (moved u d) (moved-word u d) (moved-leaf u d) 0 f,

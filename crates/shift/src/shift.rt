@@ -1,18 +1,18 @@
 // Shift: a signed offset is added to each dangling index.
 use crate::items::Item;
 use crate::items::all_in;
-use crate::items::item_at;
-use crate::items::put_item;
-use crate::items::size_of;
 use form::answer::Answer;
 use form::answer::Kind;
 use form::answer::Limit;
+use tree::tag::Tag;
 ghost use mathlib.Core.Path.{_≡_};
 ghost use Prim.Native.Nat.{_-_, _≤_};
+ghost use lib.Dec.{eqb};
 ghost use lib.ListN.{length};
+ghost use Rattle.tree.specs.Form.{pick};
 ghost use Rattle.form.specs.Answer.{told, written};
 ghost use Rattle.rules.specs.Shift.{shiftOutcome};
-ghost use Rattle.shift.specs.Internal.Items.{Fresh, items, rewritten, store, upBy, downBy, moveWord, moveItem, movedWords, lowOrHigh, shiftWords};
+ghost use Rattle.shift.specs.Internal.Items.{Fresh, wordwise, store, upBy, downBy, moveWord, moveItem, moveAt, lowOrHigh, shiftWords};
 
 fn up_by(offset: i32) -> u32
     ensures { λ r. ⌜ r ≡ upBy offset ⌝ }
@@ -61,15 +61,46 @@ pub fn move_item(up: u32, down: u32, it: Item) -> Item
     Item::Ident(k, t, move_word(up, down, v))
 }
 
-fn write_moved(row: &[u32], marks: &[u32], up: u32, down: u32, out: &mut [u32])
-    requires { ⌜ length (now row) ≤ length (now out) ⌝ }
-    ensures { λ _. ⌜ now (out .exit) ≡ store (now (out .entry)) 0 (rewritten (movedWords up down) (items (now (row .entry)) (now (marks .entry)))) ⌝ }
+// The mark of a tag of indices; 0 for any other.
+fn index_mark(m: u32, t: u32) -> u32
+    ensures { λ r. ⌜ r ≡ pick (eqb t 2) m 0 ⌝ }
 {
-    let mut i = 0;
+    if t == Tag::BOUND_IDENT {
+        return m;
+    }
+    0
+}
+
+// The word v behind a tag t whose mark is m: moved if it is an index that dangles. The tests are in a form that the compiler makes into
+// steps of several words.
+fn moved_at(m: u32, t: u32, v: u32, up: u32, down: u32) -> u32
+    ensures { λ r. ⌜ r ≡ moveAt up down m t v ⌝ }
+{
+    let moved = move_word(up, down, v);
+    let k = index_mark(m, t);
+    if k == 0 {
+        return v;
+    }
+    if v < k - 1 {
+        return v;
+    }
+    moved
+}
+
+// The words of a row, each moved by the mark and the word before it.
+fn write_moved(row: &[u32], marks: &[u32], up: u32, down: u32, out: &mut [u32])
+    requires { ⌜ length (now row) ≤ length (now marks) ⌝ }
+    requires { ⌜ length (now row) ≤ length (now out) ⌝ }
+    ensures { λ _. ⌜ now (out .exit) ≡ store (now (out .entry)) 0 (wordwise (moveAt up down) 0 0 (now (row .entry)) (now (marks .entry))) ⌝ }
+{
+    if row.len() == 0 {
+        return;
+    }
+    out[0] = row[0];
+    let mut i = 1;
     while i < row.len() {
-        let it = item_at(row, marks, i);
-        put_item(out, i, move_item(up, down, it));
-        i += size_of(it);
+        out[i] = moved_at(marks[i - 1], row[i - 1], row[i], up, down);
+        i += 1;
     }
 }
 
@@ -95,6 +126,9 @@ pub fn shift_marked(row: &[u32], marks: &[u32], up: u32, down: u32, out: &mut [u
     ensures { λ r. ⌜ r ≡ told (shiftWords (now (row .entry)) (now (marks .entry)) up down (length (now (out .entry)))) ⌝ }
     ensures { λ _. ⌜ now (out .exit) ≡ written (shiftWords (now (row .entry)) (now (marks .entry)) up down (length (now (out .entry)))) (now (out .entry)) ⌝ }
 {
+    if marks.len() < row.len() {
+        return Answer::No(2);
+    }
     if !all_in(row, marks, down, top_of(up)) {
         return Answer::No(low_or_high(down));
     }

@@ -1,6 +1,6 @@
 -- A row and its marks, item by item: what the loops do. Nothing here is needed to read a public contract.
 use mathlib.Core.Path.{_≡_}
-use mathlib.Core.Bool.{Bool, true, _&&_}
+use mathlib.Core.Bool.{Bool, true, false, _&&_}
 use mathlib.Core.List.{List, [], _∷_, _++_}
 use Prim.Native.Nat.{ℕ, zero, suc, _+_, _-_, _≤_, min}
 use lib.Dec.{leb, ltb, eqb}
@@ -49,6 +49,32 @@ unfoldable pub allItems : (Item → Bool) → List Item → Bool
 allItems q [] = true
 allItems q (x ∷ xs) = q x && allItems q xs
 
+-- each word, as it becomes by the mark and the word before it; the first has the mark m and the word t before it
+unfoldable pub wordwise : (ℕ → ℕ → ℕ → ℕ) → ℕ → ℕ → List ℕ → List ℕ → List ℕ
+wordwise h m t [] ms = []
+wordwise h m t (w ∷ ws) [] = h m t w ∷ wordwise h 0 w ws []
+wordwise h m t (w ∷ ws) (k ∷ ms) = h m t w ∷ wordwise h k w ws ms
+
+-- no two words of a row side by side are marked, and each mark is that of a tag under lo declarations or more
+unfoldable pub apart : ℕ → List ℕ → List ℕ → Bool
+apart lo [] ms = true
+apart lo (w ∷ ws) [] = true
+apart lo (w ∷ ws) (zero ∷ ms) = apart lo ws ms
+apart lo (w ∷ []) (suc k ∷ ms) = true
+apart lo (w ∷ v ∷ ws) (suc k ∷ []) = leb lo k
+apart lo (w ∷ v ∷ ws) (suc k ∷ zero ∷ ms) = leb lo k && apart lo ws ms
+apart lo (w ∷ v ∷ ws) (suc k ∷ suc j ∷ ms) = false
+
+-- a word v behind a tag t whose mark is m, as an item; each word of a row so
+unfoldable pub wordItem : ℕ → ℕ → ℕ → Item
+wordItem zero t v = Plain v
+wordItem (suc k) t v = Ident k t v
+
+unfoldable pub wordItems : ℕ → ℕ → List ℕ → List ℕ → List Item
+wordItems m t [] ms = []
+wordItems m t (w ∷ ws) [] = wordItem m t w ∷ wordItems 0 w ws []
+wordItems m t (w ∷ ws) (k ∷ ms) = wordItem m t w ∷ wordItems k w ws ms
+
 -- l with the words of a list stored from i on, as far as there is room
 unfoldable pub store : List ℕ → ℕ → List ℕ → List ℕ
 store l i [] = l
@@ -82,13 +108,19 @@ moveItem u d (Ident k t v) = Ident k t (pick (eqb t 2) (pick (ltb v k) v (moveWo
 abbrev pub movedWords : ℕ → ℕ → Item → List ℕ
 movedWords u d x = wordsOf (moveItem u d x)
 
--- a rewriting that keeps the length: refusal n where a test fails, then 14
-unfoldable pub sameLength : (Item → Bool) → (Item → List ℕ) → ℕ → List ℕ → List ℕ → ℕ → Outcome
-sameLength q g n row marks room =
-    needs n (allItems q (items row marks)) (needs 14 (leb (length row) room) (answer (rewritten g (items row marks))))
+-- the word v behind a tag t whose mark is m
+unfoldable pub moveAt : ℕ → ℕ → ℕ → ℕ → ℕ → ℕ
+moveAt u d zero t v = v
+moveAt u d (suc k) t v = pick (eqb t 2) (pick (ltb v k) v (moveWord u d v)) v
+
+-- a rewriting that keeps the length: refusal n where a test fails, then 14, else the words ws
+unfoldable pub sameLength : (Item → Bool) → List ℕ → ℕ → List ℕ → List ℕ → ℕ → Outcome
+sameLength q ws n row marks room = needs n (allItems q (items row marks)) (needs 14 (leb (length row) room) (answer ws))
 
 abbrev pub lowOrHigh : ℕ → ℕ
 lowOrHigh d = pick (eqb d 0) 7 6
 
+-- shift of a row that is marked throughout; any other is refused as no form
 unfoldable pub shiftWords : List ℕ → List ℕ → ℕ → ℕ → ℕ → Outcome
-shiftWords row marks u d room = sameLength (itemIn d (65536 - u)) (movedWords u d) (lowOrHigh d) row marks room
+shiftWords row marks u d room =
+    needs 2 (leb (length row) (length marks)) (sameLength (itemIn d (65536 - u)) (wordwise (moveAt u d) 0 0 row marks) (lowOrHigh d) row marks room)

@@ -5,7 +5,7 @@ use lib.Dec.{ltb, eqb}
 use lib.ListN.{length}
 use Rattle.tree.specs.Form.{pick}
 use Rattle.form.specs.Answer.{Outcome}
-use Rattle.shift.specs.Internal.Items.{wordsOf, itemIn, moveWord, sameLength}
+use Rattle.shift.specs.Internal.Items.{items, wordsOf, rewritten, itemIn, moveWord, sameLength}
 use Rattle.shift.specs.declared.items.Item.{Item}
 use Rattle.shift.specs.declared.items.Item.the-variants.{Plain, Ident}
 use Rattle.subst.specs.declared.bind.Spot.{Spot}
@@ -27,4 +27,4 @@ abbrev pub boundWords : List ℕ → Item → List ℕ
 boundWords ns x = wordsOf (boundItem ns x)
 
 unfoldable pub bindWords : List ℕ → List ℕ → List ℕ → ℕ → Outcome
-bindWords ns row marks room = sameLength (itemIn 0 (65536 - length ns)) (boundWords ns) 7 row marks room
+bindWords ns row marks room = sameLength (itemIn 0 (65536 - length ns)) (rewritten (boundWords ns) (items row marks)) 7 row marks room

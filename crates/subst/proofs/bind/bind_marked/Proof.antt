@@ -1,9 +1,10 @@
 -- `subst::bind::bind_marked` meets its contract. Assumes nothing.
 use mathlib.Core.Path.{refl}
-use Rattle.subst.specs.Internal.Binding.{bindWords}
+use Rattle.subst.specs.Internal.Binding.{boundWords, bindWords}
 use Rattle.shift.proofs.ItemLaws.{not-yes, not-no}
 use Rattle.shift.proofs.CheckedLaws.{refused}
 use Rattle.shift.proofs.SameLengthLaws.{fails, no-room, answers}
+use Rattle.shift.proofs.ItemLaws.{rewritten-length}
 use Rattle.subst.proofs.BindLaws.{keeps}
 use borrow.Author.Needs.{needs}
 use Rattle.subst.proofs.bind.bind_marked.Statement.{statement}
@@ -39,7 +40,7 @@ same-length c = search needs
 
 returns-3 : tie.Need-returns-3
 unfolding bindWords
-returns-3 c = let b4 = c .before .before .before .before in let b7 = b4 .before .before .before in let b12 = b7 .before .before .before .before .before in answers _ _ _ _ _ (b12 .args .out .now) _ (rw (b7 .top-of .ensures) at (b4 .before .before .all-in .ensures)) (not-no _ (b4 .before .if1 .left)) (keeps _) (b4 .if2 .left) _ (c .before .before .write-bound .ensures)
+returns-3 c = let b4 = c .before .before .before .before in let b7 = b4 .before .before .before in let b12 = b7 .before .before .before .before .before in answers _ _ _ _ _ (b12 .args .out .now) _ (rw (b7 .top-of .ensures) at (b4 .before .before .all-in .ensures)) (not-no _ (b4 .before .if1 .left)) (rewritten-length (boundWords (b12 .args .names .now)) (keeps (b12 .args .names .now)) (b12 .args .row .now) (b12 .args .marks .now)) (b4 .if2 .left) _ (c .before .before .write-bound .ensures)
 
 pub bind-marked-spec : {M : Type 1} → statement M
 bind-marked-spec =
