@@ -1,21 +1,21 @@
--- The words of the declarations that items use are cleared one item after another. Assumes nothing.
-use mathlib.Core.Path.{_≡_, refl, ap, sym}
+-- The words of the declarations that items use are cleared one word of the row after another. Assumes nothing.
+use mathlib.Core.Path.{_≡_, refl, ap, sym, _∙_}
 use mathlib.Core.Bool.{Bool, true, false, not, _&&_}
 use mathlib.Core.List.{List, [], _∷_}
 use Prim.Native.Nat.{ℕ, suc, _+_, _-_, _≤_, _<_}
 use native.Mathlib.Omega.{arith}
-use borrow.Author.Tests.{lt-ltb, le-ltb, ltb-true, ltb-false, eq-eqb, ne-eqb}
+use borrow.Author.Tests.{lt-ltb, le-ltb, ltb-true, ltb-false, eq-eqb, ne-eqb, eqb-true, eqb-false}
 use lib.Dec.{eqb, ltb}
-use lib.ListN.{length, drop, set}
+use lib.ListN.{length, getD, drop, set, length-drop}
+use lib.Seq.{drop-set-lt, drop-set-add}
 use Rattle.tree.specs.Form.{pick}
-use Rattle.form.proofs.HeadLaws.{gone}
-use Rattle.shift.specs.Internal.Items.{itemAt, items, sizeOf, allItems}
+use Rattle.shift.specs.Internal.Items.{items, allItems, apart, wordItem, wordItems}
 use Rattle.shift.specs.declared.items.Item.{Item}
 use Rattle.shift.specs.declared.items.Item.the-variants.{Plain, Ident}
-use Rattle.shift.proofs.ItemLaws.{next}
-use Rattle.replace.specs.Internal.Pieces.{notIndex, cleared}
+use Rattle.shift.proofs.WordwiseLaws.{all-words, words-next, words-end}
+use Rattle.replace.specs.Internal.Pieces.{notIndex, cleared, slotOf}
 
-pub cleared-length : (n : ℕ) (ws : List ℕ) (xs : List Item) → length (cleared n ws xs) ≡ length ws
+cleared-length : (n : ℕ) (ws : List ℕ) (xs : List Item) → length (cleared n ws xs) ≡ length ws
 unfolding cleared
 cleared-length n [] xs = refl
 cleared-length n (w ∷ ws) xs = ap suc (cleared-length n ws xs)
@@ -35,16 +35,6 @@ cleared-first : (n : ℕ) (ws : List ℕ) (x : Item) (xs : List Item) → cleare
 unfolding cleared allItems
 cleared-first n [] x xs = refl
 cleared-first n (w ∷ ws) x xs = rw (cleared-length n ws (x ∷ []), ← cleared-first n ws x xs, pick-both (notIndex n (length ws) x) (allItems (notIndex n (length ws)) xs) w)
-
--- the loop: one more item, and no more items
-module _ (row marks : List ℕ) (i n : ℕ) (ws : List ℕ) where
-  pub cleared-next : i < length row → {x : Item} → x ≡ itemAt (drop i row) (drop i marks) → (vs : List ℕ) → vs ≡ cleared n ws (x ∷ [])
-      → cleared n ws (items (drop i row) (drop i marks)) ≡ cleared n vs (items (drop (i + sizeOf x) row) (drop (i + sizeOf x) marks))
-  cleared-next low {x} at vs e = rw (next row marks i low at, e) (cleared-first n ws x (items (drop (i + sizeOf x) row) (drop (i + sizeOf x) marks)))
-
-  pub cleared-end : length row ≤ i → cleared n ws (items (drop i row) (drop i marks)) ≡ ws
-  unfolding items
-  cleared-end high = rw (gone row i high) (cleared-none n ws)
 
 -- one item
 module _ (n : ℕ) (x : Item) where
@@ -75,18 +65,18 @@ module _ (n : ℕ) (x : Item) where
         by-place w ws l true e h = let k = ltb-true j (length ws) e in uses-outer w ws k (h k)
         by-place w ws l false e h = let k = ltb-false j (length ws) e in uses-first w ws (omega arith)
 
-pub clears-plain : (ws : List ℕ) {x : Item} {w : ℕ} → x ≡ Plain w → ws ≡ cleared (length ws) ws (x ∷ [])
+clears-plain : (ws : List ℕ) {x : Item} {w : ℕ} → x ≡ Plain w → ws ≡ cleared (length ws) ws (x ∷ [])
 unfolding notIndex
 clears-plain ws {x} e = sym (uses-none (length ws) x ws (λ i l. rw e))
 
 -- an index or a name, by the tests of the code
 module _ (ws : List ℕ) {x : Item} {k t v : ℕ} (is : x ≡ Ident k t v) where
-  pub clears-name : (t ≡ 2 → ⊥) → ws ≡ cleared (length ws) ws (x ∷ [])
+  clears-name : (t ≡ 2 → ⊥) → ws ≡ cleared (length ws) ws (x ∷ [])
   unfolding notIndex
   clears-name h = sym (uses-none (length ws) x ws (λ i l. rw (is, ne-eqb t 2 h)))
 
   module _ (index : t ≡ 2) (b : ℕ) (bound : b ≡ k - length ws) where
-    pub clears-inner : v < b → ws ≡ cleared (length ws) ws (x ∷ [])
+    clears-inner : v < b → ws ≡ cleared (length ws) ws (x ∷ [])
     unfolding notIndex
     clears-inner h = sym (uses-none (length ws) x ws (λ i l. rw (is, eq-eqb t 2 index, ← bound, lt-ltb v b h)))
 
@@ -95,9 +85,85 @@ module _ (ws : List ℕ) {x : Item} {k t v : ℕ} (is : x ≡ Ident k t v) where
       unfolding notIndex
       test i = rw (is, eq-eqb t 2 index, ← bound, le-ltb v b h)
 
-      pub clears-outer : length ws ≤ v - b → ws ≡ cleared (length ws) ws (x ∷ [])
+      clears-outer : length ws ≤ v - b → ws ≡ cleared (length ws) ws (x ∷ [])
       clears-outer o = sym (uses-none (length ws) x ws (λ i l. rw (test i, ne-eqb i (v - b) (λ z. omega arith))))
 
-      pub clears-one : v - b < length ws → set ws (length ws - 1 - (v - b)) 0 ≡ cleared (length ws) ws (x ∷ [])
+      clears-one : v - b < length ws → set ws (length ws - 1 - (v - b)) 0 ≡ cleared (length ws) ws (x ∷ [])
       clears-one o =
           sym (uses-one (length ws) x (v - b) (rw (test (v - b), eq-eqb (v - b) (v - b) refl)) (λ i z. rw (test i, ne-eqb i (v - b) z)) ws o)
+
+-- the slot of an item, behind the word that is passed over
+slot-low : (n o : ℕ) (x : Item) → o ≤ n → slotOf n o x ≤ n
+unfolding slotOf
+slot-low n o (Plain w) h = h
+slot-low n o (Ident k t v) h = go (eqb t 2) (ltb v (k - n))
+  where
+    go : (a b : Bool) → pick a (pick b o (n - (v - (k - n)))) o ≤ n
+    go true true = h
+    go true false = omega arith
+    go false b = h
+
+pub slot-fits : (n o s : ℕ) (x : Item) → o ≤ n → s ≡ slotOf n o x → s ≤ n
+slot-fits n o s x h e = rw e (slot-low n o x h)
+
+pub zero-le : (n : ℕ) → 0 ≤ n
+zero-le n = omega arith
+
+module _ (n : ℕ) (ws : List ℕ) (long : length ws ≡ n + 1) where
+  abbrev vs : List ℕ
+  vs = drop 1 ws
+
+  count : length vs ≡ n
+  count = rw (length-drop 1 ws, long) (omega arith)
+
+  passed-over : drop 1 (set ws 0 0) ≡ vs
+  passed-over = drop-set-lt 1 ws 0 0 (omega arith)
+
+  clear-ident : (k t v : ℕ) (a : Bool) → eqb t 2 ≡ a → (b : Bool) → ltb v (k - n) ≡ b → (c : Bool) → ltb (v - (k - n)) n ≡ c
+      → drop 1 (set ws (pick a (pick b 0 (n - (v - (k - n)))) 0) 0) ≡ cleared n vs (Ident k t v ∷ [])
+  clear-ident k t v false p b q c r = passed-over ∙ rw count at (clears-name vs {x = Ident k t v} refl (eqb-false t 2 p))
+  clear-ident k t v true p true q c r =
+      passed-over ∙ rw count at (clears-inner vs {x = Ident k t v} refl (eqb-true t 2 p) (k - n) (rw count) (ltb-true v (k - n) q))
+  clear-ident k t v true p false q true r =
+      let l = ltb-true (v - (k - n)) n r in
+      let e : n - (v - (k - n)) ≡ 1 + (n - 1 - (v - (k - n))) = omega arith in
+      rw e (drop-set-add 1 ws (n - 1 - (v - (k - n))) 0)
+      ∙ rw count at (clears-one vs {x = Ident k t v} refl (eqb-true t 2 p) (k - n) (rw count) (ltb-false v (k - n) q) (rw count l))
+  clear-ident k t v true p false q false r =
+      let l = ltb-false (v - (k - n)) n r in
+      let e : n - (v - (k - n)) ≡ 0 = omega arith in
+      rw e passed-over ∙ rw count at (clears-outer vs {x = Ident k t v} refl (eqb-true t 2 p) (k - n) (rw count) (ltb-false v (k - n) q) (rw count l))
+
+  clear-slot : (x : Item) → drop 1 (set ws (slotOf n 0 x) 0) ≡ cleared n vs (x ∷ [])
+  unfolding slotOf
+  clear-slot (Plain w) = passed-over ∙ rw count at (clears-plain vs {x = Plain w} refl)
+  clear-slot (Ident k t v) = clear-ident k t v (eqb t 2) refl (ltb v (k - n)) refl (ltb (v - (k - n)) n) refl
+
+-- the loop, word by word: one more word, no more words, and the first word
+module _ (row marks : List ℕ) (n : ℕ) where
+  pub cleared-next : (i m t : ℕ) → i < length row → i < length marks → (ws : List ℕ) → length ws ≡ n + 1 → (s : ℕ) → s ≡ slotOf n 0 (wordItem m t (getD row i 0))
+      → cleared n (drop 1 ws) (wordItems m t (drop i row) (drop i marks)) ≡ cleared n (drop 1 (set ws s 0)) (wordItems (getD marks i 0) (getD row i 0) (drop (i + 1) row) (drop (i + 1) marks))
+  cleared-next i m t low marked ws long s e =
+      rw (words-next row marks i m t low marked, e, clear-slot n ws long (wordItem m t (getD row i 0)))
+      (cleared-first n (drop 1 ws) (wordItem m t (getD row i 0)) (wordItems (getD marks i 0) (getD row i 0) (drop (i + 1) row) (drop (i + 1) marks)))
+
+  pub cleared-end : (i m t : ℕ) → length row ≤ i → (vs : List ℕ) → cleared n vs (wordItems m t (drop i row) (drop i marks)) ≡ vs
+  cleared-end i m t high vs = rw (words-end row marks i m t high) (cleared-none n vs)
+
+  plain-no : (j w : ℕ) → notIndex n j (Plain w) ≡ true
+  unfolding notIndex
+  plain-no j w = refl
+
+  by-words : (vs rs ms : List ℕ) → apart n rs ms ≡ true → cleared n vs (items rs ms) ≡ cleared n vs (wordItems 0 0 rs ms)
+  unfolding cleared
+  by-words [] rs ms a = refl
+  by-words (w ∷ vs) rs ms a = rw (all-words (notIndex n (length vs)) (plain-no (length vs)) n rs ms a, by-words vs rs ms a)
+
+  first-plain : (t w : ℕ) (vs : List ℕ) (xs : List Item) → cleared n vs (wordItem 0 t w ∷ xs) ≡ cleared n vs xs
+  unfolding wordItem
+  first-plain t w vs xs = cleared-first n vs (Plain w) xs ∙ ap (λ z. cleared n z xs) (uses-none n (Plain w) vs (λ i l. plain-no i w))
+
+  pub cleared-start : (i : ℕ) → i < length row → i < length marks → apart n (drop i row) (drop i marks) ≡ true → (vs : List ℕ)
+      → cleared n vs (items (drop i row) (drop i marks)) ≡ cleared n vs (wordItems (getD marks i 0) (getD row i 0) (drop (i + 1) row) (drop (i + 1) marks))
+  cleared-start i low marked a vs =
+      by-words vs (drop i row) (drop i marks) a ∙ rw (words-next row marks i 0 0 low marked) (first-plain 0 (getD row i 0) vs _)

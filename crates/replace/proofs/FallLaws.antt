@@ -3,76 +3,71 @@ use mathlib.Core.Path.{_≡_, refl, ap, sym, _∙_}
 use mathlib.Core.Bool.{Bool, true, false}
 use mathlib.Core.List.{List, [], _∷_, _++_}
 use Prim.Native.Nat.{ℕ, zero, suc, _+_, _-_, _≤_, _<_}
-use native.Mathlib.Nat.{zero-add}
+use native.Mathlib.Nat.{zero-add, le-refl}
 use native.Mathlib.Omega.{arith}
 use borrow.Author.Tests.{le-leb, lt-leb, lt-ltb, le-ltb, eq-eqb, ne-eqb, eqb-true, eqb-false}
-use lib.Dec.{eqb}
+use lib.Dec.{eqb, ltb}
 use lib.ListN.{length, getD, drop, set, length-append, length-drop}
 use lib.Seq.{getD-set-same, getD-set-other}
+use Rattle.tree.specs.Form.{pick}
 use Rattle.form.specs.Answer.{answer, refusal, told, written}
 use Rattle.form.specs.declared.answer.Answer.the-variants.{Done}
 use Rattle.form.proofs.HeadLaws.{here, gone}
-use Rattle.shift.specs.Internal.Items.{items, sizeOf, wordsOf, rewritten, store}
+use Rattle.shift.specs.Internal.Items.{items, sizeOf, wordsOf, rewritten, wordwise, apart, wordItem, store}
 use Rattle.shift.specs.declared.items.Item.{Item}
 use Rattle.shift.specs.declared.items.Item.the-variants.{Plain, Ident}
 use Rattle.shift.proofs.ItemLaws.{store-append, stored, rewritten-length}
-use Rattle.replace.specs.Internal.Pieces.{filledWords, keptWords, headWords, fallsAt, Falls, fallItem, fallenWords, droppedRow, droppedOutcome}
+use Rattle.shift.proofs.WordwiseLaws.{wordwise-items}
+use Rattle.replace.specs.Internal.Pieces.{filledWords, keptWords, headWords, fallsAt, slotOf, Falls, fallAt, fallItem, fallenWords, droppedRow, droppedOutcome}
 use Rattle.replace.proofs.PieceLaws.{filled-word}
 
--- the table, from the innermost declaration outwards
-pub falls-none : (ws : List ℕ) → fallsAt ws 0 ≡ 0
-unfolding fallsAt filledWords
-falls-none ws = rw (gone ws (length ws - 0) (omega arith))
+-- the table, from the innermost slot outwards
+pub falls-none : (ws : List ℕ) → 0 ≡ filledWords (drop (length ws) ws)
+unfolding filledWords
+falls-none ws = rw (gone ws (length ws) (le-refl (length ws)))
 
-pub falls-past : (ws : List ℕ) (j : ℕ) → length ws ≤ j → fallsAt ws (length ws) ≡ fallsAt ws j
-unfolding fallsAt
-falls-past ws j h = let a : length ws - length ws ≡ length ws - j = omega arith in rw a
+pub falls-next : (ws : List ℕ) (s : ℕ) → s < length ws → (g r : ℕ) → g ≡ filledWords (drop (s + 1) ws) → r ≡ filledWords (getD ws s 0 ∷ []) → g + r ≡ filledWords (drop s ws)
+falls-next ws s low g r e q = rw (e, q, here ws s low, filled-word (getD ws s 0) (drop (s + 1) ws)) (omega arith)
 
-module _ (ws : List ℕ) (j : ℕ) (low : j < length ws) where
-  pub falls-next : (g r : ℕ) → g ≡ fallsAt ws j → r ≡ filledWords (getD ws (length ws - 1 - j) 0 ∷ []) → g + r ≡ fallsAt ws (j + 1)
-  unfolding fallsAt
-  falls-next g r e q =
-      let a : length ws - (j + 1) ≡ length ws - 1 - j = omega arith in
-      let b : length ws - j ≡ length ws - 1 - j + 1 = omega arith in
-      rw (e, q, a, b, here ws (length ws - 1 - j) (omega arith), filled-word (getD ws (length ws - 1 - j) 0) (drop (length ws - 1 - j + 1) ws)) (omega arith)
+pub table-next : (ws fs : List ℕ) (s g : ℕ) → s < length fs → ((i : ℕ) → s < i → i ≤ length ws → getD fs i 0 ≡ filledWords (drop i ws)) → g ≡ filledWords (drop s ws)
+    → (i : ℕ) → s ≤ i → i ≤ length ws → getD (set fs s g) i 0 ≡ filledWords (drop i ws)
+table-next ws fs s g long known e i h l = go (eqb i s) refl
+  where
+    go : (b : Bool) → eqb i s ≡ b → getD (set fs s g) i 0 ≡ filledWords (drop i ws)
+    go true q = rw (eqb-true i s q, getD-set-same fs s g 0 long) e
+    go false q = let n = eqb-false i s q in getD-set-other fs s i g 0 n ∙ known i (omega (arith, n)) l
 
-  pub table-next : (fs : List ℕ) (g : ℕ) → j + 1 < length fs → ((i : ℕ) → i ≤ j → getD fs i 0 ≡ fallsAt ws i) → g ≡ fallsAt ws (j + 1) → (i : ℕ) → i ≤ j + 1 → getD (set fs (j + 1) g) i 0 ≡ fallsAt ws i
-  table-next fs g long known e i h = go (eqb i (j + 1)) refl
-    where
-      go : (b : Bool) → eqb i (j + 1) ≡ b → getD (set fs (j + 1) g) i 0 ≡ fallsAt ws i
-      go true q = rw (eqb-true i (j + 1) q, getD-set-same fs (j + 1) g 0 long) e
-      go false q = let n = eqb-false i (j + 1) q in getD-set-other fs (j + 1) i g 0 n ∙ known i (omega (arith, n))
-
-pub table-first : (ws fs : List ℕ) → 0 < length fs → (i : ℕ) → i ≤ 0 → getD (set fs 0 0) i 0 ≡ fallsAt ws i
-table-first ws fs long zero h = getD-set-same fs 0 0 0 long ∙ sym (falls-none ws)
-table-first ws fs long (suc i) h = absurd (omega arith)
-
-pub table-made : (ws fs : List ℕ) (j : ℕ) → length ws ≤ j → ((i : ℕ) → i ≤ j → getD fs i 0 ≡ fallsAt ws i) → Falls ws fs
+pub table-made : (ws fs : List ℕ) (s : ℕ) → s ≤ 0 → ((i : ℕ) → s ≤ i → i ≤ length ws → getD fs i 0 ≡ filledWords (drop i ws)) → Falls ws fs
 unfolding Falls
-table-made ws fs j h known i l = known i (omega arith)
+table-made ws fs s h known i l = known i (omega arith) l
 
-pub table-at : (ws fs : List ℕ) → Falls ws fs → (j : ℕ) → j ≤ length ws → getD fs j 0 ≡ fallsAt ws j
-unfolding Falls
-table-at ws fs h j l = h j l
+-- the word behind a tag, by the code's table
+fallen-ident : (ws fs : List ℕ) → Falls ws fs → (k t v : ℕ) (a b : Bool) → eqb t 2 ≡ a → ltb v (k - length ws) ≡ b → v - getD fs (pick a (pick b (length ws) (length ws - (v - (k - length ws)))) (length ws)) 0
+    ≡ pick a (pick b v (v - fallsAt ws (v - (k - length ws)))) v
+unfolding Falls fallsAt
+fallen-ident ws fs h k t v true true p q = rw (h (length ws) (le-refl (length ws)), ← falls-none ws) (omega arith)
+fallen-ident ws fs h k t v true false p q = rw (h (length ws - (v - (k - length ws))) (omega arith))
+fallen-ident ws fs h k t v false b p q = rw (h (length ws) (le-refl (length ws)), ← falls-none ws) (omega arith)
 
--- one item, by the tests of the code
-pub falls-plain : (ws : List ℕ) {x : Item} {w : ℕ} → x ≡ Plain w → x ≡ fallItem ws x
-unfolding fallItem
-falls-plain ws e = rw e
+pub fallen : (ws fs : List ℕ) → Falls ws fs → (m t v s r : ℕ) → s ≡ slotOf (length ws) (length ws) (wordItem m t v) → r ≡ v - getD fs s 0 → r ≡ fallAt ws m t v
+unfolding wordItem slotOf fallAt Falls
+fallen ws fs h zero t v s r e q = q ∙ rw (e, h (length ws) (le-refl (length ws)), ← falls-none ws) (omega arith)
+fallen ws fs h (suc k) t v s r e q = q ∙ rw e (fallen-ident ws fs h k t v (eqb t 2) (ltb v (k - length ws)) refl refl)
 
-module _ (ws : List ℕ) {x : Item} {k t v : ℕ} (is : x ≡ Ident k t v) where
-  pub falls-name : (t ≡ 2 → ⊥) → Ident k t v ≡ fallItem ws x
-  unfolding fallItem
-  falls-name h = rw (is, ne-eqb t 2 h)
+pub unfallen : (ws : List ℕ) (t v : ℕ) → fallAt ws 0 t v ≡ v
+unfolding fallAt
+unfallen ws t v = refl
 
-  module _ (index : t ≡ 2) (b : ℕ) (bound : b ≡ k - length ws) where
-    pub falls-inner : v < b → Ident k t v ≡ fallItem ws x
-    unfolding fallItem
-    falls-inner h = rw (is, eq-eqb t 2 index, ← bound, lt-ltb v b h)
+fallen-plain : (ws : List ℕ) (w : ℕ) → fallenWords ws (Plain w) ≡ w ∷ []
+unfolding wordsOf fallItem
+fallen-plain ws w = refl
 
-    pub falls-by : b ≤ v → (g u : ℕ) → g ≡ fallsAt ws (v - b) → u ≡ v - g → Ident k t u ≡ fallItem ws x
-    unfolding fallItem
-    falls-by h g u e q = rw (is, eq-eqb t 2 index, ← bound, le-ltb v b h, q, e)
+fall-ident : (ws : List ℕ) (k t v : ℕ) → fallenWords ws (Ident k t v) ≡ t ∷ fallAt ws (suc k) t v ∷ []
+unfolding wordsOf fallItem fallAt
+fall-ident ws k t v = refl
+
+pub fallen-items : (ws row marks : List ℕ) → apart (length ws) row marks ≡ true → rewritten (fallenWords ws) (items row marks) ≡ wordwise (fallAt ws) 0 0 row marks
+fallen-items ws row marks a = wordwise-items (fallAt ws) (unfallen ws) (fallenWords ws) (fallen-plain ws) (fall-ident ws) (length ws) row marks a
 
 pub falls-keep : (ws : List ℕ) (y : Item) → length (fallenWords ws y) ≡ sizeOf y
 unfolding wordsOf fallItem sizeOf

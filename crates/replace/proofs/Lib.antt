@@ -10,6 +10,7 @@ pub mod FillTree
 pub mod NameLaws
 pub mod QuantLaws
 pub mod FillLaws
+pub mod SlotLaws
 pub mod ClearLaws
 pub mod FallLaws
 pub mod FallTree

@@ -4,10 +4,11 @@ use mathlib.Core.Bool.{Bool, true, false, not}
 use mathlib.Core.List.{List, [], _∷_, _++_, map}
 use Prim.Native.Nat.{ℕ, zero, suc, _+_, _-_, _≤_, _<_}
 use native.Mathlib.Nat.{zero-add}
+use native.Mathlib.Numerals.{add-one}
 use native.Mathlib.Omega.{arith}
 use borrow.Author.Tests.{lt-ltb, le-ltb, eq-eqb, ne-eqb, eqb-true, eqb-false}
 use lib.Dec.{leb, eqb}
-use lib.ListN.{length, take, drop, replicate, length-append, length-replicate, length-map}
+use lib.ListN.{length, take, drop, replicate, length-append, length-drop, length-replicate, length-map}
 use lib.Seq.{take-at, length-take-le}
 use Rattle.tree.specs.Form.{Leaf, free, bound, Form, leaf, pick, encode}
 use Rattle.tree.specs.Tag.{Sort, pred}
@@ -17,7 +18,7 @@ use Rattle.form.specs.Answer.{Outcome, answer, refusal, needs, finish}
 use Rattle.reader.specs.Internal.Reads.{mark}
 use Rattle.form.specs.declared.answer.Kind.the-variants.{Predicate}
 use Rattle.rules.specs.Walk.{Binding, inside, outside, binding, collectIndex, collectLeaf}
-use Rattle.shift.specs.Internal.Items.{items, allItems}
+use Rattle.shift.specs.Internal.Items.{items, allItems, apart}
 use Rattle.shift.specs.declared.items.Item.{Item}
 use Rattle.shift.specs.declared.items.Item.the-variants.{Plain, Ident}
 use Rattle.rules.proofs.WalkLaws.{binding-inside, binding-back}
@@ -26,11 +27,10 @@ use Rattle.shift.proofs.CheckedLaws.{Checked, too-long, no-form-there, form-the
 use Rattle.rules.specs.Fill.{keptCount, fill, ofQuantified, quantified}
 use Rattle.rules.specs.Prune.{isNot, unused, usedPlaces, prune, pruneOutcome}
 use Rattle.replace.specs.Internal.Pieces.{filledWords, declaredIn, notIndex, cleared, usedWords, droppedRow, droppedOutcome}
-use Rattle.replace.proofs.ClearLaws.{cleared-length}
 use Rattle.replace.proofs.FillTree.{wordFor, count-both}
 use Rattle.replace.proofs.NameLaws.{kept-names, encode-quantify}
-use Rattle.replace.proofs.QuantLaws.{Quant, quant-tag, quant-names, quant-items}
-use Rattle.replace.proofs.FillLaws.{form-ok, no-quant, the-quant, the-count, the-length}
+use Rattle.replace.proofs.QuantLaws.{Quant, quant-tag, quant-names, quant-more, quant-apart, quant-items}
+use Rattle.replace.proofs.FillLaws.{form-ok, no-quant, the-quant, the-count}
 use Rattle.replace.proofs.PruneTree.{used-length, body-is, prune-inside}
 use Rattle.replace.proofs.FallTree.{fall-tree}
 
@@ -66,7 +66,7 @@ unfolding cleared
 used-words n [] f = refl
 used-words n (m ∷ ns) f = rw (length-replicate {A = ℕ} (length ns) 1, unused-items n (length ns) f, used-words n ns f, word-pick (unused (length ns) f) (leaf (free 0)))
 
--- the words as the code makes them: the first n of 32 ones are cleared
+-- the words as the code makes them: of 33 ones the first is passed over, and the next n are cleared
 abbrev ones : ℕ → List ℕ
 ones n = replicate n 1
 
@@ -75,23 +75,39 @@ first-ones zero m h = refl
 first-ones (suc n) zero h = absurd (omega arith)
 first-ones (suc n) (suc m) h = ap (λ (l : List ℕ). 1 ∷ l) (first-ones n m (omega arith))
 
+inner-append : (ws r : List ℕ) → 1 ≤ length ws → drop 1 (ws ++ r) ≡ drop 1 ws ++ r
+inner-append [] r h = absurd (omega arith)
+inner-append (w ∷ ws) r h = refl
+
 module _ (n : ℕ) (few : n ≤ 32) where
-  pub ones-length : length (take n (ones 32)) ≡ n
-  ones-length = length-take-le n (ones 32) few
+  pub ones-length : length (take (n + 1) (ones 33)) ≡ n + 1
+  ones-length = length-take-le (n + 1) (ones 33) (omega arith)
 
-  module _ (xs : List Item) (ws : List ℕ) (e : ws ≡ cleared (length (take n (ones 32))) (take n (ones 32)) xs) where
-    words-length : length ws ≡ n
-    words-length = rw (e, cleared-length) ones-length
+  inner-ones : drop 1 (take (n + 1) (ones 33)) ≡ ones n
+  inner-ones = rw (add-one, first-ones (suc n) 33 (omega arith))
 
-    pub used-made : take n (ws ++ drop n (ones 32)) ≡ usedWords n xs
+  module _ (xs : List Item) (ws : List ℕ) (long : length ws ≡ length (take (n + 1) (ones 33))) (e : drop 1 ws ≡ cleared n (drop 1 (take (n + 1) (ones 33))) xs) where
+    words-long : length ws ≡ n + 1
+    words-long = long ∙ ones-length
+
+    inner-length : length (drop 1 ws) ≡ n
+    inner-length = rw (length-drop 1 ws, words-long) (omega arith)
+
+    inner-words : take (n + 1 - 1) (drop 1 (ws ++ drop (n + 1) (ones 33))) ≡ drop 1 ws
+    inner-words =
+        let z : n + 1 - 1 ≡ n = omega arith in
+        let l = words-long in
+        rw (z, inner-append ws (drop (n + 1) (ones 33)) (omega arith)) (take-at (drop 1 ws) (drop (n + 1) (ones 33)) n inner-length)
+
+    pub used-made : take (n + 1 - 1) (drop 1 (ws ++ drop (n + 1) (ones 33))) ≡ usedWords n xs
     unfolding usedWords
-    used-made = take-at ws (drop n (ones 32)) n words-length ∙ (e ∙ rw (ones-length, first-ones n 32 few))
+    used-made = inner-words ∙ (e ∙ rw inner-ones refl)
 
-    pub used-long : length (take n (ws ++ drop n (ones 32))) ≡ n
-    used-long = rw (take-at ws (drop n (ones 32)) n words-length) words-length
+    pub used-long : length (take (n + 1 - 1) (drop 1 (ws ++ drop (n + 1) (ones 33)))) ≡ n
+    used-long = rw inner-words inner-length
 
-    pub used-fits : n ≤ length (ws ++ drop n (ones 32))
-    used-fits = let l = words-length in rw length-append (omega arith)
+    pub used-fits : n + 1 ≤ length (ws ++ drop (n + 1) (ones 33))
+    used-fits = let l = words-long in rw length-append (omega arith)
 
 -- the whole call
 abbrev pruneGo : ℕ → Sort → Form → Outcome
@@ -121,8 +137,8 @@ module _ (row : List ℕ) (room : ℕ) where
       pub prune-few : n ≤ 32
       prune-few = let c = the-count row m (length row) x n e q in let h = q .most in omega arith
 
-      pub prune-fits : 2 + n ≤ length row
-      prune-fits = let c = the-count row m (length row) x n e q in let h = the-length row m (length row) x q in omega arith
+      pub prune-more : 2 + n < length row
+      prune-more = let c = the-count row m (length row) x n e q in let h = quant-more (x .form) q in let w = ap length (x .words) in omega arith
 
       abbrev ps : List Place
       ps = usedPlaces (q .decls) (q .body)
@@ -143,6 +159,9 @@ module _ (row w : List ℕ) (room : ℕ) (x : Checked Predicate row (take (lengt
 
   row-marks : take (length (encode (x .form))) w ≡ mark (x .form) 0 0 (replicate (length (encode (x .form))) 0)
   row-marks = rw (x .words) at (x .marks)
+
+  pub prune-apart : apart n (drop (2 + n) row) (drop (2 + n) w) ≡ true
+  prune-apart = ap (λ (r : List ℕ). apart n (drop (2 + n) r) (drop (2 + n) w)) (x .words) ∙ quant-apart (x .form) y n w (the-count row m (length row) x n e y) row-marks
 
   body-items : xs ≡ itemsOf n (y .body)
   body-items = ap (λ (r : List ℕ). items (drop (2 + n) r) (drop (2 + n) w)) (x .words) ∙ quant-items (x .form) y n w (the-count row m (length row) x n e y) row-marks

@@ -9,14 +9,15 @@ use borrow.Author.Tests.{eqb-true, leb-true, le-ltb}
 use lib.Dec.{leb, eqb, ltb}
 use lib.ListN.{length, getD, take, drop, replicate, length-append, take-append-drop}
 use lib.Seq.{drop-at}
-use Rattle.tree.specs.Form.{Form, node, Forms, none, more, pick, between, encode, encodeAll}
+use Rattle.tree.specs.Form.{free, bound, Form, leaf, node, Forms, none, more, pick, between, encode, encodeAll}
 use Rattle.tree.specs.Tag.{pred, ask, kids, own, ownOf, shapeOf, predTags, sorts}
 use Rattle.form.specs.Decode.{Head, head, bad, addWord, addName, only, names, read, isLeaf}
 use Rattle.reader.specs.Internal.Reads.{mark}
 use Rattle.form.proofs.DecodeLaws.{clash, Ok, ok-node, OkAll, ok-none, ok-more}
-use Rattle.shift.specs.Internal.Items.{items}
+use Rattle.shift.specs.Internal.Items.{items, apart}
 use Rattle.rules.proofs.WalkLaws.{and-left, and-right}
 use Rattle.shift.proofs.RowLaws.{itemsOf, marksOf, zeros, zeros-length, items-encode, only-mark}
+use Rattle.shift.proofs.WordwiseLaws.{apart-encode}
 use Rattle.rules.specs.Fill.{quantifier, other, quantified}
 use Rattle.replace.specs.Internal.Pieces.{declaredIn}
 
@@ -166,19 +167,41 @@ not-quant (ok-node {t = t} {o = o} {ds = ds} {p = p} {e = e} {ks = ks} l r w) h 
         absurd (omega arith)
     go false q = other-tag t o ds ks q
 
+some-words : (f : Form) → 0 < length (encode f)
+unfolding encode
+some-words (leaf (free n)) = omega arith
+some-words (leaf (bound n)) = omega arith
+some-words (node t o ds ks) = omega arith
+
 -- its row and its body's items
 items-nil : (m : List ℕ) → items [] m ≡ []
 unfolding items
 items-nil m = refl
 
+apart-nil : (lo : ℕ) (m : List ℕ) → apart lo [] m ≡ true
+unfolding apart
+apart-nil lo m = refl
+
 module _ (t n u : ℕ) (ds : List ℕ) (b : Form) (rest : List ℕ) (e : n ≡ length ds) where
-  node-items : items (drop (2 + n) (encode (node t (length ds ∷ []) ds (more b none)))) (drop (2 + n) (marksOf u (node t (length ds ∷ []) ds (more b none)) ++ rest)) ≡ itemsOf (n + u) b
-  unfolding encode marksOf
-  node-items =
+  abbrev quantNode : Form
+  quantNode = node t (length ds ∷ []) ds (more b none)
+
+  node-words : drop (2 + n) (encode quantNode) ≡ encode b ++ []
+  unfolding encode
+  node-words = let k : 2 + n ≡ suc (suc n) = omega arith in rw (k, drop-at ds (encode b ++ []) n (sym e))
+
+  node-marks : drop (2 + n) (marksOf u quantNode ++ rest) ≡ marksOf (n + u) b ++ rest
+  unfolding marksOf
+  node-marks =
       let k : 2 + n ≡ suc (suc n) = omega arith in
       let x : (zeros ds ++ (marksOf (length ds + u) b ++ [])) ++ rest ≡ zeros ds ++ (marksOf (n + u) b ++ rest) = rw (append-assoc (zeros ds), append-nil, ← e) in
-      rw (k, drop-at ds (encode b ++ []) n (sym e), x, drop-at (zeros ds) (marksOf (n + u) b ++ rest) n (zeros-length ds ∙ sym e))
-      (items-encode (n + u) b [] rest ∙ (rw (items-nil rest) (append-nil (itemsOf (n + u) b))))
+      rw (k, x, drop-at (zeros ds) (marksOf (n + u) b ++ rest) n (zeros-length ds ∙ sym e))
+
+  node-apart : apart n (drop (2 + n) (encode quantNode)) (drop (2 + n) (marksOf u quantNode ++ rest)) ≡ true
+  node-apart = rw (node-words, node-marks) (apart-encode n (n + u) b [] rest (omega arith) ∙ apart-nil n rest)
+
+  node-items : items (drop (2 + n) (encode quantNode)) (drop (2 + n) (marksOf u quantNode ++ rest)) ≡ itemsOf (n + u) b
+  node-items = rw (node-words, node-marks) (items-encode (n + u) b [] rest ∙ (rw (items-nil rest) (append-nil (itemsOf (n + u) b))))
 
 module _ (f : Form) (y : Quant f) where
   pub quant-count : declaredIn (encode f) ≡ length (y .decls)
@@ -193,15 +216,25 @@ module _ (f : Form) (y : Quant f) where
   unfolding encode
   quant-names = rw (y .form, append-nil)
 
-  pub quant-long : 2 + length (y .decls) ≤ length (encode f)
+  pub quant-more : 2 + length (y .decls) < length (encode f)
   unfolding encode
-  quant-long = rw (y .form, length-append (y .decls)) (omega arith)
+  quant-more = let b = some-words (y .body) in rw (y .form, append-nil, length-append (y .decls)) (omega arith)
+
+  pub quant-long : 2 + length (y .decls) ≤ length (encode f)
+  quant-long = let l = quant-more in omega arith
 
   -- under u declarations
   pub quant-items-in : (n u : ℕ) (rest : List ℕ) → n ≡ length (y .decls) → items (drop (2 + n) (encode f)) (drop (2 + n) (marksOf u f ++ rest)) ≡ itemsOf (n + u) (y .body)
   quant-items-in n u rest e = rw (y .form) (node-items (y .tag) n u (y .decls) (y .body) rest e)
 
+  quant-apart-in : (n u : ℕ) (rest : List ℕ) → n ≡ length (y .decls) → apart n (drop (2 + n) (encode f)) (drop (2 + n) (marksOf u f ++ rest)) ≡ true
+  quant-apart-in n u rest e = rw (y .form) (node-apart (y .tag) n u (y .decls) (y .body) rest e)
+
+  marks-front : (m : List ℕ) → take (length (encode f)) m ≡ mark f 0 0 (replicate (length (encode f)) 0) → marksOf 0 f ++ drop (length (encode f)) m ≡ m
+  marks-front m k = rw (← (k ∙ only-mark f)) (take-append-drop (length (encode f)) m)
+
+  pub quant-apart : (n : ℕ) (m : List ℕ) → n ≡ length (y .decls) → take (length (encode f)) m ≡ mark f 0 0 (replicate (length (encode f)) 0) → apart n (drop (2 + n) (encode f)) (drop (2 + n) m) ≡ true
+  quant-apart n m e k = rw (← marks-front m k) (quant-apart-in n 0 (drop (length (encode f)) m) e)
+
   pub quant-items : (n : ℕ) (m : List ℕ) → n ≡ length (y .decls) → take (length (encode f)) m ≡ mark f 0 0 (replicate (length (encode f)) 0) → items (drop (2 + n) (encode f)) (drop (2 + n) m) ≡ itemsOf n (y .body)
-  quant-items n m e k =
-      let q : marksOf 0 f ++ drop (length (encode f)) m ≡ m = rw (← (k ∙ only-mark f)) (take-append-drop (length (encode f)) m) in
-      rw (← q) (rw add-zero at (quant-items-in n 0 (drop (length (encode f)) m) e))
+  quant-items n m e k = rw (← marks-front m k) (rw add-zero at (quant-items-in n 0 (drop (length (encode f)) m) e))

@@ -9,94 +9,71 @@ use crate::pieces::one_if;
 use form::answer::Answer;
 use form::answer::Kind;
 use form::answer::Limit;
-use shift::items::Item;
-use shift::items::item_at;
-use shift::items::put_item;
-use shift::items::size_of;
+use tree::tag::Tag;
 ghost use mathlib.Core.Path.{_≡_};
-ghost use mathlib.Core.List.{[], _∷_};
+ghost use mathlib.Core.Bool.{true};
 ghost use Prim.Native.Nat.{_+_, _-_, _≤_, _<_};
 ghost use lib.ListN.{length, drop};
 ghost use Rattle.form.specs.Answer.{told, written};
-ghost use Rattle.shift.specs.Internal.Items.{Fresh, items, rewritten, store};
+ghost use Rattle.shift.specs.Internal.Items.{Fresh, items, rewritten, apart, wordItem, store};
 ghost use Rattle.rules.specs.Prune.{pruneOutcome};
-ghost use Rattle.replace.specs.Internal.Pieces.{cleared, Falls, fallItem, fallenWords, droppedOutcome};
+ghost use Rattle.replace.specs.Internal.Pieces.{cleared, slotOf, Falls, fallenWords, droppedOutcome};
 
-// Sets the word of the declaration that the item uses, if any, to 0.
-fn clear_use(it: Item, words: &mut [u32])
-    requires { ⌜ length (now words) ≤ 32 ⌝ }
-    ensures { λ _. ⌜ now (words .exit) ≡ cleared (length (now (words .entry))) (now (words .entry)) (it ∷ []) ⌝ }
+fn less_by(a: u64, b: u64) -> u64
+    ensures { λ r. ⌜ r ≡ a - b ⌝ }
 {
-    let Item::Ident(k, t, v) = it else {
-        return;
-    };
-    if t != 2 {
-        return;
+    if a < b {
+        return 0;
     }
-    let n = words.len();
-    let b = less(k, n as u32);
-    if v < b {
-        return;
-    }
-    let j = (v - b) as usize;
-    if j < n {
-        words[n - 1 - j] = 0;
-    }
+    a - b
 }
 
-// The words stand for the declarations, the outermost first: sets the word of each that the items from `from` on use to 0.
-fn clear_used(row: &[u32], marks: &[u32], from: usize, words: &mut [u32])
-    requires { ⌜ length (now words) ≤ 32 ⌝ }
-    ensures { λ _. ⌜ now (words .exit) ≡ cleared (length (now (words .entry))) (now (words .entry)) (items (drop from (now (row .entry))) (drop from (now (marks .entry)))) ⌝ }
+// The slot of the declaration that the word v behind a tag t with the mark m uses: 1 for the outermost of n, 0 for one further out, and
+// `other` where it is no index that dangles in the body. No branch depends on the words.
+fn slot_of(m: u32, t: u32, v: u32, n: u32, other: u32) -> usize
+    requires { ⌜ n ≤ 32 ⌝ }
+    requires { ⌜ ((m ≡ 0 → ⊥) → n < m) ⌝ }
+    ensures { λ r. ⌜ r ≡ slotOf n other (wordItem m t v) ⌝ }
 {
-    let mut i = from;
+    let base = std::num::wrapping_sub_u64(m as u64, (n as u64) + 1);
+    let word = v as u64;
+    let index = std::num::wrapping_sub_u64(word, base);
+    let slot = less_by(n as u64, index);
+    let dangles = (t == Tag::BOUND_IDENT) & (base <= word);
+    if dangles {
+        return slot as usize;
+    }
+    other as usize
+}
+
+// A word for each of n declarations, the outermost first, behind one that is passed over: sets the word of each declaration that the items
+// from `from` on use to 0.
+fn clear_used(row: &[u32], marks: &[u32], from: usize, n: u32, words: &mut [u32])
+    requires { ⌜ (n ≤ 32) × (length (now words) ≡ n + 1) × (length (now row) ≤ length (now marks)) × (from < length (now row)) × (apart n (drop from (now row)) (drop from (now marks)) ≡ true) ⌝ }
+    ensures { λ _. ⌜ drop 1 (now (words .exit)) ≡ cleared n (drop 1 (now (words .entry))) (items (drop from (now (row .entry))) (drop from (now (marks .entry)))) ⌝ }
+{
+    let mut i = from + 1;
     while i < row.len() {
-        let it = item_at(row, marks, i);
-        clear_use(it, words);
-        i += size_of(it);
+        let slot = slot_of(marks[i - 1], row[i - 1], row[i], n, 0);
+        words[slot] = 0;
+        i += 1;
     }
 }
 
-// For each index of the body, and for those further out, how many of the declarations inside it are dropped.
+// For each slot, how many declarations inside it are dropped.
 fn count_falls(words: &[u32], falls: &mut [u32])
     requires { ⌜ length (now words) ≤ 32 ⌝ }
     requires { ⌜ length (now words) < length (now falls) ⌝ }
     ensures { λ _. ⌜ Falls (now (words .entry)) (now (falls .exit)) ⌝ }
 {
-    let n = words.len();
+    let mut s = words.len();
     let mut gone = 0u32;
-    let mut j = 0;
-    falls[0] = 0;
-    while j < n {
-        gone += one_if(words[n - 1 - j]);
-        j += 1;
-        falls[j] = gone;
+    falls[s] = 0;
+    while 0 < s {
+        s -= 1;
+        gone += one_if(words[s]);
+        falls[s] = gone;
     }
-}
-
-// The item, its index fallen by the dropped declarations inside it.
-fn fall_item(words: &[u32], falls: &[u32], it: Item) -> Item
-    requires { ⌜ length (now words) ≤ 32 ⌝ }
-    requires { ⌜ length (now words) < length (now falls) ⌝ }
-    requires { ⌜ Falls (now words) (now falls) ⌝ }
-    ensures { λ r. ⌜ r ≡ fallItem (now (words .entry)) it ⌝ }
-{
-    let Item::Ident(k, t, v) = it else {
-        return it;
-    };
-    if t != 2 {
-        return it;
-    }
-    let n = words.len();
-    let b = less(k, n as u32);
-    if v < b {
-        return it;
-    }
-    let j = (v - b) as usize;
-    if n <= j {
-        return Item::Ident(k, t, less(v, falls[n]));
-    }
-    Item::Ident(k, t, less(v, falls[j]))
 }
 
 // The items from `from` on with their indices fallen, stored at `at`.
@@ -109,26 +86,29 @@ fn write_fallen(
     out: &mut [u32],
     at: usize,
 )
-    requires { ⌜ length (now words) ≤ 32 ⌝ }
-    requires { ⌜ length (now words) < length (now falls) ⌝ }
-    requires { ⌜ Falls (now words) (now falls) ⌝ }
+    requires { ⌜ (length (now words) ≤ 32) × (length (now words) < length (now falls)) × Falls (now words) (now falls) ⌝ }
+    requires { ⌜ (length (now row) ≤ length (now marks)) × (from < length (now row)) × (apart (length (now words)) (drop from (now row)) (drop from (now marks)) ≡ true) ⌝ }
     requires { ⌜ at + (length (now row) - from) ≤ length (now out) ⌝ }
     ensures { λ _. ⌜ now (out .exit) ≡ store (now (out .entry)) at (rewritten (fallenWords (now (words .entry))) (items (drop from (now (row .entry))) (drop from (now (marks .entry))))) ⌝ }
 {
-    let mut i = from;
-    let mut p = at;
+    let n = words.len() as u32;
+    out[at] = row[from];
+    let mut i = from + 1;
+    let mut p = at + 1;
     while i < row.len() {
-        let it = item_at(row, marks, i);
-        put_item(out, p, fall_item(words, falls, it));
-        p += size_of(it);
-        i += size_of(it);
+        let slot = slot_of(marks[i - 1], row[i - 1], row[i], n, n);
+        out[p] = less(row[i], falls[slot]);
+        p += 1;
+        i += 1;
     }
 }
 
 // The row without the declarations whose word is not 0: 9 where no word is, 14 where the output row is shorter.
 fn drop_decls(words: &[u32], row: &[u32], marks: &[u32], out: &mut [u32]) -> Answer
     requires { ⌜ length (now words) ≤ 32 ⌝ }
-    requires { ⌜ 2 + length (now words) ≤ length (now row) ⌝ }
+    requires { ⌜ 2 + length (now words) < length (now row) ⌝ }
+    requires { ⌜ length (now row) ≤ length (now marks) ⌝ }
+    requires { ⌜ apart (length (now words)) (drop (2 + length (now words)) (now row)) (drop (2 + length (now words)) (now marks)) ≡ true ⌝ }
     ensures { λ r. ⌜ r ≡ told (droppedOutcome (now (words .entry)) (now (row .entry)) (now (marks .entry)) (length (now (out .entry)))) ⌝ }
     ensures { λ _. ⌜ now (out .exit) ≡ written (droppedOutcome (now (words .entry)) (now (row .entry)) (now (marks .entry)) (length (now (out .entry)))) (now (out .entry)) ⌝ }
 {
@@ -163,9 +143,9 @@ fn prune_in(row: &[u32], marks: &mut [u32], out: &mut [u32]) -> Answer
         return Answer::No(3);
     }
     let m = n as usize;
-    let mut words = [1u32; 32];
-    clear_used(row, marks, 2 + m, &mut words[..m]);
-    drop_decls(&words[..m], row, marks, out)
+    let mut words = [1u32; 33];
+    clear_used(row, marks, 2 + m, n, &mut words[..m + 1]);
+    drop_decls(&words[1..m + 1], row, marks, out)
 }
 
 // Drops the declarations that the body never uses.

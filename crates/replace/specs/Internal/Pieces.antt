@@ -241,12 +241,23 @@ cleared n (w ∷ ws) xs = pick (allItems (notIndex n (length ws)) xs) w 0 ∷ cl
 unfoldable pub usedWords : ℕ → List Item → List ℕ
 usedWords n xs = cleared n (replicate n 1) xs
 
--- of the words of declarations, from the outermost on, those that are inside index j and not 0; as a table
+-- of the words of declarations, from the outermost on, those that are inside index j and not 0
 unfoldable pub fallsAt : List ℕ → ℕ → ℕ
 fallsAt ws j = filledWords (drop (length ws - j) ws)
 
+-- the slot of the declaration whose index an item is: 1 for the outermost of n, n for the innermost, 0 for one further out; o for any other item
+unfoldable pub slotOf : ℕ → ℕ → Item → ℕ
+slotOf n o (Plain w) = o
+slotOf n o (Ident k t v) = pick (eqb t 2) (pick (ltb v (k - n)) o (n - (v - (k - n)))) o
+
+-- how many of the words are inside a slot and not 0, as a table
 unfoldable pub Falls : List ℕ → List ℕ → Type 0
-Falls ws fs = (j : ℕ) → j ≤ length ws → getD fs j 0 ≡ fallsAt ws j
+Falls ws fs = (s : ℕ) → s ≤ length ws → getD fs s 0 ≡ filledWords (drop s ws)
+
+-- the word v behind a tag t whose mark is m, fallen
+unfoldable pub fallAt : List ℕ → ℕ → ℕ → ℕ → ℕ
+fallAt ws zero t v = v
+fallAt ws (suc k) t v = let b = k - length ws in pick (eqb t 2) (pick (ltb v b) v (v - fallsAt ws (v - b))) v
 
 -- an item of the body, its index fallen by the declarations inside it whose word is not 0
 unfoldable pub fallItem : List ℕ → Item → Item

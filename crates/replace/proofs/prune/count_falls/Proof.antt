@@ -1,12 +1,12 @@
 -- `replace::prune::count_falls` meets its contract. Assumes nothing.
-use mathlib.Core.Path.{_≡_, refl, sym, _∙_}
+use mathlib.Core.Path.{_≡_, refl, sym, ap, _∙_}
 use native.Mathlib.Omega.{arith}
 use borrow.Author.Needs.{needs}
-use Prim.Native.Nat.{ℕ, _-_, _≤_}
-use lib.ListN.{length, getD, length-set}
-use Rattle.replace.specs.Internal.Pieces.{fallsAt}
+use Prim.Native.Nat.{ℕ, _+_, _-_, _≤_}
+use lib.ListN.{length, getD, drop, length-set}
+use Rattle.replace.specs.Internal.Pieces.{filledWords}
 use Rattle.replace.proofs.PieceLaws.{filled-few}
-use Rattle.replace.proofs.FallLaws.{falls-none, falls-next, table-first, table-next, table-made}
+use Rattle.replace.proofs.FallLaws.{falls-none, falls-next, table-next, table-made}
 use Rattle.replace.proofs.prune.count_falls.Statement.{statement}
 use Rattle.replace.proofs.prune.count_falls.Tie as tie
 use Rattle.replace.proofs.prune.count_falls.Reads as reads
@@ -14,55 +14,52 @@ use Rattle.replace.proofs.prune.count_falls.Lts as lts
 use Rattle.replace.proofs.pieces.one_if.Reads as one-if-reads
 
 abbrev Inv-loop : tie.InvT-loop
-Inv-loop words falls₀ n gone₀ j₀ falls gone j = ((i : ℕ) → i ≤ j → getD falls i 0 ≡ fallsAt words i) × (gone ≡ fallsAt words j) × (gone ≤ j) × (length falls ≡ length falls₀)
+Inv-loop words falls₀ s₀ gone₀ falls s gone = ((i : ℕ) → s ≤ i → i ≤ length words → getD falls i 0 ≡ filledWords (drop i words)) × (gone ≡ filledWords (drop s words)) × (gone ≤ length words - s) × (s ≤ length words) × (length falls ≡ length falls₀)
 
 abbrev μ-loop : tie.MeasureT-loop
-μ-loop words falls₀ n gone₀ j₀ falls gone j = length words - j
+μ-loop words falls₀ s₀ gone₀ falls s gone = s
+
+mul-falls : tie.Need-mul-falls Inv-loop μ-loop
+mul-falls c = omega arith
 
 slice-write-falls : tie.Need-slice-write-falls Inv-loop μ-loop
 slice-write-falls c = omega arith
 
 loop-holds : tie.Need-loop-holds Inv-loop μ-loop
-loop-holds c = (table-first (c .before .before .args .words .now) (c .before .before .args .falls .now) (omega arith), sym (falls-none _), omega arith, refl)
+loop-holds c = (table-next (c .before .before .args .words .now) (c .before .before .args .falls .now) (length (c .before .before .args .words .now)) 0 (omega arith) (λ i h l. absurd (omega arith)) (falls-none (c .before .before .args .words .now)), falls-none (c .before .before .args .words .now), omega arith, omega arith, refl)
 
-sub-one-if : tie.Need-sub-one-if Inv-loop μ-loop
-sub-one-if c = omega arith
-
-sub-one-if-2 : tie.Need-sub-one-if-2 Inv-loop μ-loop
-sub-one-if-2 c = omega arith
+sub-s : tie.Need-sub-s Inv-loop μ-loop
+sub-s c = omega arith
 
 mul-one-if : tie.Need-mul-one-if Inv-loop μ-loop
 mul-one-if c = omega arith
 
 shared-slice-read-one-if : tie.Need-shared-slice-read-one-if Inv-loop μ-loop
-shared-slice-read-one-if c = omega arith
+shared-slice-read-one-if c = let l = c .before .before .loop .inv .3 in omega arith
 
 one-if-requires : tie.Need-one-if-requires Inv-loop μ-loop
 one-if-requires c κs = search needs
 
 add-gone : tie.Need-add-gone Inv-loop μ-loop
-add-gone c = let f = filled-few (getD (c .before .before .before .before .before .before .args .words .now) (length (c .before .before .before .before .before .before .args .words .now) - 1 - c .before .before .before .loop .j) 0) in let e = c .one-if .ensures in omega arith
+add-gone c = let f = filled-few (getD (c .before .before .before .before .before .before .args .words .now) (c .before .before .before .loop .s - 1) 0) in let e = c .one-if .ensures in let g = c .before .before .before .loop .inv .2 in omega arith
 
-add-j : tie.Need-add-j Inv-loop μ-loop
-add-j c = omega arith
-
-mul-falls : tie.Need-mul-falls Inv-loop μ-loop
-mul-falls c = omega arith
+mul-falls-2 : tie.Need-mul-falls-2 Inv-loop μ-loop
+mul-falls-2 c = omega arith
 
 slice-write-falls-2 : tie.Need-slice-write-falls-2 Inv-loop μ-loop
-slice-write-falls-2 c = let q = length-set (c .before .before .before .before .before .before .args .falls .now) 0 0 in omega arith
+slice-write-falls-2 c = let q = length-set (c .before .before .before .before .before .before .args .falls .now) (length (c .before .before .before .before .before .before .args .words .now)) 0 in let l = c .before .before .before .loop .inv .3 in let k = c .before .before .before .loop .inv .4 in omega arith
 
 loop-less : tie.Need-loop-less Inv-loop μ-loop
 loop-less c = omega arith
 
 loop-again : tie.Need-loop-again Inv-loop μ-loop
-loop-again c = let b3 = c .before .before .before in let b6 = b3 .before .before .before in (table-next (b6 .args .words .now) (b3 .loop .j) (c .before .before .loop-test .taken) (b3 .loop .falls) _ (let q = length-set (b6 .args .falls .now) 0 0 in omega arith) (b3 .loop .inv .0) (falls-next (b6 .args .words .now) (b3 .loop .j) (c .before .before .loop-test .taken) _ _ (b3 .loop .inv .1) (c .one-if .ensures)), (falls-next (b6 .args .words .now) (b3 .loop .j) (c .before .before .loop-test .taken) _ _ (b3 .loop .inv .1) (c .one-if .ensures)), let f = filled-few (getD (b6 .args .words .now) (length (b6 .args .words .now) - 1 - b3 .loop .j) 0) in let e = c .one-if .ensures in omega arith, length-set (b3 .loop .falls) _ _ ∙ b3 .loop .inv .3)
+loop-again c = let q = length-set (c .before .before .before .before .before .before .args .falls .now) (length (c .before .before .before .before .before .before .args .words .now)) 0 in let l = c .before .before .before .loop .inv .3 in let k = c .before .before .before .loop .inv .4 in let b : c .before .before .before .loop .s - 1 + 1 ≡ c .before .before .before .loop .s = omega arith in let n = falls-next (c .before .before .before .before .before .before .args .words .now) (c .before .before .before .loop .s - 1) (omega arith) (c .before .before .before .loop .gone) _ (rw b (c .before .before .before .loop .inv .1)) (c .one-if .ensures) in (table-next (c .before .before .before .before .before .before .args .words .now) (c .before .before .before .loop .falls) (c .before .before .before .loop .s - 1) _ (omega arith) (λ i h g. c .before .before .before .loop .inv .0 i (omega arith) g) n, n, (let f = filled-few (getD (c .before .before .before .before .before .before .args .words .now) (c .before .before .before .loop .s - 1) 0) in let e = c .one-if .ensures in let g = c .before .before .before .loop .inv .2 in omega arith), omega arith, length-set (c .before .before .before .loop .falls) (c .before .before .before .loop .s - 1) _ ∙ k)
 
 same-length : tie.Need-same-length Inv-loop μ-loop
-same-length c = c .before .loop .inv .3 ∙ length-set (c .before .before .before .before .args .falls .now) 0 0
+same-length c = c .before .loop .inv .4 ∙ length-set (c .before .before .before .before .args .falls .now) (length (c .before .before .before .before .args .words .now)) 0
 
 returns : tie.Need-returns Inv-loop μ-loop
-returns c = table-made _ _ _ (c .loop-test .left) (c .before .loop .inv .0)
+returns c = table-made (c .before .before .before .before .args .words .now) _ (c .before .loop .s) (c .loop-test .left) (c .before .loop .inv .0)
 
 pub count-falls-spec : {M : Type 1} → statement M
 count-falls-spec =
@@ -70,16 +67,15 @@ count-falls-spec =
     (tie.spec
     Inv-loop
     μ-loop
+    mul-falls
     slice-write-falls
     loop-holds
-    sub-one-if
-    sub-one-if-2
+    sub-s
     mul-one-if
     shared-slice-read-one-if
     one-if-requires
     add-gone
-    add-j
-    mul-falls
+    mul-falls-2
     slice-write-falls-2
     loop-less
     loop-again

@@ -1,9 +1,11 @@
 -- `replace::prune::drop_decls` meets its contract. Assumes nothing.
 use mathlib.Core.Path.{refl, sym}
+use native.Mathlib.Nat.{zero-add}
 use lib.Seq.{length-take-le}
 use Rattle.shift.proofs.CheckedLaws.{refused}
 use Rattle.replace.proofs.BuildLaws.{built-fits}
 use Rattle.replace.proofs.FallLaws.{head-fits, same-fits, table-fits, dropped-none, dropped-room, dropped-done}
+use borrow.Author.Needs.{needs}
 use borrow.Author.Needs.{needs}
 use Rattle.replace.proofs.prune.drop_decls.Statement.{statement}
 use Rattle.replace.proofs.prune.drop_decls.Tie as tie
@@ -14,7 +16,6 @@ use Rattle.replace.proofs.fill.write_head.Reads as write-head-reads
 use Rattle.replace.proofs.pieces.filled_from.Reads as filled-from-reads
 use Rattle.replace.proofs.prune.count_falls.Reads as count-falls-reads
 use Rattle.replace.proofs.prune.write_fallen.Reads as write-fallen-reads
-use native.Mathlib.Nat.{zero-add}
 
 filled-from-requires : tie.Need-filled-from-requires
 filled-from-requires c κs = search needs
@@ -38,7 +39,7 @@ add-n : tie.Need-add-n
 add-n c = search needs
 
 returns-2 : tie.Need-returns-2
-returns-2 c = let b4 = c .before .before .before .before in let b10 = b4 .before .before .before .before .before .before in refused _ _ _ _ (dropped-room (b10 .args .words .now) (b10 .args .row .now) (b10 .args .marks .now) _ (b4 .before .filled-from .ensures) (b4 .if1 .left) _ _ _ (c .before .before .write-head .ensures .1) (length-take-le _ _ (built-fits (c .before .before .write-head .kept .1 .1 .0) refl (c .before .before .write-head .ensures .0))) refl _ (c .if2 .taken)) refl
+returns-2 c = refused _ _ _ _ (dropped-room (c .before .before .before .before .before .before .before .before .before .before .args .words .now) (c .before .before .before .before .before .before .before .before .before .before .args .row .now) (c .before .before .before .before .before .before .before .before .before .before .args .marks .now) _ (c .before .before .before .before .before .filled-from .ensures) (c .before .before .before .before .if1 .left) _ _ _ (c .before .before .write-head .ensures .1) (length-take-le _ _ (built-fits (c .before .before .write-head .kept .1 .1 .0) refl (c .before .before .write-head .ensures .0))) refl _ (c .if2 .taken)) refl
 
 slice-aggregate-count-falls : tie.Need-slice-aggregate-count-falls
 slice-aggregate-count-falls c = search needs
@@ -59,13 +60,13 @@ slice-aggregate-write-fallen : tie.Need-slice-aggregate-write-fallen
 slice-aggregate-write-fallen c = search needs
 
 write-fallen-requires : tie.Need-write-fallen-requires
-write-fallen-requires c κs = let b4 = c .before .before .before .before in let b8 = b4 .before .before .before .before in let b20 = b8 .before .before .before .before .before .before .before .before .before .before .before .before in (b20 .pre .0, (table-fits (b20 .pre .0) (b8 .count-falls .kept .1 .0) refl, (b8 .count-falls .ensures, same-fits (b8 .before .before .if2 .left) (b4 .copy .kept .1 .0))))
+write-fallen-requires c κs = ((c .before .before .before .before .before .before .before .before .before .before .before .before .before .before .before .before .before .before .before .before .pre .0, table-fits (c .before .before .before .before .before .before .before .before .before .before .before .before .before .before .before .before .before .before .before .before .pre .0) (c .before .before .before .before .before .before .before .before .count-falls .kept .1 .0) refl, c .before .before .before .before .before .before .before .before .count-falls .ensures), ((c .before .before .before .before .before .before .before .before .before .before .before .before .before .before .before .before .before .before .before .before .pre .1 .1 .0, c .before .before .before .before .before .before .before .before .before .before .before .before .before .before .before .before .before .before .before .before .pre .1 .0, c .before .before .before .before .before .before .before .before .before .before .before .before .before .before .before .before .before .before .before .before .pre .1 .1 .1), same-fits (c .before .before .before .before .before .before .before .before .before .before .if2 .left) (c .before .before .before .before .copy .kept .1 .0)))
 
 same-length : tie.Need-same-length
 same-length c = search needs
 
 returns-3 : tie.Need-returns-3
-returns-3 c = let b7 = c .before .before .before .before .before .before .before in let b13 = b7 .before .before .before .before .before .before in let b17 = b13 .before .before .before .before in let b23 = b17 .before .before .before .before .before .before in dropped-done (b23 .args .words .now) (b23 .args .row .now) (b23 .args .marks .now) _ (b17 .before .filled-from .ensures) (b17 .if1 .left) _ _ _ (b13 .before .before .write-head .ensures .1) (length-take-le _ _ (built-fits (b13 .before .before .write-head .kept .1 .1 .0) refl (b13 .before .before .write-head .ensures .0))) refl _ _ _ (b7 .copy .ensures) (c .before .before .write-fallen .ensures) (b13 .if2 .left)
+returns-3 c = dropped-done (c .before .before .before .before .before .before .before .before .before .before .before .before .before .before .before .before .before .before .before .before .before .before .before .args .words .now) (c .before .before .before .before .before .before .before .before .before .before .before .before .before .before .before .before .before .before .before .before .before .before .before .args .row .now) (c .before .before .before .before .before .before .before .before .before .before .before .before .before .before .before .before .before .before .before .before .before .before .before .args .marks .now) _ (c .before .before .before .before .before .before .before .before .before .before .before .before .before .before .before .before .before .before .filled-from .ensures) (c .before .before .before .before .before .before .before .before .before .before .before .before .before .before .before .before .before .if1 .left) _ _ _ (c .before .before .before .before .before .before .before .before .before .before .before .before .before .before .before .write-head .ensures .1) (length-take-le _ _ (built-fits (c .before .before .before .before .before .before .before .before .before .before .before .before .before .before .before .write-head .kept .1 .1 .0) refl (c .before .before .before .before .before .before .before .before .before .before .before .before .before .before .before .write-head .ensures .0))) refl _ _ _ (c .before .before .before .before .before .before .before .copy .ensures) (c .before .before .write-fallen .ensures) (c .before .before .before .before .before .before .before .before .before .before .before .before .before .if2 .left)
 
 pub drop-decls-spec : {M : Type 1} → statement M
 drop-decls-spec =

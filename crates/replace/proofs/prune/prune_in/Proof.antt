@@ -1,9 +1,12 @@
 -- `replace::prune::prune_in` meets its contract. Assumes nothing.
 use mathlib.Core.Path.{refl, sym}
+use native.Mathlib.Omega.{arith}
 use lib.ListN.{length}
 use Rattle.form.specs.declared.answer.Kind.the-variants.{Predicate}
 use Rattle.shift.proofs.CheckedLaws.{refused, passed, is-missing, checked}
-use Rattle.replace.proofs.PruneLaws.{ones-length, used-made, used-long, used-fits, prune-missing, prune-other, prune-few, prune-fits, prune-row}
+use Rattle.replace.proofs.FallLaws.{same-fits}
+use Rattle.replace.proofs.PruneLaws.{ones-length, used-made, used-long, used-fits, prune-missing, prune-other, prune-few, prune-more, prune-apart, prune-row}
+use borrow.Author.Needs.{needs}
 use borrow.Author.Needs.{needs}
 use Rattle.replace.proofs.prune.prune_in.Statement.{statement}
 use Rattle.replace.proofs.prune.prune_in.Tie as tie
@@ -36,7 +39,7 @@ same-length-2 : tie.Need-same-length-2
 same-length-2 c = search needs
 
 returns-2 : tie.Need-returns-2
-returns-2 c = let b3 = c .before .before .before in let b7 = b3 .before .before .before .before in let b12 = b7 .before .before .before .before .before in refused _ _ _ _ (prune-other _ _ _ (checked Predicate (b12 .args .row .now) _ (length (b12 .args .row .now)) _ refl _ _ (b12 .pre .short) (b7 .mark-fresh .ensures .0) (b3 .k .given .1) (b7 .mark-fresh .ensures .1)) _ (c .before .declared .ensures) (c .if1 .taken)) refl
+returns-2 c = refused _ _ _ _ (prune-other _ _ _ (checked Predicate (c .before .before .before .before .before .before .before .before .before .before .before .before .args .row .now) _ (length (c .before .before .before .before .before .before .before .before .before .before .before .before .args .row .now)) _ refl _ _ (c .before .before .before .before .before .before .before .before .before .before .before .before .pre .short) (c .before .before .before .before .before .before .before .mark-fresh .ensures .0) (c .before .before .before .k .given .1) (c .before .before .before .before .before .before .before .mark-fresh .ensures .1)) _ (c .before .declared .ensures) (c .if1 .taken)) refl
 
 cast-m : tie.Need-cast-m
 cast-m c = search needs
@@ -44,23 +47,32 @@ cast-m c = search needs
 add-clear-used : tie.Need-add-clear-used
 add-clear-used c = search needs
 
+add-words : tie.Need-add-words
+add-words c = search needs
+
 array-borrow-prefix-words : tie.Need-array-borrow-prefix-words
-array-borrow-prefix-words c = let b4 = c .before .before .before .before in let b8 = b4 .before .before .before .before in let b13 = b8 .before .before .before .before .before in (prune-few _ 0 _ (checked Predicate (b13 .args .row .now) _ (length (b13 .args .row .now)) _ refl _ _ (b13 .pre .short) (b8 .mark-fresh .ensures .0) (b4 .k .given .1) (b8 .mark-fresh .ensures .1)) _ (c .before .before .declared .ensures) (c .before .if1 .left))
+array-borrow-prefix-words c = let f = (prune-few _ 0 _ (checked Predicate (c .before .before .before .before .before .before .before .before .before .before .before .before .before .args .row .now) _ (length (c .before .before .before .before .before .before .before .before .before .before .before .before .before .args .row .now)) _ refl _ _ (c .before .before .before .before .before .before .before .before .before .before .before .before .before .pre .short) (c .before .before .before .before .before .before .before .before .mark-fresh .ensures .0) (c .before .before .before .before .k .given .1) (c .before .before .before .before .before .before .before .before .mark-fresh .ensures .1)) _ (c .before .before .declared .ensures) (c .before .if1 .left)) in omega arith
 
 slice-aggregate-clear-used : tie.Need-slice-aggregate-clear-used
-slice-aggregate-clear-used c = let b3 = c .before .before .before in let b9 = b3 .before .before .before .before .before .before in let b14 = b9 .before .before .before .before .before in sym (ones-length (b3 .declared .result) (prune-few _ 0 _ (checked Predicate (b14 .args .row .now) _ (length (b14 .args .row .now)) _ refl _ _ (b14 .pre .short) (b9 .mark-fresh .ensures .0) (b3 .before .before .k .given .1) (b9 .mark-fresh .ensures .1)) _ (b3 .declared .ensures) (c .before .before .if1 .left)))
+slice-aggregate-clear-used c = sym (ones-length (c .before .before .before .declared .result) (prune-few _ 0 _ (checked Predicate (c .before .before .before .before .before .before .before .before .before .before .before .before .before .before .args .row .now) _ (length (c .before .before .before .before .before .before .before .before .before .before .before .before .before .before .args .row .now)) _ refl _ _ (c .before .before .before .before .before .before .before .before .before .before .before .before .before .before .pre .short) (c .before .before .before .before .before .before .before .before .before .mark-fresh .ensures .0) (c .before .before .before .before .before .k .given .1) (c .before .before .before .before .before .before .before .before .before .mark-fresh .ensures .1)) _ (c .before .before .before .declared .ensures) (c .before .before .if1 .left)))
 
 clear-used-requires : tie.Need-clear-used-requires
-clear-used-requires c κs = let b3 = c .before .before .before in let b9 = b3 .before .before .before .before .before .before in let b14 = b9 .before .before .before .before .before in rw (ones-length (b3 .declared .result) (prune-few _ 0 _ (checked Predicate (b14 .args .row .now) _ (length (b14 .args .row .now)) _ refl _ _ (b14 .pre .short) (b9 .mark-fresh .ensures .0) (b3 .before .before .k .given .1) (b9 .mark-fresh .ensures .1)) _ (b3 .declared .ensures) (c .before .before .if1 .left))) (prune-few _ 0 _ (checked Predicate (b14 .args .row .now) _ (length (b14 .args .row .now)) _ refl _ _ (b14 .pre .short) (b9 .mark-fresh .ensures .0) (b3 .before .before .k .given .1) (b9 .mark-fresh .ensures .1)) _ (b3 .declared .ensures) (c .before .before .if1 .left))
+clear-used-requires c κs = ((prune-few _ 0 _ (checked Predicate (c .before .before .before .before .before .before .before .before .before .before .before .before .before .before .args .row .now) _ (length (c .before .before .before .before .before .before .before .before .before .before .before .before .before .before .args .row .now)) _ refl _ _ (c .before .before .before .before .before .before .before .before .before .before .before .before .before .before .pre .short) (c .before .before .before .before .before .before .before .before .before .mark-fresh .ensures .0) (c .before .before .before .before .before .k .given .1) (c .before .before .before .before .before .before .before .before .before .mark-fresh .ensures .1)) _ (c .before .before .before .declared .ensures) (c .before .before .if1 .left)), ones-length (c .before .before .before .declared .result) (prune-few _ 0 _ (checked Predicate (c .before .before .before .before .before .before .before .before .before .before .before .before .before .before .args .row .now) _ (length (c .before .before .before .before .before .before .before .before .before .before .before .before .before .before .args .row .now)) _ refl _ _ (c .before .before .before .before .before .before .before .before .before .before .before .before .before .before .pre .short) (c .before .before .before .before .before .before .before .before .before .mark-fresh .ensures .0) (c .before .before .before .before .before .k .given .1) (c .before .before .before .before .before .before .before .before .before .mark-fresh .ensures .1)) _ (c .before .before .before .declared .ensures) (c .before .before .if1 .left)), (same-fits (c .before .before .before .before .before .before .before .before .before .before .before .before .before .before .pre .enough) (c .before .before .before .before .before .before .before .before .before .mark-fresh .kept .1 .1 .0)), (prune-more _ 0 _ (checked Predicate (c .before .before .before .before .before .before .before .before .before .before .before .before .before .before .args .row .now) _ (length (c .before .before .before .before .before .before .before .before .before .before .before .before .before .before .args .row .now)) _ refl _ _ (c .before .before .before .before .before .before .before .before .before .before .before .before .before .before .pre .short) (c .before .before .before .before .before .before .before .before .before .mark-fresh .ensures .0) (c .before .before .before .before .before .k .given .1) (c .before .before .before .before .before .before .before .before .before .mark-fresh .ensures .1)) _ (c .before .before .before .declared .ensures) (c .before .before .if1 .left)), (prune-apart (c .before .before .before .before .before .before .before .before .before .before .before .before .before .before .args .row .now) (c .before .before .before .before .before .before .before .before .before .mark-fresh .last .1 .1 .0) 0 (checked Predicate (c .before .before .before .before .before .before .before .before .before .before .before .before .before .before .args .row .now) _ (length (c .before .before .before .before .before .before .before .before .before .before .before .before .before .before .args .row .now)) _ refl _ _ (c .before .before .before .before .before .before .before .before .before .before .before .before .before .before .pre .short) (c .before .before .before .before .before .before .before .before .before .mark-fresh .ensures .0) (c .before .before .before .before .before .k .given .1) (c .before .before .before .before .before .before .before .before .before .mark-fresh .ensures .1)) _ (c .before .before .before .declared .ensures) (c .before .before .if1 .left)))
 
-array-share-prefix-words : tie.Need-array-share-prefix-words
-array-share-prefix-words c = let b4 = c .before .before .before .before in let b7 = b4 .before .before .before in let b11 = b7 .before .before .before .before in let b16 = b11 .before .before .before .before .before in used-fits (b4 .before .declared .result) (prune-few _ 0 _ (checked Predicate (b16 .args .row .now) _ (length (b16 .args .row .now)) _ refl _ _ (b16 .pre .short) (b11 .mark-fresh .ensures .0) (b7 .k .given .1) (b11 .mark-fresh .ensures .1)) _ (b4 .before .declared .ensures) (b4 .if1 .left)) _ _ (c .before .clear-used .ensures)
+add-drop-decls : tie.Need-add-drop-decls
+add-drop-decls c = search needs
 
-slice-aggregate-drop-decls : tie.Need-slice-aggregate-drop-decls
-slice-aggregate-drop-decls c = let b5 = c .before .before .before .before .before in let b8 = b5 .before .before .before in let b12 = b8 .before .before .before .before in let b17 = b12 .before .before .before .before .before in sym (used-long (b5 .before .declared .result) (prune-few _ 0 _ (checked Predicate (b17 .args .row .now) _ (length (b17 .args .row .now)) _ refl _ _ (b17 .pre .short) (b12 .mark-fresh .ensures .0) (b8 .k .given .1) (b12 .mark-fresh .ensures .1)) _ (b5 .before .declared .ensures) (b5 .if1 .left)) _ _ (c .before .before .clear-used .ensures))
+sub-drop-decls : tie.Need-sub-drop-decls
+sub-drop-decls c = search needs
+
+part-drop-decls-start : tie.Need-part-drop-decls-start
+part-drop-decls-start c = search needs
+
+part-drop-decls-end : tie.Need-part-drop-decls-end
+part-drop-decls-end c = used-fits (c .before .before .before .before .before .before .declared .result) (prune-few _ 0 _ (checked Predicate (c .before .before .before .before .before .before .before .before .before .before .before .before .before .before .before .before .before .args .row .now) _ (length (c .before .before .before .before .before .before .before .before .before .before .before .before .before .before .before .before .before .args .row .now)) _ refl _ _ (c .before .before .before .before .before .before .before .before .before .before .before .before .before .before .before .before .before .pre .short) (c .before .before .before .before .before .before .before .before .before .before .before .before .mark-fresh .ensures .0) (c .before .before .before .before .before .before .before .before .k .given .1) (c .before .before .before .before .before .before .before .before .before .before .before .before .mark-fresh .ensures .1)) _ (c .before .before .before .before .before .before .declared .ensures) (c .before .before .before .before .before .if1 .left)) _ (c .before .before .clear-used .last .1 .1 .1 .1 .0) (c .before .before .clear-used .kept .1 .1 .1 .1 .0) (c .before .before .clear-used .ensures)
 
 drop-decls-requires : tie.Need-drop-decls-requires
-drop-decls-requires c κs = let b4 = c .before .before .before .before in let b7 = b4 .before .before .before in let b10 = b7 .before .before .before in let b14 = b10 .before .before .before .before in let b19 = b14 .before .before .before .before .before in (rw (used-long (b7 .before .declared .result) (prune-few _ 0 _ (checked Predicate (b19 .args .row .now) _ (length (b19 .args .row .now)) _ refl _ _ (b19 .pre .short) (b14 .mark-fresh .ensures .0) (b10 .k .given .1) (b14 .mark-fresh .ensures .1)) _ (b7 .before .declared .ensures) (b7 .if1 .left)) _ _ (b4 .clear-used .ensures)) (prune-few _ 0 _ (checked Predicate (b19 .args .row .now) _ (length (b19 .args .row .now)) _ refl _ _ (b19 .pre .short) (b14 .mark-fresh .ensures .0) (b10 .k .given .1) (b14 .mark-fresh .ensures .1)) _ (b7 .before .declared .ensures) (b7 .if1 .left)), rw (used-long (b7 .before .declared .result) (prune-few _ 0 _ (checked Predicate (b19 .args .row .now) _ (length (b19 .args .row .now)) _ refl _ _ (b19 .pre .short) (b14 .mark-fresh .ensures .0) (b10 .k .given .1) (b14 .mark-fresh .ensures .1)) _ (b7 .before .declared .ensures) (b7 .if1 .left)) _ _ (b4 .clear-used .ensures)) (prune-fits _ 0 _ (checked Predicate (b19 .args .row .now) _ (length (b19 .args .row .now)) _ refl _ _ (b19 .pre .short) (b14 .mark-fresh .ensures .0) (b10 .k .given .1) (b14 .mark-fresh .ensures .1)) _ (b7 .before .declared .ensures) (b7 .if1 .left)))
+drop-decls-requires c κs = let l = used-long (c .before .before .before .before .before .before .before .before .before .declared .result) (prune-few _ 0 _ (checked Predicate (c .before .before .before .before .before .before .before .before .before .before .before .before .before .before .before .before .before .before .before .before .args .row .now) _ (length (c .before .before .before .before .before .before .before .before .before .before .before .before .before .before .before .before .before .before .before .before .args .row .now)) _ refl _ _ (c .before .before .before .before .before .before .before .before .before .before .before .before .before .before .before .before .before .before .before .before .pre .short) (c .before .before .before .before .before .before .before .before .before .before .before .before .before .before .before .mark-fresh .ensures .0) (c .before .before .before .before .before .before .before .before .before .before .before .k .given .1) (c .before .before .before .before .before .before .before .before .before .before .before .before .before .before .before .mark-fresh .ensures .1)) _ (c .before .before .before .before .before .before .before .before .before .declared .ensures) (c .before .before .before .before .before .before .before .before .if1 .left)) _ (c .before .before .before .before .before .clear-used .last .1 .1 .1 .1 .0) (c .before .before .before .before .before .clear-used .kept .1 .1 .1 .1 .0) (c .before .before .before .before .before .clear-used .ensures) in (rw l (prune-few _ 0 _ (checked Predicate (c .before .before .before .before .before .before .before .before .before .before .before .before .before .before .before .before .before .before .before .before .args .row .now) _ (length (c .before .before .before .before .before .before .before .before .before .before .before .before .before .before .before .before .before .before .before .before .args .row .now)) _ refl _ _ (c .before .before .before .before .before .before .before .before .before .before .before .before .before .before .before .before .before .before .before .before .pre .short) (c .before .before .before .before .before .before .before .before .before .before .before .before .before .before .before .mark-fresh .ensures .0) (c .before .before .before .before .before .before .before .before .before .before .before .k .given .1) (c .before .before .before .before .before .before .before .before .before .before .before .before .before .before .before .mark-fresh .ensures .1)) _ (c .before .before .before .before .before .before .before .before .before .declared .ensures) (c .before .before .before .before .before .before .before .before .if1 .left)), (rw l (prune-more _ 0 _ (checked Predicate (c .before .before .before .before .before .before .before .before .before .before .before .before .before .before .before .before .before .before .before .before .args .row .now) _ (length (c .before .before .before .before .before .before .before .before .before .before .before .before .before .before .before .before .before .before .before .before .args .row .now)) _ refl _ _ (c .before .before .before .before .before .before .before .before .before .before .before .before .before .before .before .before .before .before .before .before .pre .short) (c .before .before .before .before .before .before .before .before .before .before .before .before .before .before .before .mark-fresh .ensures .0) (c .before .before .before .before .before .before .before .before .before .before .before .k .given .1) (c .before .before .before .before .before .before .before .before .before .before .before .before .before .before .before .mark-fresh .ensures .1)) _ (c .before .before .before .before .before .before .before .before .before .declared .ensures) (c .before .before .before .before .before .before .before .before .if1 .left)), ((same-fits (c .before .before .before .before .before .before .before .before .before .before .before .before .before .before .before .before .before .before .before .before .pre .enough) (c .before .before .before .before .before .before .before .before .before .before .before .before .before .before .before .mark-fresh .kept .1 .1 .0)), rw l (prune-apart (c .before .before .before .before .before .before .before .before .before .before .before .before .before .before .before .before .before .before .before .before .args .row .now) (c .before .before .before .before .before .before .before .before .before .before .before .before .before .before .before .mark-fresh .last .1 .1 .0) 0 (checked Predicate (c .before .before .before .before .before .before .before .before .before .before .before .before .before .before .before .before .before .before .before .before .args .row .now) _ (length (c .before .before .before .before .before .before .before .before .before .before .before .before .before .before .before .before .before .before .before .before .args .row .now)) _ refl _ _ (c .before .before .before .before .before .before .before .before .before .before .before .before .before .before .before .before .before .before .before .before .pre .short) (c .before .before .before .before .before .before .before .before .before .before .before .before .before .before .before .mark-fresh .ensures .0) (c .before .before .before .before .before .before .before .before .before .before .before .k .given .1) (c .before .before .before .before .before .before .before .before .before .before .before .before .before .before .before .mark-fresh .ensures .1)) _ (c .before .before .before .before .before .before .before .before .before .declared .ensures) (c .before .before .before .before .before .before .before .before .if1 .left)))))
 
 same-length-3 : tie.Need-same-length-3
 same-length-3 c = search needs
@@ -69,7 +81,7 @@ same-length-4 : tie.Need-same-length-4
 same-length-4 c = search needs
 
 returns-3 : tie.Need-returns-3
-returns-3 c = let b7 = c .before .before .before .before .before .before .before in let b10 = b7 .before .before .before in let b13 = b10 .before .before .before in let b17 = b13 .before .before .before .before in let b22 = b17 .before .before .before .before .before in passed _ _ _ _ _ (prune-row (b22 .args .row .now) (b17 .mark-fresh .last .1 .1 .0) _ (checked Predicate (b22 .args .row .now) _ (length (b22 .args .row .now)) _ refl _ _ (b22 .pre .short) (b17 .mark-fresh .ensures .0) (b13 .k .given .1) (b17 .mark-fresh .ensures .1)) _ (b10 .before .declared .ensures) (b10 .if1 .left) _ (used-made (b10 .before .declared .result) (prune-few _ 0 _ (checked Predicate (b22 .args .row .now) _ (length (b22 .args .row .now)) _ refl _ _ (b22 .pre .short) (b17 .mark-fresh .ensures .0) (b13 .k .given .1) (b17 .mark-fresh .ensures .1)) _ (b10 .before .declared .ensures) (b10 .if1 .left)) _ _ (b7 .clear-used .ensures))) (c .before .before .drop-decls .ensures)
+returns-3 c = passed _ _ _ _ _ (prune-row (c .before .before .before .before .before .before .before .before .before .before .before .before .before .before .before .before .before .before .before .before .before .before .before .args .row .now) (c .before .before .before .before .before .before .before .before .before .before .before .before .before .before .before .before .before .before .mark-fresh .last .1 .1 .0) _ (checked Predicate (c .before .before .before .before .before .before .before .before .before .before .before .before .before .before .before .before .before .before .before .before .before .before .before .args .row .now) _ (length (c .before .before .before .before .before .before .before .before .before .before .before .before .before .before .before .before .before .before .before .before .before .before .before .args .row .now)) _ refl _ _ (c .before .before .before .before .before .before .before .before .before .before .before .before .before .before .before .before .before .before .before .before .before .before .before .pre .short) (c .before .before .before .before .before .before .before .before .before .before .before .before .before .before .before .before .before .before .mark-fresh .ensures .0) (c .before .before .before .before .before .before .before .before .before .before .before .before .before .before .k .given .1) (c .before .before .before .before .before .before .before .before .before .before .before .before .before .before .before .before .before .before .mark-fresh .ensures .1)) _ (c .before .before .before .before .before .before .before .before .before .before .before .before .declared .ensures) (c .before .before .before .before .before .before .before .before .before .before .before .if1 .left) _ (used-made (c .before .before .before .before .before .before .before .before .before .before .before .before .declared .result) (prune-few _ 0 _ (checked Predicate (c .before .before .before .before .before .before .before .before .before .before .before .before .before .before .before .before .before .before .before .before .before .before .before .args .row .now) _ (length (c .before .before .before .before .before .before .before .before .before .before .before .before .before .before .before .before .before .before .before .before .before .before .before .args .row .now)) _ refl _ _ (c .before .before .before .before .before .before .before .before .before .before .before .before .before .before .before .before .before .before .before .before .before .before .before .pre .short) (c .before .before .before .before .before .before .before .before .before .before .before .before .before .before .before .before .before .before .mark-fresh .ensures .0) (c .before .before .before .before .before .before .before .before .before .before .before .before .before .before .k .given .1) (c .before .before .before .before .before .before .before .before .before .before .before .before .before .before .before .before .before .before .mark-fresh .ensures .1)) _ (c .before .before .before .before .before .before .before .before .before .before .before .before .declared .ensures) (c .before .before .before .before .before .before .before .before .before .before .before .if1 .left)) _ (c .before .before .before .before .before .before .before .before .clear-used .last .1 .1 .1 .1 .0) (c .before .before .before .before .before .before .before .before .clear-used .kept .1 .1 .1 .1 .0) (c .before .before .before .before .before .before .before .before .clear-used .ensures))) (c .before .before .drop-decls .ensures)
 
 pub prune-in-spec : {M : Type 1} → statement M
 prune-in-spec =
@@ -85,11 +97,14 @@ prune-in-spec =
     returns-2
     cast-m
     add-clear-used
+    add-words
     array-borrow-prefix-words
     slice-aggregate-clear-used
     clear-used-requires
-    array-share-prefix-words
-    slice-aggregate-drop-decls
+    add-drop-decls
+    sub-drop-decls
+    part-drop-decls-start
+    part-drop-decls-end
     drop-decls-requires
     same-length-3
     same-length-4

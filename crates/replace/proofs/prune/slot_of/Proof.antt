@@ -1,0 +1,38 @@
+-- `replace::prune::slot_of` meets its contract. Assumes nothing.
+use Rattle.replace.proofs.SlotLaws.{slot-in, slot-out}
+use borrow.Author.Needs.{needs}
+use Rattle.replace.proofs.prune.slot_of.Statement.{statement}
+use Rattle.replace.proofs.prune.slot_of.Tie as tie
+use Rattle.replace.proofs.prune.slot_of.Reads as reads
+use Rattle.replace.proofs.prune.slot_of.Lts as lts
+use Rattle.replace.proofs.prune.less_by.Reads as less-by-reads
+use Rattle.std.proofs.num.wrapping_sub_u64.Reads as wrapping-sub-u64-reads
+
+add-wrapping-sub-u64 : tie.Need-add-wrapping-sub-u64
+add-wrapping-sub-u64 c = search needs
+
+wrapping-sub-u64-requires : tie.Need-wrapping-sub-u64-requires
+wrapping-sub-u64-requires c κs = search needs
+
+wrapping-sub-u64-requires-2 : tie.Need-wrapping-sub-u64-requires-2
+wrapping-sub-u64-requires-2 c κs = search needs
+
+less-by-requires : tie.Need-less-by-requires
+less-by-requires c κs = search needs
+
+returns : tie.Need-returns
+returns c = slot-in _ _ _ _ _ _ _ (c .before .before .before .before .pre .0) (c .before .before .before .before .fits .v .fits) (c .before .before .before .wrapping-sub-u64 .ok) (c .before .before .wrapping-sub-u642 .ok) (c .before .before .wrapping-sub-u642 .ensures) (c .before .less-by .ensures) _ (c .before .before .before .before .pre .1) (c .before .before .before .before .fits .m .fits) (c .before .before .before .wrapping-sub-u64 .ensures) (c .if1 .taken)
+
+returns-2 : tie.Need-returns-2
+returns-2 c = slot-out _ _ _ _ _ _ _ (c .before .before .before .before .pre .0) (c .before .before .before .before .fits .v .fits) (c .before .before .before .wrapping-sub-u64 .ok) (c .before .before .wrapping-sub-u642 .ok) (c .before .before .wrapping-sub-u642 .ensures) (c .before .less-by .ensures) _ (c .before .before .before .before .pre .1) (c .before .before .before .before .fits .m .fits) (c .before .before .before .wrapping-sub-u64 .ensures) (c .if1 .left)
+
+pub slot-of-spec : {M : Type 1} → statement M
+slot-of-spec =
+    tie.close
+    (tie.spec
+    add-wrapping-sub-u64
+    wrapping-sub-u64-requires
+    wrapping-sub-u64-requires-2
+    less-by-requires
+    returns
+    returns-2)
