@@ -3,6 +3,7 @@ use mathlib.Core.Path.{_≡_, refl, ap, sym, _∙_}
 use mathlib.Core.Bool.{Bool, true, false, not, _&&_}
 use mathlib.Core.List.{List, [], _∷_}
 use Prim.Native.Nat.{ℕ, suc, _+_, _-_, _≤_, _<_}
+use native.Mathlib.Nat.{le-refl}
 use native.Mathlib.Omega.{arith}
 use borrow.Author.Tests.{lt-ltb, le-ltb, ltb-true, ltb-false, eq-eqb, ne-eqb, eqb-true, eqb-false}
 use lib.Dec.{eqb, ltb}
@@ -93,18 +94,21 @@ module _ (ws : List ℕ) {x : Item} {k t v : ℕ} (is : x ≡ Ident k t v) where
           sym (uses-one (length ws) x (v - b) (rw (test (v - b), eq-eqb (v - b) (v - b) refl)) (λ i z. rw (test i, ne-eqb i (v - b) z)) ws o)
 
 -- the slot of an item, behind the word that is passed over
-slot-low : (n o : ℕ) (x : Item) → o ≤ n → slotOf n o x ≤ n
+slot-low : (n o b : ℕ) (x : Item) → n ≤ b → o ≤ b → slotOf n o x ≤ b
 unfolding slotOf
-slot-low n o (Plain w) h = h
-slot-low n o (Ident k t v) h = go (eqb t 2) (ltb v (k - n))
+slot-low n o b (Plain w) g h = h
+slot-low n o b (Ident k t v) g h = go (eqb t 2) (ltb v (k - n))
   where
-    go : (a b : Bool) → pick a (pick b o (n - (v - (k - n)))) o ≤ n
+    go : (a c : Bool) → pick a (pick c o (n - (v - (k - n)))) o ≤ b
     go true true = h
     go true false = omega arith
-    go false b = h
+    go false c = h
 
 pub slot-fits : (n o s : ℕ) (x : Item) → o ≤ n → s ≡ slotOf n o x → s ≤ n
-slot-fits n o s x h e = rw e (slot-low n o x h)
+slot-fits n o s x h e = rw e (slot-low n o n x (le-refl n) h)
+
+pub slot-top : (n s : ℕ) (x : Item) → s ≡ slotOf n (n + 1) x → s ≤ n + 1
+slot-top n s x e = rw e (slot-low n (n + 1) (n + 1) x (omega arith) (le-refl (n + 1)))
 
 pub zero-le : (n : ℕ) → 0 ≤ n
 zero-le n = omega arith

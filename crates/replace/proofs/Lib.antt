@@ -14,6 +14,8 @@ pub mod SlotLaws
 pub mod ClearLaws
 pub mod FallLaws
 pub mod FallTree
+pub mod SpliceLaws
+pub mod SpliceSlots
 pub mod PruneLaws
 pub mod ReadyLaws
 pub mod TreeLaws

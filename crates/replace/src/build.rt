@@ -3,7 +3,7 @@ use crate::pieces::Rule;
 use crate::pieces::longest_part;
 use crate::pieces::words_between;
 use crate::pieces::words_needed;
-use crate::pieces::write_pieces;
+use crate::splice::write_spliced;
 use form::answer::Answer;
 use form::answer::Kind;
 use form::answer::Limit;
@@ -133,7 +133,7 @@ fn write_words(
     ensures { λ _. ⌜ now (out .exit) ≡ store (now (out .entry)) 0 (replacedWords (now (head .entry)) (planFor rule (now (words .entry)) (now (starts .entry)) (now (ends .entry))) (now (list .entry)) (now («list_marks» .entry)) (drop from (now (row .entry))) (drop from (now (marks .entry)))) ⌝ }
 {
     copy(head, out, 0);
-    write_pieces(
+    write_spliced(
         rule,
         words,
         starts,

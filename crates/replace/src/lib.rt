@@ -7,4 +7,6 @@ mod marks;
 mod pieces;
 pub mod places;
 pub mod prune;
+mod slots;
 pub mod small;
+mod splice;

@@ -46,7 +46,7 @@ pub fn less(a: u32, b: u32) -> u32
 }
 
 // Where a name stands first; the length where it does not.
-fn index_of(names: &[u32], m: u32) -> usize
+pub(crate) fn index_of(names: &[u32], m: u32) -> usize
     ensures { λ r. ⌜ r ≡ spot m (now (names .entry)) ⌝ }
 {
     let mut i = 0;
@@ -226,7 +226,14 @@ pub(crate) fn write_part(row: &[u32], marks: &[u32], up: u32, down: u32, out: &m
     }
 }
 
-fn write_piece(list: &[u32], list_marks: &[u32], piece: Piece, it: Item, out: &mut [u32], at: usize)
+pub(crate) fn write_piece(
+    list: &[u32],
+    list_marks: &[u32],
+    piece: Piece,
+    it: Item,
+    out: &mut [u32],
+    at: usize,
+)
     requires { ⌜ Fits piece (length (now list)) ⌝ }
     requires { ⌜ length (now list) ≤ length (now «list_marks») ⌝ }
     requires { ⌜ at + pieceSize piece it ≤ length (now out) ⌝ }

@@ -6,45 +6,18 @@ use crate::marks::mark_fresh;
 use crate::pieces::filled_from;
 use crate::pieces::less;
 use crate::pieces::one_if;
+use crate::slots::slot_of;
 use form::answer::Answer;
 use form::answer::Kind;
 use form::answer::Limit;
-use tree::tag::Tag;
 ghost use mathlib.Core.Path.{_≡_};
 ghost use mathlib.Core.Bool.{true};
 ghost use Prim.Native.Nat.{_+_, _-_, _≤_, _<_};
 ghost use lib.ListN.{length, drop};
 ghost use Rattle.form.specs.Answer.{told, written};
-ghost use Rattle.shift.specs.Internal.Items.{Fresh, items, rewritten, apart, wordItem, store};
+ghost use Rattle.shift.specs.Internal.Items.{Fresh, items, rewritten, apart, store};
 ghost use Rattle.rules.specs.Prune.{pruneOutcome};
-ghost use Rattle.replace.specs.Internal.Pieces.{cleared, slotOf, Falls, fallenWords, droppedOutcome};
-
-fn less_by(a: u64, b: u64) -> u64
-    ensures { λ r. ⌜ r ≡ a - b ⌝ }
-{
-    if a < b {
-        return 0;
-    }
-    a - b
-}
-
-// The slot of the declaration that the word v behind a tag t with the mark m uses: 1 for the outermost of n, 0 for one further out, and
-// `other` where it is no index that dangles in the body. No branch depends on the words.
-fn slot_of(m: u32, t: u32, v: u32, n: u32, other: u32) -> usize
-    requires { ⌜ n ≤ 32 ⌝ }
-    requires { ⌜ ((m ≡ 0 → ⊥) → n < m) ⌝ }
-    ensures { λ r. ⌜ r ≡ slotOf n other (wordItem m t v) ⌝ }
-{
-    let base = std::num::wrapping_sub_u64(m as u64, (n as u64) + 1);
-    let word = v as u64;
-    let index = std::num::wrapping_sub_u64(word, base);
-    let slot = less_by(n as u64, index);
-    let dangles = (t == Tag::BOUND_IDENT) & (base <= word);
-    if dangles {
-        return slot as usize;
-    }
-    other as usize
-}
+ghost use Rattle.replace.specs.Internal.Pieces.{cleared, Falls, fallenWords, droppedOutcome};
 
 // A word for each of n declarations, the outermost first, behind one that is passed over: sets the word of each declaration that the items
 // from `from` on use to 0.

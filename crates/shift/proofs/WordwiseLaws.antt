@@ -8,7 +8,8 @@ use native.Mathlib.Nat.{le-refl}
 use native.Mathlib.Omega.{arith}
 use borrow.Author.Tests.{le-leb, leb-true}
 use lib.Dec.{leb}
-use lib.ListN.{length, getD, take, drop, set, replicate}
+use lib.ListN.{length, getD, drop, set, replicate}
+use lib.Seq.{drop-drop}
 use Rattle.tree.specs.Form.{Form, leaf, free, bound, node, Forms, none, more, encode, encodeAll}
 use Rattle.form.proofs.DecodeLaws.{clash}
 use Rattle.form.proofs.HeadLaws.{here, gone}
@@ -108,6 +109,11 @@ module _ (lo : ℕ) where
   apart-drop (suc i) [] ms a = refl
   apart-drop (suc i) (w ∷ ws) [] a = unmarked lo (drop i ws)
   apart-drop (suc i) (w ∷ ws) (m ∷ ms) a = apart-drop i ws ms (apart-rest w m ws ms a)
+
+  pub apart-on : (row marks : List ℕ) (i j : ℕ) → i ≤ j → apart lo (drop i row) (drop i marks) ≡ true → apart lo (drop j row) (drop j marks) ≡ true
+  apart-on row marks i j h a =
+      let e : i + (j - i) ≡ j = omega arith in
+      rw (drop-drop (j - i) i row, drop-drop (j - i) i marks, e) at (apart-drop (j - i) (drop i row) (drop i marks) a)
 
   mark-first : (w v m : ℕ) (ws ms : List ℕ) → apart lo (w ∷ v ∷ ws) (m ∷ ms) ≡ true → (m ≡ 0 → ⊥) → lo < m
   unfolding apart

@@ -6,19 +6,19 @@ use Rattle.replace.proofs.build.write_words.Tie as tie
 use Rattle.replace.proofs.build.write_words.Reads as reads
 use Rattle.replace.proofs.build.write_words.Lts as lts
 use Rattle.replace.proofs.build.copy.Reads as copy-reads
-use Rattle.replace.proofs.pieces.write_pieces.Reads as write-pieces-reads
+use Rattle.replace.proofs.splice.write_spliced.Reads as write-spliced-reads
 
 copy-requires : tie.Need-copy-requires
 copy-requires c κs = search needs
 
-write-pieces-requires : tie.Need-write-pieces-requires
-write-pieces-requires c κs = search needs
+write-spliced-requires : tie.Need-write-spliced-requires
+write-spliced-requires c κs = search needs
 
 same-length : tie.Need-same-length
 same-length c = search needs
 
 returns : tie.Need-returns
-returns c = (c .before .before .write-pieces .ensures .0, stored-after _ _ _ _ _ (c .before .before .before .before .before .before .copy .ensures) (c .before .before .write-pieces .ensures .1))
+returns c = (c .before .before .write-spliced .ensures .0, stored-after _ _ _ _ _ (c .before .before .before .before .before .before .copy .ensures) (c .before .before .write-spliced .ensures .1))
 
 pub write-words-spec : {M : Type 1} → statement M
-write-words-spec = tie.close (tie.spec copy-requires write-pieces-requires same-length returns)
+write-words-spec = tie.close (tie.spec copy-requires write-spliced-requires same-length returns)

@@ -12,7 +12,7 @@ use Rattle.replace.proofs.prune.clear_used.Statement.{statement}
 use Rattle.replace.proofs.prune.clear_used.Tie as tie
 use Rattle.replace.proofs.prune.clear_used.Reads as reads
 use Rattle.replace.proofs.prune.clear_used.Lts as lts
-use Rattle.replace.proofs.prune.slot_of.Reads as slot-of-reads
+use Rattle.replace.proofs.slots.slot_of.Reads as slot-of-reads
 
 abbrev Inv-loop : tie.InvT-loop
 Inv-loop row marks from n words₀ i₀ words i = (cleared n (drop 1 words₀) (wordItems (getD marks (i₀ - 1) 0) (getD row (i₀ - 1) 0) (drop i₀ row) (drop i₀ marks)) ≡ cleared n (drop 1 words) (wordItems (getD marks (i - 1) 0) (getD row (i - 1) 0) (drop i row) (drop i marks))) × («from» + 1 ≤ i) × (length words ≡ length words₀)

@@ -15,7 +15,7 @@ use Rattle.replace.proofs.prune.write_fallen.Tie as tie
 use Rattle.replace.proofs.prune.write_fallen.Reads as reads
 use Rattle.replace.proofs.prune.write_fallen.Lts as lts
 use Rattle.replace.proofs.pieces.less.Reads as less-reads
-use Rattle.replace.proofs.prune.slot_of.Reads as slot-of-reads
+use Rattle.replace.proofs.slots.slot_of.Reads as slot-of-reads
 
 abbrev Inv-loop : tie.InvT-loop
 Inv-loop words falls row marks from out₀ at n i₀ p₀ out i p = (store out₀ p₀ (wordwise (fallAt words) (getD marks (i₀ - 1) 0) (getD row (i₀ - 1) 0) (drop i₀ row) (drop i₀ marks)) ≡ store out p (wordwise (fallAt words) (getD marks (i - 1) 0) (getD row (i - 1) 0) (drop i row) (drop i marks))) × («from» + 1 ≤ i) × (p + «from» ≡ at + i) × (length out ≡ length out₀)

@@ -1,11 +1,11 @@
--- `replace::prune::slot_of` meets its contract. Assumes nothing.
+-- `replace::slots::slot_of` meets its contract. Assumes nothing.
 use Rattle.replace.proofs.SlotLaws.{slot-in, slot-out}
 use borrow.Author.Needs.{needs}
-use Rattle.replace.proofs.prune.slot_of.Statement.{statement}
-use Rattle.replace.proofs.prune.slot_of.Tie as tie
-use Rattle.replace.proofs.prune.slot_of.Reads as reads
-use Rattle.replace.proofs.prune.slot_of.Lts as lts
-use Rattle.replace.proofs.prune.less_by.Reads as less-by-reads
+use Rattle.replace.proofs.slots.slot_of.Statement.{statement}
+use Rattle.replace.proofs.slots.slot_of.Tie as tie
+use Rattle.replace.proofs.slots.slot_of.Reads as reads
+use Rattle.replace.proofs.slots.slot_of.Lts as lts
+use Rattle.replace.proofs.slots.less_by.Reads as less-by-reads
 use Rattle.std.proofs.num.wrapping_sub_u64.Reads as wrapping-sub-u64-reads
 
 add-wrapping-sub-u64 : tie.Need-add-wrapping-sub-u64
