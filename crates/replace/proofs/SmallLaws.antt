@@ -16,7 +16,6 @@ use Rattle.form.specs.Lists.{Place, kept, filled, Entry, entry, placeOf, placeW
 use Rattle.reader.specs.Internal.Reads.{Told, decodeIn, emptyTable, tabled}
 use Rattle.form.specs.declared.answer.ListKind.{ListKind}
 use Rattle.form.specs.declared.answer.ListKind.the-variants.{Pairs, Places}
-use Rattle.reader.specs.declared.lists.Table.{Table}
 use Rattle.form.specs.declared.head.Step.{Step}
 use Rattle.form.specs.declared.head.Step.the-variants.{End, Bad}
 use Rattle.form.proofs.DecodeLaws.{clash, Ok, decode-encode}
@@ -136,16 +135,16 @@ leaves row d w h =
     go : deepPart d row ≡ true → 65 - (65 - d) ≡ d → deepPart (65 - (65 - d)) row ≡ true
     go y e = rw e y
 
-module _ (t : Table) (list : List ℕ) where
-  pub leaves-by-none : LeavesBy t list 0
+module _ (starts ends : List ℕ) (n : ℕ) (list : List ℕ) where
+  pub leaves-by-none : LeavesBy starts ends n list 0
   leaves-by-none = record { most = omega arith; words = λ h. absurd (omega arith); each = λ h. absurd (omega arith) }
 
-  pub leaves-by : (d : ℕ) → smallWords list ≡ true → PartsDepth (t .starts) (t .ends) list (t .n) d → LeavesBy t list (65 - d)
+  pub leaves-by : (d : ℕ) → smallWords list ≡ true → PartsDepth starts ends list n d → LeavesBy starts ends n list (65 - d)
   leaves-by d w h =
       let a = h .least in
       record { most = omega arith; words = λ k. w; each = λ k i l. go i (h .each (omega arith) i l) (omega arith) }
     where
-      go : (i : ℕ) → deepAt d (getD (t .starts) i 0) (getD (t .ends) i 0) list ≡ true → 65 - (65 - d) ≡ d → deepAt (65 - (65 - d)) (getD (t .starts) i 0) (getD (t .ends) i 0) list ≡ true
+      go : (i : ℕ) → deepAt d (getD starts i 0) (getD ends i 0) list ≡ true → 65 - (65 - d) ≡ d → deepAt (65 - (65 - d)) (getD starts i 0) (getD ends i 0) list ≡ true
       go i y e = rw e y
 
 -- a form's row that is small
@@ -200,7 +199,7 @@ place-small : (m s e : ℕ) (l : List ℕ) (p : Place) → OkPlace p → m ≤ 6
 place-small m s e l kept ok k w h y = tt
 place-small m s e l (filled x) ok k w h y = at-small m s e l x ok k w h y
 
-pub listed-small : (kind : ListKind) (list : List ℕ) (es : List Entry) → listOf kind list ≡ some es → length es ≤ 32 → (r : ℕ) → LeavesBy (tabled es 0 emptyTable) list r → 0 < r → SmallPlaces (64 - r) (map placeOf es)
+pub listed-small : (kind : ListKind) (list : List ℕ) (es : List Entry) → listOf kind list ≡ some es → length es ≤ 32 → (r : ℕ) → LeavesBy (tabled es 0 emptyTable .starts) (tabled es 0 emptyTable .ends) (tabled es 0 emptyTable .n) list r → 0 < r → SmallPlaces (64 - r) (map placeOf es)
 listed-small kind list es is few r y some-left = small-places (64 - r) (map placeOf es) (λ i h. each i (rw (length-map es placeOf) at h))
   where
     each : (i : ℕ) → i < length es → SmallPlace (64 - r) (getD (map placeOf es) i kept)

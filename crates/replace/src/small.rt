@@ -99,18 +99,15 @@ pub fn depth_left(row: &[u32]) -> u32
     Margin::DEPTHS - depth_from(row, 1)
 }
 
-// How deep a form may be that is sure to stay one when the parts of the table are put into it; 0 where none is.
-pub(crate) fn depth_left_by(table: Table, list: &[u32]) -> u32
-    ensures { λ r. ⌜ LeavesBy table (now (list .entry)) r ⌝ }
+// How deep a form may be that is sure to stay one when the first n parts of the list are put into it; 0 where none is.
+pub(crate) fn depth_left_by(starts: &[usize; 32], ends: &[usize; 32], n: usize, list: &[u32]) -> u32
+    ensures { λ r. ⌜ LeavesBy (now (starts .entry)) (now (ends .entry)) n (now (list .entry)) r ⌝ }
 {
-    let n = table.n;
     if Table::LIMIT < n {
         return 0;
     }
     if !are_low(list) {
         return 0;
     }
-    let starts = table.starts;
-    let ends = table.ends;
-    Margin::DEPTHS - parts_depth(&starts, &ends, list, n)
+    Margin::DEPTHS - parts_depth(starts, ends, list, n)
 }

@@ -11,6 +11,7 @@ use Rattle.tree.specs.Tag.{expr, pred}
 use Rattle.form.specs.Decode.{decode, whole, Found, found, missing, asSort, formOf}
 use Rattle.form.specs.Answer.{Outcome, answer, needs, isOne}
 use Rattle.reader.specs.Internal.Reads.{asExpr}
+pub use Rattle.reader.specs.Internal.Reads.{tableOf}
 use Rattle.form.specs.declared.answer.Kind.{Kind}
 use Rattle.form.specs.declared.answer.Kind.the-variants.{Expression, Predicate}
 use Rattle.reader.specs.declared.lists.Table.{Table}
@@ -98,7 +99,7 @@ lengthRefusal n room = pick (leb n 8192) (pick (leb n room) 0 14) 7
 
 -- the plan of a rule and the rows of its table
 abbrev pub planFor : Rule → List ℕ → List ℕ → List ℕ → Plan
-planFor r ws ss es = record { table = record { words = ws; starts = ss; ends = es; n = r .n }; fills = r .fills; gone = r .gone; down = r .down }
+planFor r ws ss es = record { table = tableOf (r .n) ws ss es; fills = r .fills; gone = r .gone; down = r .down }
 
 -- the plan's table has 32 places, of which it uses n
 pub record Tabled (p : Plan) : Type 0 where
@@ -177,10 +178,10 @@ pub record Leaves (row : List ℕ) (r : ℕ) : Type 0 where
   pub words : 0 < r → smallWords row ≡ true
   pub deep : 0 < r → deepPart (65 - r) row ≡ true
 
-pub record LeavesBy (t : Table) (list : List ℕ) (r : ℕ) : Type 0 where
+pub record LeavesBy (starts ends : List ℕ) (n : ℕ) (list : List ℕ) (r : ℕ) : Type 0 where
   pub most : r ≤ 64
   pub words : 0 < r → smallWords list ≡ true
-  pub each : 0 < r → (i : ℕ) → i < t .n → deepAt (65 - r) (getD (t .starts) i 0) (getD (t .ends) i 0) list ≡ true
+  pub each : 0 < r → (i : ℕ) → i < n → deepAt (65 - r) (getD starts i 0) (getD ends i 0) list ≡ true
 
 -- a head, and what a plan puts for the items of a row
 abbrev pub replacedWords : List ℕ → Plan → List ℕ → List ℕ → List ℕ → List ℕ → List ℕ
@@ -263,10 +264,6 @@ droppedRow ws row marks =
 
 unfoldable pub droppedOutcome : List ℕ → List ℕ → List ℕ → ℕ → Outcome
 droppedOutcome ws row marks room = needs 9 (not (eqb (filledWords ws) 0)) (needs 14 (leb (length (droppedRow ws row marks)) room) (answer (droppedRow ws row marks)))
-
--- the table of n places whose rows are lent
-abbrev pub tableOf : ℕ → List ℕ → List ℕ → List ℕ → Table
-tableOf n ws ss es = record { words = ws; starts = ss; ends = es; n = n }
 
 -- whether the first n parts lie in a row of so many words; whether a table's parts stand in the list row, and all of it is marked
 unfoldable pub partsIn : List ℕ → List ℕ → ℕ → ℕ → Bool
