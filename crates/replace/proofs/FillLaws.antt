@@ -22,11 +22,11 @@ use Rattle.form.proofs.ListLaws.{GoodAll, list-sound}
 use Rattle.reader.proofs.TableLaws.{listed-words, listed-n, rows-n, listing-yes}
 use Rattle.shift.proofs.CheckedLaws.{Checked}
 use Rattle.rules.specs.Fill.{quantified, other, ofQuantified, fill, fillOutcome}
-use Rattle.replace.specs.Internal.Pieces.{filledWords, InRow, Ready, replaced, fillPlan, declaredIn, keptWords, headWords, filledRow, isFound, LeavesBy}
+use Rattle.replace.specs.Internal.Pieces.{filledWords, InRow, Ready, replaced, fillPlan, declaredIn, keptWords, headWords, filledRow, isFound}
 use Rattle.replace.proofs.EntryLaws.{PlaceAt, listed-places, listed-in-row, listed-full}
 use Rattle.replace.proofs.BuildLaws.{emit-sure}
 use Rattle.replace.proofs.InsideLaws.{some-deep, fill-fits}
-use Rattle.replace.proofs.SmallLaws.{listed-small}
+use Rattle.replace.proofs.SmallLaws.{LeavesBy, listed-small}
 use Rattle.replace.proofs.CallLaws.{call-small, call-long, call-missing, call-list-long, call-no-list, call-read}
 use Rattle.replace.proofs.FillTree.{wordFor, fill-tree}
 use Rattle.replace.proofs.NameLaws.{kept-names, encode-quantify}

@@ -30,14 +30,14 @@ use Rattle.shift.proofs.ShiftLaws.{moved}
 use Rattle.shift.proofs.RowLaws.{identOf, itemsOf, marked-items, walk-items}
 use Rattle.shift.proofs.CheckedLaws.{Checked}
 use Rattle.rules.specs.Free.{orName, seek, freeFor, substitute, freeOutcome}
-use Rattle.replace.specs.Internal.Pieces.{pieceWords, spot, freePiece, pieceOf, planned, InRow, Ready, replaced, kindFor, freePlan, isFound, LeavesBy}
+use Rattle.replace.specs.Internal.Pieces.{pieceWords, spot, freePiece, pieceOf, planned, InRow, Ready, replaced, kindFor, freePlan, isFound}
 use Rattle.replace.specs.declared.pieces.Piece.the-variants.{Same, Part}
 use Rattle.replace.proofs.EntryLaws.{PlaceAt, listed-places, listed-in-row, listed-full}
 use Rattle.replace.proofs.MarkLaws.{items-take}
 use Rattle.replace.proofs.ActionLaws.{tight-depth, moved-words, moved-lift}
 use Rattle.replace.proofs.BuildLaws.{kindOf, emit-sure}
 use Rattle.replace.proofs.InsideLaws.{some-deep, free-fits}
-use Rattle.replace.proofs.SmallLaws.{listed-small}
+use Rattle.replace.proofs.SmallLaws.{LeavesBy, listed-small}
 use Rattle.replace.proofs.CallLaws.{call-small, call-long, call-missing, call-list-long, call-no-list, call-read}
 
 -- the list is searched as the words are

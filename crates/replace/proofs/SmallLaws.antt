@@ -1,17 +1,17 @@
 -- Parts of a row that are expressions so deep and of small words, as the code tests them; and the entries of a list whose parts are. Assumes nothing.
-use mathlib.Core.Path.{_≡_, refl, ap, sym, _∙_}
+use mathlib.Core.Path.{_≡_, refl, sym, _∙_}
 use mathlib.Core.Bool.{Bool, true, false, _&&_}
 use mathlib.Core.List.{List, [], _∷_, map, append-nil}
 use mathlib.Core.Option.{some}
-use Prim.Native.Nat.{ℕ, zero, suc, _+_, _-_, _≤_, _<_}
+use Prim.Native.Nat.{ℕ, zero, suc, _+_, _-_, _*_, _≤_, _<_}
+use native.Mathlib.Numerals.{add-one}
 use native.Mathlib.Omega.{arith}
-use borrow.Author.Tests.{le-leb, lt-leb, leb-true, eqb-true, eqb-false}
+use borrow.Author.Tests.{le-leb, lt-leb, leb-true, leb-false, eqb-true, eqb-false}
 use lib.Dec.{leb, eqb}
 use lib.ListN.{length, getD, take, drop, length-map, take-append-drop}
 use Rattle.tree.specs.Form.{Form, leaf, node, free, bound, pick, encode}
 use Rattle.tree.specs.Tag.{expr}
 use Rattle.form.specs.Decode.{got, decode, Whole, one, not-one, whole}
-use Rattle.form.specs.Answer.{isOne}
 use Rattle.form.specs.Lists.{Place, kept, filled, Entry, entry, placeOf, placeWords, listOf}
 use Rattle.reader.specs.Internal.Reads.{Told, decodeIn, emptyTable, tabled}
 use Rattle.form.specs.declared.answer.ListKind.{ListKind}
@@ -19,29 +19,80 @@ use Rattle.form.specs.declared.answer.ListKind.the-variants.{Pairs, Places}
 use Rattle.form.specs.declared.head.Step.{Step}
 use Rattle.form.specs.declared.head.Step.the-variants.{End, Bad}
 use Rattle.form.proofs.DecodeLaws.{clash, Ok, decode-encode}
-use Rattle.form.proofs.HeadLaws.{here, gone}
 use Rattle.reader.proofs.ReaderLaws.{in-decode}
 use Rattle.reader.proofs.CheckLaws.{read-bad, read-whole, read-part}
 use Rattle.form.proofs.RowLaws.{whole-exact}
 use Rattle.form.proofs.ListLaws.{GoodAll, list-sound}
 use Rattle.reader.proofs.TableLaws.{listed-n}
+use Rattle.shift.specs.Internal.Items.{allBelow}
 use Rattle.rules.proofs.WalkLaws.{and-left, and-right}
-use Rattle.replace.specs.Internal.Pieces.{part, smallWords, deepPart, deepAt, Depth, PartsDepth, Leaves, LeavesBy}
+use Rattle.replace.specs.Internal.Pieces.{part, deepPart, deepAt, firstDepth, depthFrom, depthLeft, partsDepth, depthLeftBy, Leaves}
 use Rattle.rules.proofs.OkLaws.{ok-deep}
 use Rattle.replace.proofs.EntryLaws.{listed-part}
 use Rattle.replace.proofs.InsideLaws.{Small, SmallPlace, SmallPlaces, small-split, small-places}
 
--- the words, one after another
-module _ (ws : List ℕ) (i : ℕ) where
-  module _ (h : i < length ws) where
-    pub low-not : 63487 < getD ws i 0 → smallWords (drop i ws) ≡ false
-    low-not l = rw (here ws i h, lt-leb (getD ws i 0) 63487 l)
+-- the first depth at which a test holds
+record Depth (from : ℕ) (test : ℕ → Bool) (r : ℕ) : Type 0 where
+  least : r ≤ 64 → from ≤ r
+  most : r ≤ 65
+  holds : r ≤ 64 → test r ≡ true
 
-    pub low-more : getD ws i 0 ≤ 63487 → smallWords (drop i ws) ≡ smallWords (drop (i + 1) ws)
-    low-more l = rw (here ws i h, le-leb (getD ws i 0) 63487 l)
+first-is : (k d : ℕ) (test : ℕ → Bool) → Depth d test (firstDepth k d test)
+unfolding firstDepth
+first-is zero d test = record { least = λ h. absurd (omega arith); most = omega arith; holds = λ h. absurd (omega arith) }
+first-is (suc k) d test = go (leb d 64) (test d) refl refl (first-is k (2 * d + 1) test)
+  where
+    go : (b c : Bool) → leb d 64 ≡ b → test d ≡ c → Depth (2 * d + 1) test (firstDepth k (2 * d + 1) test) → Depth d test (pick b (pick c d (firstDepth k (2 * d + 1) test)) 65)
+    go true true q e i = let h = leb-true d 64 q in record { least = λ l. omega arith; most = omega arith; holds = λ l. e }
+    go true false q e i = record { least = λ l. (let a = i .least l in omega arith); most = i .most; holds = i .holds }
+    go false c q e i = record { least = λ h. absurd (omega arith); most = omega arith; holds = λ h. absurd (omega arith) }
 
-  pub low-end : length ws ≤ i → smallWords (drop i ws) ≡ true
-  low-end h = rw (gone ws i h)
+first-same : (k d : ℕ) (f g : ℕ → Bool) → ((d : ℕ) → f d ≡ g d) → firstDepth k d f ≡ firstDepth k d g
+unfolding firstDepth
+first-same zero d f g h = refl
+first-same (suc k) d f g h = rw (h d, first-same k (2 * d + 1) f g h)
+
+first-never : (k d : ℕ) (test : ℕ → Bool) → ((d : ℕ) → test d ≡ false) → firstDepth k d test ≡ 65
+unfolding firstDepth
+first-never zero d test h = refl
+first-never (suc k) d test h = rw (h d, first-never k (2 * d + 1) test h) (go (leb d 64))
+  where
+    go : (b : Bool) → pick {A = ℕ} b 65 65 ≡ 65
+    go true = refl
+    go false = refl
+
+-- the depths before d were tried, and d is next
+abbrev pub Tried : (ℕ → Bool) → ℕ → ℕ → Type 0
+Tried test from d = (k : ℕ) × (65 ≤ k + d) × (depthFrom from test ≡ firstDepth k d test)
+
+pub tried-none : (test : ℕ → Bool) (d : ℕ) → Tried test d d
+tried-none test d = (65, omega arith, refl)
+
+module _ (test : ℕ → Bool) (from d : ℕ) (t : Tried test from d) where
+  pub tried-past : 65 ≤ d → 65 ≡ depthFrom from test
+  unfolding firstDepth
+  tried-past h = go (t .0) (t .2)
+    where
+      go : (k : ℕ) → depthFrom from test ≡ firstDepth k d test → 65 ≡ depthFrom from test
+      go zero e = sym e
+      go (suc k) e = sym (e ∙ rw (lt-leb d 64 (omega arith)))
+
+  module _ (low : d < 65) where
+    pub tried-here : test d ≡ true → d ≡ depthFrom from test
+    unfolding firstDepth
+    tried-here y = go (t .0) (t .1) (t .2)
+      where
+        go : (k : ℕ) → 65 ≤ k + d → depthFrom from test ≡ firstDepth k d test → d ≡ depthFrom from test
+        go zero l e = absurd (omega arith)
+        go (suc k) l e = sym (e ∙ rw (le-leb d 64 (omega arith), y))
+
+    pub tried-more : test d ≡ false → Tried test from (2 * d + 1)
+    unfolding firstDepth
+    tried-more n = go (t .0) (t .1) (t .2)
+      where
+        go : (k : ℕ) → 65 ≤ k + d → depthFrom from test ≡ firstDepth k d test → Tried test from (2 * d + 1)
+        go zero l e = absurd (omega arith)
+        go (suc k) l e = (k, omega arith, e ∙ rw (le-leb d 64 (omega arith), n))
 
 -- a row by the reader's answer
 module _ (d : ℕ) (most : d ≤ 64) (ws a b : List ℕ) (r : Step) (t : Told 0 0 (decodeIn d 0 expr ws) a b r) where
@@ -84,13 +135,23 @@ deep-grows d d′ ws l y =
 
 -- a part
 module _ (s e : ℕ) (l : List ℕ) where
-  pub at-none : (d : ℕ) → e ≤ s → deepAt d s e l ≡ true
-  unfolding deepAt
-  at-none d h = rw (le-leb e s h)
+  module _ (from : ℕ) where
+    pub at-none : from ≤ 65 → e ≤ s → from ≡ depthFrom from (λ d. deepAt d s e l)
+    unfolding firstDepth deepAt
+    at-none m h = go (leb from 64) refl
+      where
+        go : (b : Bool) → leb from 64 ≡ b → from ≡ pick (leb from 64) (pick (deepAt from s e l) from (firstDepth 64 (2 * from + 1) (λ d. deepAt d s e l))) 65
+        go true q = rw (q, le-leb e s h)
+        go false q = let g = leb-false from 64 q in rw q (omega arith)
 
-  pub at-part : (d : ℕ) → s < e → e ≤ length l → deepAt d s e l ≡ deepPart d (take (e - s) (drop s l))
-  unfolding deepAt part
-  at-part d h k = rw (lt-leb e s h, le-leb e (length l) k)
+    module _ (some : s < e) where
+      pub at-past : length l < e → 65 ≡ depthFrom from (λ d. deepAt d s e l)
+      unfolding deepAt
+      at-past h = sym (first-never 65 from _ (λ d. rw (lt-leb e s some, lt-leb e (length l) h)))
+
+      pub at-part : e ≤ length l → depthFrom from (λ d. deepPart d (take (e - s) (drop s l))) ≡ depthFrom from (λ d. deepAt d s e l)
+      unfolding deepAt part
+      at-part h = first-same 65 from _ _ (λ d. rw (lt-leb e s some, le-leb e (length l) h))
 
   at-grows : (d d′ : ℕ) → d ≤ d′ → deepAt d s e l ≡ true → deepAt d′ s e l ≡ true
   unfolding deepAt
@@ -102,53 +163,114 @@ module _ (s e : ℕ) (l : List ℕ) where
           let z = rw q at y in
           rw (q, and-left (leb e (length l)) (deepPart d (part s e l)) z) (deep-grows d d′ (part s e l) h (and-right (leb e (length l)) (deepPart d (part s e l)) z))
 
--- one part more
-pub parts-none : (s e l : List ℕ) → PartsDepth s e l 0 1
-parts-none s e l = record { least = omega arith; most = omega arith; each = λ h i k. absurd (omega arith) }
+-- a depth at which each of the first n parts is an expression; 65 where none was found
+record PartsDepth (starts ends list : List ℕ) (n r : ℕ) : Type 0 where
+  least : 1 ≤ r
+  most : r ≤ 65
+  each : r ≤ 64 → (i : ℕ) → i < n → deepAt r (getD starts i 0) (getD ends i 0) list ≡ true
 
-pub parts-more : (s e l : List ℕ) (i d d′ : ℕ) → PartsDepth s e l i d → Depth d (λ k. deepAt k (getD s i 0) (getD e i 0) l) d′ → PartsDepth s e l (i + 1) d′
-parts-more s e l i d d′ p h =
-    let a = p .least in
-    let b = p .most in
-    let u = h .least b in
-    record { least = omega arith; most = h .most b; each = λ k j z. go k j z (eqb j i) refl }
-  where
-    go : d′ ≤ 64 → (j : ℕ) → j < i + 1 → (b : Bool) → eqb j i ≡ b → deepAt d′ (getD s j 0) (getD e j 0) l ≡ true
-    go k j z true q = rw (eqb-true j i q) (h .holds k)
-    go k j z false q =
-        let ne = eqb-false j i q in
-        let u = h .least (p .most) in
-        at-grows (getD s j 0) (getD e j 0) l d d′ u (p .each (omega arith) j (omega (arith, ne)))
+module _ (starts ends list : List ℕ) where
+  parts-more : (n d d′ : ℕ) → PartsDepth starts ends list n d → Depth d (λ k. deepAt k (getD starts n 0) (getD ends n 0) list) d′ → PartsDepth starts ends list (suc n) d′
+  parts-more n d d′ p h = record { least = least (leb d′ 64) refl; most = h .most; each = λ k i l. go k i l (eqb i n) refl }
+    where
+      least : (b : Bool) → leb d′ 64 ≡ b → 1 ≤ d′
+      least true q = let a = h .least (leb-true d′ 64 q) in let b = p .least in omega arith
+      least false q = let a = leb-false d′ 64 q in omega arith
 
-pub parts-all : (s e l : List ℕ) (i n d : ℕ) → PartsDepth s e l i d → i ≤ n → n ≤ i → PartsDepth s e l n d
-parts-all s e l i n d p h k = let z : i ≡ n = omega arith in rw z at p
+      go : d′ ≤ 64 → (i : ℕ) → i < suc n → (b : Bool) → eqb i n ≡ b → deepAt d′ (getD starts i 0) (getD ends i 0) list ≡ true
+      go k i l true q = rw (eqb-true i n q) (h .holds k)
+      go k i l false q =
+          let u = h .least k in
+          at-grows (getD starts i 0) (getD ends i 0) list d d′ u (p .each (omega arith) i (omega (arith, eqb-false i n q)))
+
+  parts-are : (n : ℕ) → PartsDepth starts ends list n (partsDepth starts ends list n)
+  unfolding partsDepth
+  parts-are zero = record { least = omega arith; most = omega arith; each = λ h i k. absurd (omega arith) }
+  parts-are (suc n) = parts-more n _ _ (parts-are n) (first-is 65 _ _)
+
+  -- as the code finds it
+  pub parts-none : 1 ≡ partsDepth starts ends list 0
+  unfolding partsDepth
+  parts-none = refl
+
+  pub parts-next : (i d d′ : ℕ) → d ≡ partsDepth starts ends list i → d′ ≡ depthFrom d (λ k. deepAt k (getD starts i 0) (getD ends i 0) list) → d′ ≡ partsDepth starts ends list (i + 1)
+  unfolding partsDepth
+  parts-next i d d′ e q = rw (add-one, ← e) q
+
+  pub parts-most : (n d : ℕ) → d ≡ partsDepth starts ends list n → d ≤ 65
+  parts-most n d e = rw e (parts-are n .most)
+
+  pub parts-all : (i n d : ℕ) → d ≡ partsDepth starts ends list i → i ≤ n → n ≤ i → d ≡ partsDepth starts ends list n
+  parts-all i n d e h k = let z : i ≡ n = omega arith in rw z at e
 
 -- the depth that is left
-pub leaves-none : (row : List ℕ) → Leaves row 0
-leaves-none row = record { most = omega arith; words = λ h. absurd (omega arith); deep = λ h. absurd (omega arith) }
+module _ (row : List ℕ) where
+  pub left-none : false ≡ allBelow 63488 row → 0 ≡ depthLeft row
+  unfolding depthLeft
+  left-none e = rw (← e)
 
-pub leaves : (row : List ℕ) (d : ℕ) → smallWords row ≡ true → Depth 1 (λ k. deepPart k row) d → Leaves row (65 - d)
-leaves row d w h =
-    let a = h .least (omega arith) in
-    record { most = omega arith; words = λ k. w; deep = λ k. go (h .holds (omega arith)) (omega arith) }
-  where
-    go : deepPart d row ≡ true → 65 - (65 - d) ≡ d → deepPart (65 - (65 - d)) row ≡ true
-    go y e = rw e y
+  pub left-is : (d : ℕ) → true ≡ allBelow 63488 row → d ≡ depthFrom 1 (λ d. deepPart d row) → 65 - d ≡ depthLeft row
+  unfolding depthLeft
+  left-is d e q = rw (← e, ← q)
+
+  pub left-most : (d : ℕ) → d ≡ depthFrom 1 (λ d. deepPart d row) → d ≤ 65
+  left-most d e = rw e (first-is 65 1 (λ d. deepPart d row) .most)
+
+  leaves-by-depth : (d : ℕ) → allBelow 63488 row ≡ true → Depth 1 (λ k. deepPart k row) d → Leaves row (65 - d)
+  leaves-by-depth d w h = record { most = most (leb d 64) refl; words = λ k. w; deep = λ k. go (h .holds (omega arith)) (omega arith) }
+    where
+      most : (b : Bool) → leb d 64 ≡ b → 65 - d ≤ 64
+      most true q = let a = h .least (leb-true d 64 q) in omega arith
+      most false q = let a = leb-false d 64 q in omega arith
+
+      go : deepPart d row ≡ true → 65 - (65 - d) ≡ d → deepPart (65 - (65 - d)) row ≡ true
+      go y e = rw e y
+
+  pub leaves : (r : ℕ) → r ≡ depthLeft row → Leaves row r
+  unfolding depthLeft
+  leaves r e = rw e (go (allBelow 63488 row) refl)
+    where
+      go : (b : Bool) → allBelow 63488 row ≡ b → Leaves row (pick b (65 - depthFrom 1 (λ d. deepPart d row)) 0)
+      go true q = leaves-by-depth _ q (first-is 65 1 (λ d. deepPart d row))
+      go false q = record { most = omega arith; words = λ h. absurd (omega arith); deep = λ h. absurd (omega arith) }
+
+-- a form at most r deep stays one if the first n parts are put into it
+pub record LeavesBy (starts ends : List ℕ) (n : ℕ) (list : List ℕ) (r : ℕ) : Type 0 where
+  pub most : r ≤ 64
+  pub words : 0 < r → allBelow 63488 list ≡ true
+  pub each : 0 < r → (i : ℕ) → i < n → deepAt (65 - r) (getD starts i 0) (getD ends i 0) list ≡ true
 
 module _ (starts ends : List ℕ) (n : ℕ) (list : List ℕ) where
-  pub leaves-by-none : LeavesBy starts ends n list 0
-  leaves-by-none = record { most = omega arith; words = λ h. absurd (omega arith); each = λ h. absurd (omega arith) }
+  pub left-many : 32 < n → 0 ≡ depthLeftBy starts ends n list
+  unfolding depthLeftBy
+  left-many h = rw (lt-leb n 32 h)
 
-  pub leaves-by : (d : ℕ) → smallWords list ≡ true → PartsDepth starts ends list n d → LeavesBy starts ends n list (65 - d)
-  leaves-by d w h =
+  pub left-high : n ≤ 32 → false ≡ allBelow 63488 list → 0 ≡ depthLeftBy starts ends n list
+  unfolding depthLeftBy
+  left-high h e = rw (le-leb n 32 h, ← e)
+
+  pub left-parts : (d : ℕ) → n ≤ 32 → true ≡ allBelow 63488 list → d ≡ partsDepth starts ends list n → 65 - d ≡ depthLeftBy starts ends n list
+  unfolding depthLeftBy
+  left-parts d h e q = rw (le-leb n 32 h, ← e, ← q)
+
+  leaves-parts : (d : ℕ) → allBelow 63488 list ≡ true → PartsDepth starts ends list n d → LeavesBy starts ends n list (65 - d)
+  leaves-parts d w h =
       let a = h .least in
       record { most = omega arith; words = λ k. w; each = λ k i l. go i (h .each (omega arith) i l) (omega arith) }
     where
       go : (i : ℕ) → deepAt d (getD starts i 0) (getD ends i 0) list ≡ true → 65 - (65 - d) ≡ d → deepAt (65 - (65 - d)) (getD starts i 0) (getD ends i 0) list ≡ true
       go i y e = rw e y
 
+  pub leaves-by : (r : ℕ) → r ≡ depthLeftBy starts ends n list → LeavesBy starts ends n list r
+  unfolding depthLeftBy
+  leaves-by r e = rw e (go (leb n 32 && allBelow 63488 list) refl)
+    where
+      go : (b : Bool) → (leb n 32 && allBelow 63488 list) ≡ b → LeavesBy starts ends n list (pick b (65 - partsDepth starts ends list n) 0)
+      go true q = leaves-parts _ (and-right (leb n 32) (allBelow 63488 list) q) (parts-are starts ends list n)
+      go false q = record { most = omega arith; words = λ h. absurd (omega arith); each = λ h. absurd (omega arith) }
+
 -- a form's row that is small
-pub small-form : (m : ℕ) (x : Form) → Ok 64 expr x → m ≤ 63 → deepPart (suc m) (encode x) ≡ true → smallWords (encode x) ≡ true → Small m x
+pub small-form : (m : ℕ) (x : Form) → Ok 64 expr x → m ≤ 63 → deepPart (suc m) (encode x) ≡ true → allBelow 63488 (encode x) ≡ true → Small m x
 small-form m x ok l y w =
     let (f, e, o) = deep-form (suc m) (encode x) y in
     record { ok = rw (same f e o) at o; words = w }
@@ -166,13 +288,13 @@ no-words (leaf (free n)) e = clash cc
 no-words (leaf (bound n)) e = clash cc
 no-words (node t o ds ks) e = clash cc
 
-words-part : (s e : ℕ) (l : List ℕ) → smallWords l ≡ true → smallWords (part s e l) ≡ true
+words-part : (s e : ℕ) (l : List ℕ) → allBelow 63488 l ≡ true → allBelow 63488 (part s e l) ≡ true
 unfolding part
 words-part s e l h =
     let (a, b) = small-split (take s l) (drop s l) (rw take-append-drop h) in
     small-split (take (e - s) (drop s l)) (drop (e - s) (drop s l)) (rw take-append-drop b) .0
 
-at-small : (m s e : ℕ) (l : List ℕ) (x : Form) → Ok 64 expr x → m ≤ 63 → part s e l ≡ encode x → smallWords l ≡ true → deepAt (suc m) s e l ≡ true → Small m x
+at-small : (m s e : ℕ) (l : List ℕ) (x : Form) → Ok 64 expr x → m ≤ 63 → part s e l ≡ encode x → allBelow 63488 l ≡ true → deepAt (suc m) s e l ≡ true → Small m x
 unfolding deepAt part
 at-small m s e l x ok k w h y = go (leb e s) refl
   where
@@ -195,7 +317,7 @@ ok-place Pairs (entry w (filled x) ∷ es) g zero h = g .0
 ok-place Places (entry w (filled x) ∷ es) g zero h = g .0 .1
 ok-place kind (entry w p ∷ es) g (suc i) h = ok-place kind es (g .1) i (omega arith)
 
-place-small : (m s e : ℕ) (l : List ℕ) (p : Place) → OkPlace p → m ≤ 63 → part s e l ≡ placeWords p → smallWords l ≡ true → deepAt (suc m) s e l ≡ true → SmallPlace m p
+place-small : (m s e : ℕ) (l : List ℕ) (p : Place) → OkPlace p → m ≤ 63 → part s e l ≡ placeWords p → allBelow 63488 l ≡ true → deepAt (suc m) s e l ≡ true → SmallPlace m p
 place-small m s e l kept ok k w h y = tt
 place-small m s e l (filled x) ok k w h y = at-small m s e l x ok k w h y
 
