@@ -26,7 +26,7 @@ use Rattle.form.proofs.ListLaws.{GoodAll, list-sound}
 use Rattle.reader.proofs.TableLaws.{listed-n}
 use Rattle.shift.specs.Internal.Items.{allBelow}
 use Rattle.rules.proofs.WalkLaws.{and-left, and-right}
-use Rattle.replace.specs.Internal.Pieces.{part, deepPart, deepAt, firstDepth, depthFrom, depthLeft, partsDepth, depthLeftBy, Leaves}
+use Rattle.replace.specs.Internal.Pieces.{part, deepPart, deepAt, firstDepth, depthFrom, depthLeft, deepParts, depthLeftBy, Leaves}
 use Rattle.rules.proofs.OkLaws.{ok-deep}
 use Rattle.replace.proofs.EntryLaws.{listed-part}
 use Rattle.replace.proofs.InsideLaws.{Small, SmallPlace, SmallPlaces, small-split, small-places}
@@ -61,6 +61,49 @@ first-never (suc k) d test h = rw (h d, first-never k (2 * d + 1) test h) (go (l
     go true = refl
     go false = refl
 
+first-past : (k d : ℕ) (test : ℕ → Bool) → 65 ≤ d → firstDepth k d test ≡ 65
+unfolding firstDepth
+first-past zero d test h = refl
+first-past (suc k) d test h = rw (lt-leb d 64 (omega arith))
+
+first-enough : (k j d : ℕ) (test : ℕ → Bool) → 65 ≤ k + d → 65 ≤ j + d → firstDepth k d test ≡ firstDepth j d test
+unfolding firstDepth
+first-enough zero j d test h g = sym (first-past j d test (omega arith))
+first-enough (suc k) zero d test h g = first-past (suc k) d test (omega arith)
+first-enough (suc k) (suc j) d test h g = rw (first-enough k j (2 * d + 1) test (omega arith) (omega arith))
+
+-- the first depth at which two tests hold, if the one holds ever after: the first for the other from the one's on
+module _ (f g : ℕ → Bool) where
+  first-under : (k d : ℕ) → ((e : ℕ) → d ≤ e → f e ≡ true) → firstDepth k d (λ e. f e && g e) ≡ firstDepth k d g
+  unfolding firstDepth
+  first-under zero d h = refl
+  first-under (suc k) d h = rw (h d (omega arith), first-under k (2 * d + 1) (λ e l. h e (omega arith)))
+
+  module _ (grows : (d e : ℕ) → d ≤ e → f d ≡ true → f e ≡ true) where
+    first-and : (k j d : ℕ) → 65 ≤ k + d → 65 ≤ j + d → firstDepth k d (λ e. f e && g e) ≡ firstDepth j (firstDepth k d f) g
+    unfolding firstDepth
+    first-and zero j d h l = sym (first-past j 65 g (omega arith))
+    first-and (suc k) j d h l = go (leb d 64) (f d) refl refl (first-and k j (2 * d + 1) (omega arith) (omega arith))
+      where
+        go : (b c : Bool) → leb d 64 ≡ b → f d ≡ c → firstDepth k (2 * d + 1) (λ e. f e && g e) ≡ firstDepth j (firstDepth k (2 * d + 1) f) g
+            → firstDepth (suc k) d (λ e. f e && g e) ≡ firstDepth j (pick b (pick c d (firstDepth k (2 * d + 1) f)) 65) g
+        go true true q e i = first-under (suc k) d (λ x m. grows d x m e) ∙ first-enough (suc k) j d g h l
+        go true false q e i = rw (q, e) i
+        go false c q e i = rw q (sym (first-past j 65 g (omega arith)))
+
+-- what a depth leaves of 65, where a test of the words holds
+left-by : (test : ℕ → Bool) (b : Bool) (r : ℕ) → r ≡ pick b (65 - depthFrom 1 test) 0 → (r ≤ 64) × (0 < r → (b ≡ true) × (test (65 - r) ≡ true))
+left-by test false r e = (omega arith, λ h. absurd (omega arith))
+left-by test true r e = go (depthFrom 1 test) (first-is 65 1 test) e (leb (depthFrom 1 test) 64) refl
+  where
+    go : (d : ℕ) → Depth 1 test d → r ≡ 65 - d → (b : Bool) → leb d 64 ≡ b → (r ≤ 64) × (0 < r → (true ≡ true) × (test (65 - r) ≡ true))
+    go d x e true q =
+        let l = leb-true d 64 q in
+        let m = x .least l in
+        let z : 65 - r ≡ d = omega arith in
+        (omega arith, λ h. (refl, rw z (x .holds l)))
+    go d x e false q = let l = leb-false d 64 q in (omega arith, λ h. absurd (omega arith))
+
 -- the depths before d were tried, and d is next
 abbrev pub Tried : (ℕ → Bool) → ℕ → ℕ → Type 0
 Tried test from d = (k : ℕ) × (65 ≤ k + d) × (depthFrom from test ≡ firstDepth k d test)
@@ -70,12 +113,7 @@ tried-none test d = (65, omega arith, refl)
 
 module _ (test : ℕ → Bool) (from d : ℕ) (t : Tried test from d) where
   pub tried-past : 65 ≤ d → 65 ≡ depthFrom from test
-  unfolding firstDepth
-  tried-past h = go (t .0) (t .2)
-    where
-      go : (k : ℕ) → depthFrom from test ≡ firstDepth k d test → 65 ≡ depthFrom from test
-      go zero e = sym e
-      go (suc k) e = sym (e ∙ rw (lt-leb d 64 (omega arith)))
+  tried-past h = sym (t .2 ∙ first-past (t .0) d test h)
 
   module _ (low : d < 65) where
     pub tried-here : test d ≡ true → d ≡ depthFrom from test
@@ -163,47 +201,46 @@ module _ (s e : ℕ) (l : List ℕ) where
           let z = rw q at y in
           rw (q, and-left (leb e (length l)) (deepPart d (part s e l)) z) (deep-grows d d′ (part s e l) h (and-right (leb e (length l)) (deepPart d (part s e l)) z))
 
--- a depth at which each of the first n parts is an expression; 65 where none was found
-record PartsDepth (starts ends list : List ℕ) (n r : ℕ) : Type 0 where
-  least : 1 ≤ r
-  most : r ≤ 65
-  each : r ≤ 64 → (i : ℕ) → i < n → deepAt r (getD starts i 0) (getD ends i 0) list ≡ true
-
+-- one part more
 module _ (starts ends list : List ℕ) where
-  parts-more : (n d d′ : ℕ) → PartsDepth starts ends list n d → Depth d (λ k. deepAt k (getD starts n 0) (getD ends n 0) list) d′ → PartsDepth starts ends list (suc n) d′
-  parts-more n d d′ p h = record { least = least (leb d′ 64) refl; most = h .most; each = λ k i l. go k i l (eqb i n) refl }
+  parts-grow : (n d d′ : ℕ) → d ≤ d′ → deepParts d starts ends n list ≡ true → deepParts d′ starts ends n list ≡ true
+  unfolding deepParts
+  parts-grow zero d d′ h y = refl
+  parts-grow (suc n) d d′ h y =
+      let p = deepParts d starts ends n list in
+      let q = deepAt d (getD starts n 0) (getD ends n 0) list in
+      rw (parts-grow n d d′ h (and-left p q y)) (at-grows (getD starts n 0) (getD ends n 0) list d d′ h (and-right p q y))
+
+  parts-each : (d n : ℕ) → deepParts d starts ends n list ≡ true → (i : ℕ) → i < n → deepAt d (getD starts i 0) (getD ends i 0) list ≡ true
+  unfolding deepParts
+  parts-each d zero y i h = absurd (omega arith)
+  parts-each d (suc n) y i h =
+      let p = deepParts d starts ends n list in
+      let q = deepAt d (getD starts n 0) (getD ends n 0) list in
+      go (parts-each d n (and-left p q y)) (and-right p q y) (eqb i n) refl
     where
-      least : (b : Bool) → leb d′ 64 ≡ b → 1 ≤ d′
-      least true q = let a = h .least (leb-true d′ 64 q) in let b = p .least in omega arith
-      least false q = let a = leb-false d′ 64 q in omega arith
+      go : ((i : ℕ) → i < n → deepAt d (getD starts i 0) (getD ends i 0) list ≡ true) → deepAt d (getD starts n 0) (getD ends n 0) list ≡ true → (b : Bool) → eqb i n ≡ b → deepAt d (getD starts i 0) (getD ends i 0) list ≡ true
+      go before last true e = rw (eqb-true i n e) last
+      go before last false e = before i (omega (arith, eqb-false i n e))
 
-      go : d′ ≤ 64 → (i : ℕ) → i < suc n → (b : Bool) → eqb i n ≡ b → deepAt d′ (getD starts i 0) (getD ends i 0) list ≡ true
-      go k i l true q = rw (eqb-true i n q) (h .holds k)
-      go k i l false q =
-          let u = h .least k in
-          at-grows (getD starts i 0) (getD ends i 0) list d d′ u (p .each (omega arith) i (omega (arith, eqb-false i n q)))
-
-  parts-are : (n : ℕ) → PartsDepth starts ends list n (partsDepth starts ends list n)
-  unfolding partsDepth
-  parts-are zero = record { least = omega arith; most = omega arith; each = λ h i k. absurd (omega arith) }
-  parts-are (suc n) = parts-more n _ _ (parts-are n) (first-is 65 _ _)
-
-  -- as the code finds it
-  pub parts-none : 1 ≡ partsDepth starts ends list 0
-  unfolding partsDepth
+  pub parts-none : 1 ≡ depthFrom 1 (λ d. deepParts d starts ends 0 list)
+  unfolding firstDepth deepParts
   parts-none = refl
 
-  pub parts-next : (i d d′ : ℕ) → d ≡ partsDepth starts ends list i → d′ ≡ depthFrom d (λ k. deepAt k (getD starts i 0) (getD ends i 0) list) → d′ ≡ partsDepth starts ends list (i + 1)
-  unfolding partsDepth
-  parts-next i d d′ e q = rw (add-one, ← e) q
+  pub parts-next : (i d d′ : ℕ) → d ≡ depthFrom 1 (λ k. deepParts k starts ends i list) → d′ ≡ depthFrom d (λ k. deepAt k (getD starts i 0) (getD ends i 0) list)
+      → d′ ≡ depthFrom 1 (λ k. deepParts k starts ends (i + 1) list)
+  unfolding deepParts
+  parts-next i d d′ e q =
+      let g = first-and (λ k. deepParts k starts ends i list) (λ k. deepAt k (getD starts i 0) (getD ends i 0) list) (λ x y h z. parts-grow i x y h z) 65 65 1 (omega arith) (omega arith) in
+      rw add-one (q ∙ rw e (sym g))
 
-  pub parts-most : (n d : ℕ) → d ≡ partsDepth starts ends list n → d ≤ 65
-  parts-most n d e = rw e (parts-are n .most)
-
-  pub parts-all : (i n d : ℕ) → d ≡ partsDepth starts ends list i → i ≤ n → n ≤ i → d ≡ partsDepth starts ends list n
+  pub parts-all : (i n d : ℕ) → d ≡ depthFrom 1 (λ k. deepParts k starts ends i list) → i ≤ n → n ≤ i → d ≡ depthFrom 1 (λ k. deepParts k starts ends n list)
   parts-all i n d e h k = let z : i ≡ n = omega arith in rw z at e
 
 -- the depth that is left
+pub depth-most : (test : ℕ → Bool) (from d : ℕ) → d ≡ depthFrom from test → d ≤ 65
+depth-most test from d e = rw e (first-is 65 from test .most)
+
 module _ (row : List ℕ) where
   pub left-none : false ≡ allBelow 63488 row → 0 ≡ depthLeft row
   unfolding depthLeft
@@ -213,26 +250,11 @@ module _ (row : List ℕ) where
   unfolding depthLeft
   left-is d e q = rw (← e, ← q)
 
-  pub left-most : (d : ℕ) → d ≡ depthFrom 1 (λ d. deepPart d row) → d ≤ 65
-  left-most d e = rw e (first-is 65 1 (λ d. deepPart d row) .most)
-
-  leaves-by-depth : (d : ℕ) → allBelow 63488 row ≡ true → Depth 1 (λ k. deepPart k row) d → Leaves row (65 - d)
-  leaves-by-depth d w h = record { most = most (leb d 64) refl; words = λ k. w; deep = λ k. go (h .holds (omega arith)) (omega arith) }
-    where
-      most : (b : Bool) → leb d 64 ≡ b → 65 - d ≤ 64
-      most true q = let a = h .least (leb-true d 64 q) in omega arith
-      most false q = let a = leb-false d 64 q in omega arith
-
-      go : deepPart d row ≡ true → 65 - (65 - d) ≡ d → deepPart (65 - (65 - d)) row ≡ true
-      go y e = rw e y
-
   pub leaves : (r : ℕ) → r ≡ depthLeft row → Leaves row r
   unfolding depthLeft
-  leaves r e = rw e (go (allBelow 63488 row) refl)
-    where
-      go : (b : Bool) → allBelow 63488 row ≡ b → Leaves row (pick b (65 - depthFrom 1 (λ d. deepPart d row)) 0)
-      go true q = leaves-by-depth _ q (first-is 65 1 (λ d. deepPart d row))
-      go false q = record { most = omega arith; words = λ h. absurd (omega arith); deep = λ h. absurd (omega arith) }
+  leaves r e =
+      let x = left-by (λ d. deepPart d row) (allBelow 63488 row) r e in
+      record { most = x .0; words = λ h. x .1 h .0; deep = λ h. x .1 h .1 }
 
 -- a form at most r deep stays one if the first n parts are put into it
 pub record LeavesBy (starts ends : List ℕ) (n : ℕ) (list : List ℕ) (r : ℕ) : Type 0 where
@@ -249,25 +271,15 @@ module _ (starts ends : List ℕ) (n : ℕ) (list : List ℕ) where
   unfolding depthLeftBy
   left-high h e = rw (le-leb n 32 h, ← e)
 
-  pub left-parts : (d : ℕ) → n ≤ 32 → true ≡ allBelow 63488 list → d ≡ partsDepth starts ends list n → 65 - d ≡ depthLeftBy starts ends n list
+  pub left-parts : (d : ℕ) → n ≤ 32 → true ≡ allBelow 63488 list → d ≡ depthFrom 1 (λ d. deepParts d starts ends n list) → 65 - d ≡ depthLeftBy starts ends n list
   unfolding depthLeftBy
   left-parts d h e q = rw (le-leb n 32 h, ← e, ← q)
 
-  leaves-parts : (d : ℕ) → allBelow 63488 list ≡ true → PartsDepth starts ends list n d → LeavesBy starts ends n list (65 - d)
-  leaves-parts d w h =
-      let a = h .least in
-      record { most = omega arith; words = λ k. w; each = λ k i l. go i (h .each (omega arith) i l) (omega arith) }
-    where
-      go : (i : ℕ) → deepAt d (getD starts i 0) (getD ends i 0) list ≡ true → 65 - (65 - d) ≡ d → deepAt (65 - (65 - d)) (getD starts i 0) (getD ends i 0) list ≡ true
-      go i y e = rw e y
-
   pub leaves-by : (r : ℕ) → r ≡ depthLeftBy starts ends n list → LeavesBy starts ends n list r
   unfolding depthLeftBy
-  leaves-by r e = rw e (go (leb n 32 && allBelow 63488 list) refl)
-    where
-      go : (b : Bool) → (leb n 32 && allBelow 63488 list) ≡ b → LeavesBy starts ends n list (pick b (65 - partsDepth starts ends list n) 0)
-      go true q = leaves-parts _ (and-right (leb n 32) (allBelow 63488 list) q) (parts-are starts ends list n)
-      go false q = record { most = omega arith; words = λ h. absurd (omega arith); each = λ h. absurd (omega arith) }
+  leaves-by r e =
+      let x = left-by (λ d. deepParts d starts ends n list) (leb n 32 && allBelow 63488 list) r e in
+      record { most = x .0; words = λ h. and-right (leb n 32) (allBelow 63488 list) (x .1 h .0); each = λ h i l. parts-each starts ends list (65 - r) n (x .1 h .1) i l }
 
 -- a form's row that is small
 pub small-form : (m : ℕ) (x : Form) → Ok 64 expr x → m ≤ 63 → deepPart (suc m) (encode x) ≡ true → allBelow 63488 (encode x) ≡ true → Small m x

@@ -6,7 +6,7 @@ use shift::items::all_below;
 ghost use mathlib.Core.Path.{_≡_};
 ghost use Prim.Native.Nat.{_≤_};
 ghost use lib.ListN.{length};
-ghost use Rattle.replace.specs.Internal.Pieces.{deepPart, deepAt, depthFrom, depthLeft, partsDepth, depthLeftBy};
+ghost use Rattle.replace.specs.Internal.Pieces.{deepPart, deepAt, depthFrom, depthLeft, deepParts, depthLeftBy};
 
 // What leaves room for a replacement: the depths of the form and of the expression are together at most 65, and no word is over
 // 63,487 = 65,535 - 2,048.
@@ -63,11 +63,11 @@ fn depth_at(start: usize, end: usize, list: &[u32], from: u32) -> u32
     depth_from(&list[start..end], from)
 }
 
-// A depth within which each of the first n parts of the list is an expression; 65 where none was found.
-fn parts_depth(starts: &[usize], ends: &[usize], list: &[u32], n: usize) -> u32
+// The first of 1, 3, 7 and so on within which each of the first n parts of the list is an expression; 65 where none is.
+fn parts_depth(starts: &[usize], ends: &[usize], n: usize, list: &[u32]) -> u32
     requires { ⌜ n ≤ length (now starts) ⌝ }
     requires { ⌜ n ≤ length (now ends) ⌝ }
-    ensures { λ r. ⌜ r ≡ partsDepth (now (starts .entry)) (now (ends .entry)) (now (list .entry)) n ⌝ }
+    ensures { λ r. ⌜ r ≡ depthFrom 1 (λ d. deepParts d (now (starts .entry)) (now (ends .entry)) n (now (list .entry))) ⌝ }
 {
     let mut d = 1;
     let mut i = 0;
@@ -98,5 +98,5 @@ pub(crate) fn depth_left_by(starts: &[usize; 32], ends: &[usize; 32], n: usize, 
     if !all_below(list, Margin::WORDS_BELOW) {
         return 0;
     }
-    Margin::DEPTHS - parts_depth(starts, ends, list, n)
+    Margin::DEPTHS - parts_depth(starts, ends, n, list)
 }

@@ -169,13 +169,13 @@ depthFrom d test = firstDepth 65 d test
 unfoldable pub depthLeft : List ℕ → ℕ
 depthLeft row = pick (allBelow 63488 row) (65 - depthFrom 1 (λ d. deepPart d row)) 0
 
--- the same of the first n parts of a list: the depth of each is looked for from the depth of those before it on
-unfoldable pub partsDepth : List ℕ → List ℕ → List ℕ → ℕ → ℕ
-partsDepth starts ends list zero = 1
-partsDepth starts ends list (suc n) = depthFrom (partsDepth starts ends list n) (λ d. deepAt d (getD starts n 0) (getD ends n 0) list)
+-- the same of the first n parts of a list, each of which is an expression within that depth, where it has words
+unfoldable pub deepParts : ℕ → List ℕ → List ℕ → ℕ → List ℕ → Bool
+deepParts d starts ends zero list = true
+deepParts d starts ends (suc n) list = deepParts d starts ends n list && deepAt d (getD starts n 0) (getD ends n 0) list
 
 unfoldable pub depthLeftBy : List ℕ → List ℕ → ℕ → List ℕ → ℕ
-depthLeftBy starts ends n list = pick (leb n 32 && allBelow 63488 list) (65 - partsDepth starts ends list n) 0
+depthLeftBy starts ends n list = pick (leb n 32 && allBelow 63488 list) (65 - depthFrom 1 (λ d. deepParts d starts ends n list)) 0
 
 -- a form at most r deep stays one if the row is put into it
 pub record Leaves (row : List ℕ) (r : ℕ) : Type 0 where

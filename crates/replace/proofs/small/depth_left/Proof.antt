@@ -2,7 +2,7 @@
 use mathlib.Core.Path.{sym, _∙_}
 use borrow.Author.Tests.{not-true, not-false}
 use borrow.Author.Needs.{needs}
-use Rattle.replace.proofs.SmallLaws.{left-none, left-is, left-most}
+use Rattle.replace.proofs.SmallLaws.{left-none, left-is, depth-most}
 use Rattle.replace.proofs.small.depth_left.Statement.{statement}
 use Rattle.replace.proofs.small.depth_left.Tie as tie
 
@@ -16,7 +16,7 @@ depth-from-requires : tie.Need-depth-from-requires
 depth-from-requires c κs = search needs
 
 sub-result : tie.Need-sub-result
-sub-result c = left-most _ _ (c .depth-from .ensures)
+sub-result c = depth-most _ _ _ (c .depth-from .ensures)
 
 returns-2 : tie.Need-returns-2
 returns-2 c = left-is _ _ (sym (not-false _ (c .before .if1 .left)) ∙ c .before .before .all-below .ensures) (c .depth-from .ensures)

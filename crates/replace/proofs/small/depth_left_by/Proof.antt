@@ -1,7 +1,7 @@
 -- `replace::small::depth_left_by` meets its contract. Assumes nothing.
 use mathlib.Core.Path.{sym, _∙_}
 use borrow.Author.Tests.{not-true, not-false}
-use Rattle.replace.proofs.SmallLaws.{parts-most, left-many, left-high, left-parts}
+use Rattle.replace.proofs.SmallLaws.{left-many, left-high, left-parts, depth-most}
 use borrow.Author.Needs.{needs}
 use Rattle.replace.proofs.small.depth_left_by.Statement.{statement}
 use Rattle.replace.proofs.small.depth_left_by.Tie as tie
@@ -19,7 +19,7 @@ parts-depth-requires : tie.Need-parts-depth-requires
 parts-depth-requires c κs = search needs
 
 sub-result : tie.Need-sub-result
-sub-result c = parts-most _ _ _ _ _ (c .parts-depth .ensures)
+sub-result c = depth-most _ _ _ (c .parts-depth .ensures)
 
 returns-3 : tie.Need-returns-3
 returns-3 c = let b3 = c .before .before .before in left-parts _ _ _ _ _ (b3 .before .before .if1 .left) (sym (not-false _ (b3 .if2 .left)) ∙ b3 .before .all-below .ensures) (c .parts-depth .ensures)

@@ -2,16 +2,16 @@
 use mathlib.Core.Path.{_≡_}
 use Prim.Native.Nat.{_-_, _≤_}
 use native.Mathlib.Omega.{arith}
-use Rattle.replace.specs.Internal.Pieces.{partsDepth}
-use Rattle.replace.proofs.SmallLaws.{parts-none, parts-next, parts-most, parts-all}
+use Rattle.replace.specs.Internal.Pieces.{deepParts, depthFrom}
+use Rattle.replace.proofs.SmallLaws.{parts-none, parts-next, parts-all, depth-most}
 use Rattle.replace.proofs.small.parts_depth.Statement.{statement}
 use Rattle.replace.proofs.small.parts_depth.Tie as tie
 
 abbrev Inv-loop : tie.InvT-loop
-Inv-loop starts ends list n d₀ i₀ d i = (d ≡ partsDepth starts ends list i) × (i ≤ n)
+Inv-loop starts ends n list d₀ i₀ d i = (d ≡ depthFrom 1 (λ k. deepParts k starts ends i list)) × (i ≤ n)
 
 abbrev μ-loop : tie.MeasureT-loop
-μ-loop starts ends list n d₀ i₀ d i = n - i
+μ-loop starts ends n list d₀ i₀ d i = n - i
 
 loop-holds : tie.Need-loop-holds Inv-loop μ-loop
 loop-holds c = (parts-none _ _ _, omega arith)
@@ -29,7 +29,7 @@ shared-slice-read-depth-at-2 : tie.Need-shared-slice-read-depth-at-2 Inv-loop μ
 shared-slice-read-depth-at-2 c = omega arith
 
 depth-at-requires : tie.Need-depth-at-requires Inv-loop μ-loop
-depth-at-requires c κs = parts-most _ _ _ _ _ (c .before .before .before .loop .inv .0)
+depth-at-requires c κs = depth-most _ _ _ (c .before .before .before .loop .inv .0)
 
 add-i : tie.Need-add-i Inv-loop μ-loop
 add-i c = omega arith
