@@ -155,8 +155,8 @@ deepPart d ws = isOne (whole (decode d expr ws))
 unfoldable pub deepAt : ℕ → ℕ → ℕ → List ℕ → Bool
 deepAt d s e l = pick (leb e s) true (leb e (length l) && deepPart d (part s e l))
 
--- the first of d, one more than twice d and so on, none over 64, at which the test holds; 65 where there is none. At most k are tried, and
--- 65 are all
+-- the first of d, one more than twice d and so on, none over 64, at which the test holds; 65 where there is none: at most k are tried, and
+-- of 65 all
 unfoldable pub firstDepth : ℕ → ℕ → (ℕ → Bool) → ℕ
 firstDepth zero d test = 65
 firstDepth (suc k) d test = pick (leb d 64) (pick (test d) d (firstDepth k (2 * d + 1) test)) 65
@@ -169,7 +169,7 @@ depthFrom d test = firstDepth 65 d test
 unfoldable pub depthLeft : List ℕ → ℕ
 depthLeft row = pick (allBelow 63488 row) (65 - depthFrom 1 (λ d. deepPart d row)) 0
 
--- the same of the first n parts of a list, each of which is an expression within that depth, where it has words
+-- whether each of the first n parts of a list is an expression at most d deep, where it has words; and the depth that they leave
 unfoldable pub deepParts : ℕ → List ℕ → List ℕ → ℕ → List ℕ → Bool
 deepParts d starts ends zero list = true
 deepParts d starts ends (suc n) list = deepParts d starts ends n list && deepAt d (getD starts n 0) (getD ends n 0) list
