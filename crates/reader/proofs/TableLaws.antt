@@ -15,12 +15,11 @@ use Rattle.tree.specs.Tag.{expr}
 use Rattle.form.specs.Decode.{Got, got, no-form, decode}
 use Rattle.form.specs.Lists.{Entry, entry, wordOf, withExpr, placeEntry, entryOf, addEntry, andThen, listOf, entryWords, distinct, goodNames}
 use Rattle.form.specs.Answer.{told, answer, needs, namesOutcome, pairsOutcome, placesOutcome}
-use Rattle.reader.specs.Internal.Reads.{Told, markEntry, markEntries, ToldEntry, emptyTable, addRow, tabled, ListingFrom, Listing, memberOf, goodTable}
+use Rattle.reader.specs.Internal.Reads.{Told, markEntry, markEntries, ToldEntry, tableOf, emptyTable, addRow, tabled, ListingFrom, Listing, memberOf, goodWords}
 use Rattle.form.specs.declared.answer.Answer.the-variants.{Done, No}
 use Rattle.form.specs.declared.answer.ListKind.{ListKind}
 use Rattle.form.specs.declared.answer.ListKind.the-variants.{Pairs, Places}
 use Rattle.reader.specs.declared.lists.Table.{Table}
-use Rattle.reader.specs.declared.lists.Listed.{Listed}
 use Rattle.form.specs.declared.head.Step.{Step}
 use Rattle.form.specs.declared.head.Step.the-variants.{End, Bad}
 use Rattle.form.proofs.DecodeLaws.{clash}
@@ -131,39 +130,35 @@ module _ (kind : ListKind) (row : List ℕ) (p : ℕ) where
   entry-word : p < length row → (x : Entry × List ℕ) → entryOf kind (drop p row) ≡ some x → getD row p 0 ≡ wordOf (x .0)
   entry-word h x e = first-word (x .0) (x .1) (getD row p 0) (drop (p + 1) row) (sym (here row p h) ∙ entry-sound kind (drop p row) x e .0)
 
-add-listing : (p q : ℕ) (e : Entry) (o : Option (List Entry)) (t t′ : Table) (a a′ b : List ℕ) (l : Listed) → q ≡ p + length (entryWords e) → a′ ≡ markEntry e p a → t′ ≡ addRow t (wordOf e) (p + 1) q
-    → ListingFrom q t′ o a′ b l → ListingFrom p t (addEntry e o) a b l
+add-listing : (p q : ℕ) (e : Entry) (o : Option (List Entry)) (t t′ u : Table) (a a′ b : List ℕ) (ok : Bool) → q ≡ p + length (entryWords e) → a′ ≡ markEntry e p a → t′ ≡ addRow t (wordOf e) (p + 1) q
+    → ListingFrom q o t′ u a′ b ok → ListingFrom p (addEntry e o) t u a b ok
 unfolding ListingFrom tabled markEntries
-add-listing p q e (some es) t t′ a a′ b l n m k h = rw (← n, ← m, ← k) h
-add-listing p q e absent t t′ a a′ b l n m k h = h
+add-listing p q e (some es) t t′ u a a′ b ok n m k h = rw (← n, ← m, ← k) h
+add-listing p q e absent t t′ u a a′ b ok n m k h = h
 
-next-listing : (p q : ℕ) (z : Option (Entry × List ℕ)) (x : Entry × List ℕ) (k : List ℕ → Option (List Entry)) (y : List ℕ) (t t′ : Table) (w : ℕ) (a a′ b : List ℕ) (l : Listed) → z ≡ some x → x .1 ≡ y → w ≡ wordOf (x .0)
-    → q ≡ p + length (entryWords (x .0)) → a′ ≡ markEntry (x .0) p a → t′ ≡ addRow t w (p + 1) q → ListingFrom q t′ (k y) a′ b l → ListingFrom p t (andThen z k) a b l
-next-listing p q z x k y t t′ w a a′ b l e r v n m u h =
-    rw e (add-listing p q (x .0) (k (x .1)) t t′ a a′ b l n m (rw v at u) (rw r h))
+next-listing : (p q : ℕ) (z : Option (Entry × List ℕ)) (x : Entry × List ℕ) (k : List ℕ → Option (List Entry)) (y : List ℕ) (t t′ u : Table) (w : ℕ) (a a′ b : List ℕ) (ok : Bool) → z ≡ some x → x .1 ≡ y → w ≡ wordOf (x .0)
+    → q ≡ p + length (entryWords (x .0)) → a′ ≡ markEntry (x .0) p a → t′ ≡ addRow t w (p + 1) q → ListingFrom q (k y) t′ u a′ b ok → ListingFrom p (andThen z k) t u a b ok
+next-listing p q z x k y t t′ u w a a′ b ok e r v n m g h =
+    rw e (add-listing p q (x .0) (k (x .1)) t t′ u a a′ b ok n m (rw v at g) (rw r h))
 
 module _ (kind : ListKind) (row : List ℕ) (p : ℕ) (low : p < length row) (t : Table) (a a′ : List ℕ) (r : Step) (told-here : ToldEntry p (entryOf kind (drop p row)) a a′ r) where
-  pub list-more : (q : ℕ) (t′ : Table) → r ≡ End q → t′ ≡ addRow t (getD row p 0) (p + 1) q → (b : List ℕ) (l : Listed)
-      → ListingFrom q t′ (listOf kind (drop q row)) a′ b l → ListingFrom p t (listOf kind (drop p row)) a b l
-  list-more q t′ e u b l h =
+  pub list-more : (q : ℕ) (t′ : Table) → r ≡ End q → t′ ≡ addRow t (getD row p 0) (p + 1) q → (u : Table) (b : List ℕ) (ok : Bool)
+      → ListingFrom q (listOf kind (drop q row)) t′ u a′ b ok → ListingFrom p (listOf kind (drop p row)) t u a b ok
+  list-more q t′ e g u b ok h =
       let (x, z, n, m) = entry-end p (entryOf kind (drop p row)) a a′ r q told-here e in
       rw (list-here kind row p low)
-      (next-listing p q (entryOf kind (drop p row)) x (λ r. listOf kind r) (drop q row) t t′ (getD row p 0) a a′ b l z (entry-rest kind row p x z ∙ ap (λ n. drop n row) (sym n))
-      (entry-word kind row p low x z) n m u h)
+      (next-listing p q (entryOf kind (drop p row)) x (λ r. listOf kind r) (drop q row) t t′ u (getD row p 0) a a′ b ok z (entry-rest kind row p x z ∙ ap (λ n. drop n row) (sym n))
+      (entry-word kind row p low x z) n m g h)
 
-  pub list-stop : r ≡ Bad → (b : List ℕ) (l : Listed) → l .ok ≡ false → ListingFrom p t (listOf kind (drop p row)) a b l
+  pub list-stop : r ≡ Bad → (u : Table) (b : List ℕ) → ListingFrom p (listOf kind (drop p row)) t u a b false
   unfolding ListingFrom
-  list-stop e b l h = rw (list-here kind row p low, entry-bad p (entryOf kind (drop p row)) a a′ r told-here e) h
+  list-stop e u b = rw (list-here kind row p low, entry-bad p (entryOf kind (drop p row)) a a′ r told-here e) refl
 
-pub list-end : (kind : ListKind) (row : List ℕ) (p : ℕ) (t : Table) (a : List ℕ) → length row ≤ p → ListingFrom p t (listOf kind (drop p row)) a a (record { ok = true; table = t })
+pub list-end : (kind : ListKind) (row : List ℕ) (p : ℕ) (t : Table) (a : List ℕ) → length row ≤ p → ListingFrom p (listOf kind (drop p row)) t t a a true
 unfolding ListingFrom tabled markEntries
-list-end kind row p t a h = rw (gone row p h, list-nil kind) (refl, refl)
+list-end kind row p t a h = rw (gone row p h, list-nil kind) (refl, refl, refl)
 
 -- the table: its number of rows, and the words of the first 32
-pub row-none : emptyTable .n ≤ 0
-unfolding emptyTable
-row-none = omega arith
-
 pick-n : (b : Bool) (x y : Table) (n : ℕ) → x .n ≡ n → y .n ≡ n → pick {A = Table} b x y .n ≡ n
 pick-n true x y n p q = p
 pick-n false x y n p q = q
@@ -177,9 +172,15 @@ module _ (t : Table) (w s e : ℕ) where
   unfolding addRow
   add-words h = rw (lt-leb 32 (t .n) h)
 
--- a table with another number of rows
-abbrev pub counted : Table → ℕ → Table
-counted t n = record { words = t .words; starts = t .starts; ends = t .ends; n = n }
+-- a row stored where there is a place for it
+module _ (n : ℕ) (ws ss es : List ℕ) (w s e : ℕ) where
+  pub row-stored : n < 32 → tableOf (n + 1) (set ws n w) (set ss n s) (set es n e) ≡ addRow (tableOf n ws ss es) w s e
+  unfolding addRow
+  row-stored h = rw (lt-leb 32 n h)
+
+  pub row-counted : 32 ≤ n → tableOf (n + 1) ws ss es ≡ addRow (tableOf n ws ss es) w s e
+  unfolding addRow
+  row-counted h = rw (le-leb 32 n h)
 
 pub row-more : (t : Table) (w s e : ℕ) (t′ : Table) → t′ ≡ addRow t w s e → t′ .n ≡ t .n + 1
 row-more t w s e t′ u = rw u (add-n t w s e)
@@ -214,21 +215,35 @@ pub listed-n : (es : List Entry) → tabled es 0 emptyTable .n ≡ length es
 unfolding emptyTable
 listed-n es = tabled-n es 0 emptyTable ∙ omega arith
 
-pub good-listed : (es : List Entry) (b : Bool) → leb (length es) 32 ≡ b → goodTable (tabled es 0 emptyTable) ≡ goodNames (map wordOf es)
-unfolding goodTable goodNames
-good-listed es true e = rw (listed-words es (leb-true (length es) 32 e), listed-n es, length-map es wordOf)
-good-listed es false e = rw (listed-n es, length-map es wordOf, e)
+module _ (es : List Entry) (u : Table) (t : u ≡ tabled es 0 emptyTable) where
+  pub rows-n : u .n ≡ length es
+  rows-n = ap (λ (u : Table). u .n) t ∙ listed-n es
+
+  pub good-listed : goodWords (u .n) (u .words) ≡ goodNames (map wordOf es)
+  unfolding goodWords goodNames
+  good-listed = go (leb (length es) 32) refl
+    where
+      go : (b : Bool) → leb (length es) 32 ≡ b → goodWords (u .n) (u .words) ≡ goodNames (map wordOf es)
+      go true e = rw (t, listed-words es (leb-true (length es) 32 e), listed-n es, length-map es wordOf)
+      go false e = rw (t, listed-n es, length-map es wordOf, e)
 
 -- a list was read, or not
-pub listing-no : (o : Option (List Entry)) (a b : List ℕ) (l : Listed) → Listing o a b l → l .ok ≡ false → o ≡ absent
-unfolding ListingFrom
-listing-no (some es) a b l h e = let z = ap (λ (x : Listed). x .ok) (h .0) in absurd (clash cc)
-listing-no absent a b l h e = refl
+module _ (o : Option (List Entry)) (t u : Table) (a b : List ℕ) (ok : Bool) (h : Listing o t u a b ok) where
+  pub listing-no : ok ≡ false → o ≡ absent
+  unfolding ListingFrom
+  listing-no e = go o h
+    where
+      go : (o : Option (List Entry)) → Listing o t u a b ok → o ≡ absent
+      go (some es) h = let z = h .0 in absurd (clash cc)
+      go absent h = refl
 
-pub listing-yes : (o : Option (List Entry)) (a b : List ℕ) (l : Listed) → Listing o a b l → l .ok ≡ true → (es : List Entry) × (o ≡ some es) × (l .table ≡ tabled es 0 emptyTable) × (b ≡ markEntries es 0 a)
-unfolding ListingFrom
-listing-yes (some es) a b l h e = (es, refl, ap (λ (x : Listed). x .table) (h .0), h .1)
-listing-yes absent a b l h e = absurd (clash cc)
+  pub listing-yes : ok ≡ true → (es : List Entry) × (o ≡ some es) × (u ≡ tabled es 0 t) × (b ≡ markEntries es 0 a)
+  unfolding ListingFrom
+  listing-yes e = go o h
+    where
+      go : (o : Option (List Entry)) → Listing o t u a b ok → (es : List Entry) × (o ≡ some es) × (u ≡ tabled es 0 t) × (b ≡ markEntries es 0 a)
+      go (some es) h = (es, refl, h .1, h .2)
+      go absent h = absurd (clash cc)
 
 -- the answers: names, pairs, places
 module _ (row : List ℕ) where
@@ -248,40 +263,43 @@ module _ (row : List ℕ) where
   unfolding placesOutcome
   places-long n h = rw (lt-leb (length row) 8192 h)
 
-  module _ (h : length row ≤ 8192) (a b : List ℕ) (l : Listed) where
-    pub pairs-none : Listing (listOf Pairs row) a b l → l .ok ≡ false → No 2 ≡ told (pairsOutcome row)
-    unfolding pairsOutcome
-    pairs-none t e = rw (le-leb (length row) 8192 h, listing-no (listOf Pairs row) a b l t e)
+  -- a list was read from a table that was empty
+  module _ (h : length row ≤ 8192) (a b : List ℕ) (ok : Bool) (u : Table) where
+    abbrev Read : ListKind → Type 0
+    Read kind = Listing (listOf kind row) emptyTable u a b ok
 
-    pairs-some : (es : List Entry) → listOf Pairs row ≡ some es → l .table ≡ tabled es 0 emptyTable → (v : Bool) → goodTable (l .table) ≡ v → told (needs 4 v (answer [])) ≡ told (pairsOutcome row)
+    pub pairs-none : Read Pairs → ok ≡ false → No 2 ≡ told (pairsOutcome row)
     unfolding pairsOutcome
-    pairs-some es o t v e = rw (le-leb (length row) 8192 h, o, ← good-listed es (leb (length es) 32) refl, ← t, e)
+    pairs-none t e = rw (le-leb (length row) 8192 h, listing-no _ _ _ _ _ _ t e)
 
-    pub pairs-answer : Listing (listOf Pairs row) a b l → l .ok ≡ true → (v g : Bool) → g ≡ goodTable (l .table) → g ≡ v → told (needs 4 v (answer [])) ≡ told (pairsOutcome row)
+    pairs-some : (es : List Entry) → listOf Pairs row ≡ some es → u ≡ tabled es 0 emptyTable → (v : Bool) → goodWords (u .n) (u .words) ≡ v → told (needs 4 v (answer [])) ≡ told (pairsOutcome row)
+    unfolding pairsOutcome
+    pairs-some es o t v e = rw (le-leb (length row) 8192 h, o, ← good-listed es u t, e)
+
+    pub pairs-answer : Read Pairs → ok ≡ true → (v g : Bool) → g ≡ goodWords (u .n) (u .words) → g ≡ v → told (needs 4 v (answer [])) ≡ told (pairsOutcome row)
     pairs-answer t e v g k q =
-        let (es, o, u, m) = listing-yes (listOf Pairs row) a b l t e in
-        pairs-some es o u v (sym k ∙ q)
+        let (es, o, t, m) = listing-yes _ _ _ _ _ _ t e in
+        pairs-some es o t v (sym k ∙ q)
 
-    pub places-none : (n : ℕ) → Listing (listOf Places row) a b l → l .ok ≡ false → No 2 ≡ told (placesOutcome n row)
+    pub places-none : (d : ℕ) → Read Places → ok ≡ false → No 2 ≡ told (placesOutcome d row)
     unfolding placesOutcome
-    places-none n t e = rw (le-leb (length row) 8192 h, listing-no (listOf Places row) a b l t e)
+    places-none d t e = rw (le-leb (length row) 8192 h, listing-no _ _ _ _ _ _ t e)
 
-    places-some : (n : ℕ) (es : List Entry) → listOf Places row ≡ some es → l .table ≡ tabled es 0 emptyTable → (v : Bool) → (leb n 32 && eqb (l .table .n) n) ≡ v
-        → told (needs 5 v (answer [])) ≡ told (placesOutcome n row)
+    places-some : (d : ℕ) (es : List Entry) → listOf Places row ≡ some es → u ≡ tabled es 0 emptyTable → (v : Bool) → (leb d 32 && eqb (u .n) d) ≡ v → told (needs 5 v (answer [])) ≡ told (placesOutcome d row)
     unfolding placesOutcome
-    places-some n es o t v e = rw (le-leb (length row) 8192 h, o, ← listed-n es, ← t, e)
+    places-some d es o t v e = rw (le-leb (length row) 8192 h, o, ← rows-n es u t, e)
 
-    module _ (n : ℕ) (t : Listing (listOf Places row) a b l) (e : l .ok ≡ true) where
-      places-answer : (v : Bool) → (leb n 32 && eqb (l .table .n) n) ≡ v → told (needs 5 v (answer [])) ≡ told (placesOutcome n row)
+    module _ (d : ℕ) (t : Read Places) (e : ok ≡ true) where
+      places-answer : (v : Bool) → (leb d 32 && eqb (u .n) d) ≡ v → told (needs 5 v (answer [])) ≡ told (placesOutcome d row)
       places-answer v q =
-          let (es, o, u, m) = listing-yes (listOf Places row) a b l t e in
-          places-some n es o u v q
+          let (es, o, t, m) = listing-yes _ _ _ _ _ _ t e in
+          places-some d es o t v q
 
-      pub places-over : 32 < n → No 5 ≡ told (placesOutcome n row)
-      places-over g = places-answer false (rw (lt-leb n 32 g))
+      pub places-over : 32 < d → No 5 ≡ told (placesOutcome d row)
+      places-over g = places-answer false (rw (lt-leb d 32 g))
 
-      pub places-other : n ≤ 32 → (l .table .n ≡ n → ⊥) → No 5 ≡ told (placesOutcome n row)
-      places-other g d = places-answer false (rw (le-leb n 32 g, ne-eqb (l .table .n) n d))
+      pub places-other : d ≤ 32 → (u .n ≡ d → ⊥) → No 5 ≡ told (placesOutcome d row)
+      places-other g o = places-answer false (rw (le-leb d 32 g, ne-eqb (u .n) d o))
 
-      pub places-done : n ≤ 32 → l .table .n ≡ n → Done 0 ≡ told (placesOutcome n row)
-      places-done g d = places-answer true (rw (le-leb n 32 g, eq-eqb (l .table .n) n d))
+      pub places-done : d ≤ 32 → u .n ≡ d → Done 0 ≡ told (placesOutcome d row)
+      places-done g o = places-answer true (rw (le-leb d 32 g, eq-eqb (u .n) d o))

@@ -9,7 +9,7 @@ ghost use Prim.Native.Nat.{_+_, _<_};
 ghost use lib.ListN.{length, take, drop};
 ghost use Rattle.form.specs.Lists.{placeEntry, entryOf, listOf, distinct, goodNames};
 ghost use Rattle.form.specs.Answer.{told, namesOutcome, pairsOutcome, placesOutcome};
-ghost use Rattle.reader.specs.Internal.Reads.{ToldEntry, Listing, emptyTable, memberOf, goodTable};
+ghost use Rattle.reader.specs.Internal.Reads.{ToldEntry, tableOf, Listing, memberOf, goodWords};
 
 // The entries of a list: of the first 32 the word, and where its expression starts and ends in the row (at one place where it has
 // none); and the number of all.
@@ -20,27 +20,14 @@ pub struct Table {
     pub n: usize,
 }
 
-// A table, if the row is a list.
+// Whether the row is a list, and how many entries were read.
 pub struct Listed {
     pub ok: bool,
-    pub table: Table,
+    pub n: usize,
 }
 
 impl Table {
     pub const LIMIT: usize = 32;
-
-    fn new() -> Table
-        ensures { λ r. ⌜ r ≡ emptyTable ⌝ }
-    {
-        let words = [0u32; Self::LIMIT];
-        let at = [0usize; Self::LIMIT];
-        Table {
-            words: words,
-            starts: at,
-            ends: at,
-            n: 0,
-        }
-    }
 }
 
 // A place at p, whose word is w: where it ends.
@@ -70,33 +57,33 @@ fn entry_at(row: &[u32], kind: ListKind, marks: &mut [u32], p: usize) -> Step
     }
 }
 
-// The entries of the row, if it is such a list; the names and indices of their expressions are marked. The marks are a work row: what
-// they hold after a refusal is free.
-pub fn mark_list(row: &[u32], kind: ListKind, marks: &mut [u32]) -> Listed
-    ensures { λ r. ⌜ Listing (listOf kind (now (row .entry))) (now (marks .entry)) (now (marks .exit)) r ⌝ }
+// The entries of the row, if it is such a list: the rows of their table are lent, and the names and indices of their expressions are
+// marked. What the rows and the marks hold after a refusal is free.
+pub fn mark_list(
+    row: &[u32],
+    kind: ListKind,
+    marks: &mut [u32],
+    words: &mut [u32; 32],
+    starts: &mut [usize; 32],
+    ends: &mut [usize; 32],
+) -> Listed
+    ensures { λ r. ⌜ Listing (listOf kind (now (row .entry))) (tableOf 0 (now (words .entry)) (now (starts .entry)) (now (ends .entry))) (tableOf (r .n) (now (words .exit)) (now (starts .exit)) (now (ends .exit))) (now (marks .entry)) (now (marks .exit)) (r .ok) ⌝ }
 {
-    let mut table = Table::new();
+    let mut n = 0;
     let mut p = 0;
     while p < row.len() {
         let Step::End(q) = entry_at(row, kind, marks, p) else {
-            return Listed {
-                ok: false,
-                table: table,
-            };
+            return Listed { ok: false, n: n };
         };
-        let i = table.n;
-        if i < Table::LIMIT {
-            table.words[i] = row[p];
-            table.starts[i] = p + 1;
-            table.ends[i] = q;
+        if n < Table::LIMIT {
+            words[n] = row[p];
+            starts[n] = p + 1;
+            ends[n] = q;
         }
-        table.n = i + 1;
+        n += 1;
         p = q;
     }
-    Listed {
-        ok: true,
-        table: table,
-    }
+    Listed { ok: true, n: n }
 }
 
 // Whether the name stands at `from` or after it.
@@ -163,16 +150,14 @@ fn are_first_distinct(words: &[u32], n: usize) -> bool
     are_distinct(&words[..n])
 }
 
-// Whether the words of the table's entries are good names.
-pub fn good_table(table: Table) -> bool
-    ensures { λ r. ⌜ r ≡ goodTable table ⌝ }
+// Whether the words of a table's n entries are good names.
+pub fn good_table(words: &[u32; 32], n: usize) -> bool
+    ensures { λ r. ⌜ r ≡ goodWords n (now (words .entry)) ⌝ }
 {
-    let n = table.n;
     if Table::LIMIT < n {
         return false;
     }
-    let words = table.words;
-    are_first_distinct(&words, n)
+    are_first_distinct(words, n)
 }
 
 // The check of a substitution list.
@@ -183,11 +168,21 @@ pub fn check_pairs(row: &[u32]) -> Answer
         return Answer::No(1);
     }
     let mut marks = [0u32; 1];
-    let listed = mark_list(row, ListKind::Pairs, &mut marks);
+    let mut words = [0u32; 32];
+    let mut starts = [0usize; 32];
+    let mut ends = [0usize; 32];
+    let listed = mark_list(
+        row,
+        ListKind::Pairs,
+        &mut marks,
+        &mut words,
+        &mut starts,
+        &mut ends,
+    );
     if !listed.ok {
         return Answer::No(2);
     }
-    if !good_table(listed.table) {
+    if !good_table(&words, listed.n) {
         return Answer::No(4);
     }
     Answer::Done(0)
@@ -201,15 +196,24 @@ pub fn check_places(row: &[u32], n: u32) -> Answer
         return Answer::No(1);
     }
     let mut marks = [0u32; 1];
-    let listed = mark_list(row, ListKind::Places, &mut marks);
+    let mut words = [0u32; 32];
+    let mut starts = [0usize; 32];
+    let mut ends = [0usize; 32];
+    let listed = mark_list(
+        row,
+        ListKind::Places,
+        &mut marks,
+        &mut words,
+        &mut starts,
+        &mut ends,
+    );
     if !listed.ok {
         return Answer::No(2);
     }
     if Limit::DECLARATIONS < n {
         return Answer::No(5);
     }
-    let table = listed.table;
-    if table.n != n as usize {
+    if listed.n != n as usize {
         return Answer::No(5);
     }
     Answer::Done(0)

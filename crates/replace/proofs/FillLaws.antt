@@ -17,17 +17,16 @@ use Rattle.reader.specs.Internal.Reads.{mark, markEntries, emptyTable, tabled, 
 use Rattle.form.specs.declared.answer.Kind.the-variants.{Predicate}
 use Rattle.form.specs.declared.answer.ListKind.the-variants.{Places}
 use Rattle.reader.specs.declared.lists.Table.{Table}
-use Rattle.reader.specs.declared.lists.Listed.{Listed}
 use Rattle.form.proofs.DecodeLaws.{clash, Ok}
 use Rattle.form.proofs.ListLaws.{GoodAll, list-sound}
-use Rattle.reader.proofs.TableLaws.{listed-words, listed-n, listing-yes}
+use Rattle.reader.proofs.TableLaws.{listed-words, listed-n, rows-n, listing-yes}
 use Rattle.shift.proofs.CheckedLaws.{Checked}
 use Rattle.rules.specs.Fill.{quantified, other, ofQuantified, fill, fillOutcome}
-use Rattle.replace.specs.Internal.Pieces.{filledWords, InRow, Ready, replaced, fillPlan, declaredIn, keptWords, headWords, filledRow, isFound, LeavesBy}
+use Rattle.replace.specs.Internal.Pieces.{filledWords, InRow, Ready, replaced, fillPlan, declaredIn, keptWords, headWords, filledRow, isFound}
 use Rattle.replace.proofs.EntryLaws.{PlaceAt, listed-places, listed-in-row, listed-full}
 use Rattle.replace.proofs.BuildLaws.{emit-sure}
 use Rattle.replace.proofs.InsideLaws.{some-deep, fill-fits}
-use Rattle.replace.proofs.SmallLaws.{listed-small}
+use Rattle.replace.proofs.SmallLaws.{LeavesBy, listed-small}
 use Rattle.replace.proofs.CallLaws.{call-small, call-long, call-missing, call-list-long, call-no-list, call-read}
 use Rattle.replace.proofs.FillTree.{wordFor, fill-tree}
 use Rattle.replace.proofs.NameLaws.{kept-names, encode-quantify}
@@ -130,24 +129,24 @@ module _ (list row : List ℕ) (wl room : ℕ) where
             → fillOutcome list row wl room ≡ needs 5 (eqb (length es) (length (q .decls))) (finish pred room (fill (q .tag) (q .decls) (map placeOf es) (q .body)))
         fill-counted es o q = fill-read es o ∙ rw (q .is)
 
-        module _ (a b : List ℕ) (l : Listed) (h : Listing (listOf Places list) a b l) (ok : l .ok ≡ true) (n : ℕ) (e : n ≡ declaredIn row) where
+        module _ (a b : List ℕ) (t : Table) (ok : Bool) (h : Listing (listOf Places list) emptyTable t a b ok) (y : ok ≡ true) (n : ℕ) (e : n ≡ declaredIn row) where
           pub fill-other : n ≡ 0 → fillOutcome list row wl room ≡ refusal 3
           fill-other z =
-              let (es, o, t, k) = listing-yes (listOf Places list) a b l h ok in
+              let (es, o, u, k) = listing-yes _ _ _ _ _ _ h y in
               go es o
             where
               go : (es : List Entry) → listOf Places list ≡ some es → fillOutcome list row wl room ≡ refusal 3
               go es o = fill-read es o ∙ rw (no-quant row m (length row) x n e z)
 
-          pub fill-count : (n ≡ 0 → ⊥) → (l .table .n ≡ n → ⊥) → fillOutcome list row wl room ≡ refusal 5
+          pub fill-count : (n ≡ 0 → ⊥) → (t .n ≡ n → ⊥) → fillOutcome list row wl room ≡ refusal 5
           fill-count z c =
-              let (es, o, t, k) = listing-yes (listOf Places list) a b l h ok in
-              go es o t
+              let (es, o, u, k) = listing-yes _ _ _ _ _ _ h y in
+              go es o u
             where
-              go : (es : List Entry) → listOf Places list ≡ some es → l .table ≡ tabled es 0 emptyTable → fillOutcome list row wl room ≡ refusal 5
-              go es o t =
+              go : (es : List Entry) → listOf Places list ≡ some es → t ≡ tabled es 0 emptyTable → fillOutcome list row wl room ≡ refusal 5
+              go es o u =
                   let q = the-quant row m (length row) x n e z in
-                  let d : length es ≡ length (q .decls) → ⊥ = λ r. c ((ap (λ (u : Table). u .n) t ∙ listed-n es) ∙ (r ∙ sym (the-count row m (length row) x n e q))) in
+                  let d : length es ≡ length (q .decls) → ⊥ = λ r. c (rows-n es t u ∙ (r ∙ sym (the-count row m (length row) x n e q))) in
                   fill-counted es o q ∙ rw (ne-eqb (length es) (length (q .decls)) d)
 
 -- the places of a list
@@ -163,18 +162,14 @@ pub record Placing (list : List ℕ) (t : Table) (work : List ℕ) (n : ℕ) : T
   pub table : t ≡ tabled es 0 emptyTable
   pub marks : take (length list) (drop 8192 work) ≡ markEntries es 0 (replicate (length list) 0)
 
-module _ (list work : List ℕ) (l : Listed) (n : ℕ) where
-  placing-of : (es : List Entry) → listOf Places list ≡ some es → l .table ≡ tabled es 0 emptyTable → take (length list) (drop 8192 work) ≡ markEntries es 0 (replicate (length list) 0) → l .table .n ≡ n → Placing list (l .table) work n
-  placing-of es o t k c = record { es = es; is = o; count = sym (ap (λ (u : Table). u .n) t ∙ listed-n es) ∙ c; table = t; marks = k }
-
-  pub placing : Listing (listOf Places list) (replicate (length list) 0) (take (length list) (drop 8192 work)) l → l .ok ≡ true → l .table .n ≡ n → Placing list (l .table) work n
-  placing h ok c =
-      let (es, o, t, k) = listing-yes (listOf Places list) (replicate (length list) 0) (take (length list) (drop 8192 work)) l h ok in
-      placing-of es o t k c
+pub placing : (list work : List ℕ) (t : Table) (ok : Bool) (n : ℕ) → Listing (listOf Places list) emptyTable t (replicate (length list) 0) (take (length list) (drop 8192 work)) ok → ok ≡ true → t .n ≡ n → Placing list t work n
+placing list work t ok n h y c =
+    let (es, o, u, k) = listing-yes _ _ _ _ _ _ h y in
+    record { es = es; is = o; count = sym (rows-n es t u) ∙ c; table = u; marks = k }
 
 module _ (list : List ℕ) (t : Table) (work : List ℕ) (n : ℕ) (y : Placing list t work n) (few : n ≤ 32) where
   table-n : t .n ≡ length (y .es)
-  table-n = ap (λ (u : Table). u .n) (y .table) ∙ listed-n (y .es)
+  table-n = rows-n (y .es) t (y .table)
 
   es-few : length (y .es) ≤ 32
   es-few = let c = y .count in omega arith
@@ -202,7 +197,7 @@ module _ (list : List ℕ) (t : Table) (work : List ℕ) (n : ℕ) (y : Placing 
     fill-said : fillOutcome list row wl room ≡ finish pred room (fill (q .tag) (q .decls) (map placeOf (y .es)) (q .body))
     fill-said = fill-counted list row wl room enough (take (length row) work) x short (y .es) (y .is) q ∙ rw (eq-eqb (length (y .es)) (length (q .decls)) (sym (length-map (y .es) placeOf) ∙ ps-count))
 
-    module _ (d : ℕ) (left : LeavesBy t list d) (b : Bool) (shallow : b ≡ true → Ok d (x .sort) (x .form)) where
+    module _ (d : ℕ) (left : LeavesBy (t .starts) (t .ends) (t .n) list d) (b : Bool) (shallow : b ≡ true → Ok d (x .sort) (x .form)) where
       abbrev result : Form
       result = fill (q .tag) (q .decls) (map placeOf (y .es)) (q .body)
 

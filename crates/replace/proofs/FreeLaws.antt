@@ -14,11 +14,10 @@ use Rattle.tree.specs.Tag.{Sort, expr, pred}
 use Rattle.form.specs.Decode.{Whole, one, not-one, found, missing, asSort, rowForm, formOf}
 use Rattle.form.specs.Lists.{Place, kept, filled, Entry, entry, wordOf, placeOf, listOf, distinct, goodNames}
 use Rattle.form.specs.Answer.{Outcome, refusal, needs, isOne, finish}
-use Rattle.reader.specs.Internal.Reads.{asExpr, markEntries, emptyTable, tabled, Listing, goodTable}
+use Rattle.reader.specs.Internal.Reads.{asExpr, markEntries, emptyTable, tabled, Listing, goodWords}
 use Rattle.form.specs.declared.answer.Kind.the-variants.{Either}
 use Rattle.form.specs.declared.answer.ListKind.the-variants.{Pairs}
 use Rattle.reader.specs.declared.lists.Table.{Table}
-use Rattle.reader.specs.declared.lists.Listed.{Listed}
 use Rattle.form.proofs.DecodeLaws.{clash, Ok}
 use Rattle.reader.proofs.TableLaws.{listed-words, listed-n, good-listed, listing-yes}
 use Rattle.reader.proofs.CheckLaws.{sortFor, form-of}
@@ -31,14 +30,14 @@ use Rattle.shift.proofs.ShiftLaws.{moved}
 use Rattle.shift.proofs.RowLaws.{identOf, itemsOf, marked-items, walk-items}
 use Rattle.shift.proofs.CheckedLaws.{Checked}
 use Rattle.rules.specs.Free.{orName, seek, freeFor, substitute, freeOutcome}
-use Rattle.replace.specs.Internal.Pieces.{pieceWords, spot, freePiece, pieceOf, planned, InRow, Ready, replaced, kindFor, freePlan, isFound, LeavesBy}
+use Rattle.replace.specs.Internal.Pieces.{pieceWords, spot, freePiece, pieceOf, planned, InRow, Ready, replaced, kindFor, freePlan, isFound}
 use Rattle.replace.specs.declared.pieces.Piece.the-variants.{Same, Part}
 use Rattle.replace.proofs.EntryLaws.{PlaceAt, listed-places, listed-in-row, listed-full}
 use Rattle.replace.proofs.MarkLaws.{items-take}
 use Rattle.replace.proofs.ActionLaws.{tight-depth, moved-words, moved-lift}
 use Rattle.replace.proofs.BuildLaws.{kindOf, emit-sure}
 use Rattle.replace.proofs.InsideLaws.{some-deep, free-fits}
-use Rattle.replace.proofs.SmallLaws.{listed-small}
+use Rattle.replace.proofs.SmallLaws.{LeavesBy, listed-small}
 use Rattle.replace.proofs.CallLaws.{call-small, call-long, call-missing, call-list-long, call-no-list, call-read}
 
 -- the list is searched as the words are
@@ -171,14 +170,14 @@ module _ (list row : List ℕ) (wl room : ℕ) where
         unfolding freeOutcome
         free-named es o = call-read Either Pairs (freeGo room) list row wl enough m x short es o
 
-        module _ (a b : List ℕ) (l : Listed) (h : Listing (listOf Pairs list) a b l) (ok : l .ok ≡ true) where
-          pub free-bad : (g : Bool) → g ≡ goodTable (l .table) → g ≡ false → freeOutcome list row wl room ≡ refusal 4
+        module _ (a b : List ℕ) (t : Table) (ok : Bool) (h : Listing (listOf Pairs list) emptyTable t a b ok) (y : ok ≡ true) where
+          pub free-bad : (g : Bool) → g ≡ goodWords (t .n) (t .words) → g ≡ false → freeOutcome list row wl room ≡ refusal 4
           free-bad g e n =
-              let (es, o, t, k) = listing-yes (listOf Pairs list) a b l h ok in
-              go es o t
+              let (es, o, u, k) = listing-yes _ _ _ _ _ _ h y in
+              go es o u
             where
-              go : (es : List Entry) → listOf Pairs list ≡ some es → l .table ≡ tabled es 0 emptyTable → freeOutcome list row wl room ≡ refusal 4
-              go es o t = free-named es o ∙ rw (← good-listed es (leb (length es) 32) refl, ← t, ← e, n)
+              go : (es : List Entry) → listOf Pairs list ≡ some es → t ≡ tabled es 0 emptyTable → freeOutcome list row wl room ≡ refusal 4
+              go es o u = free-named es o ∙ rw (← good-listed es t u, ← e, n)
 
 few-names-of : (es : List Entry) → goodNames (map wordOf es) ≡ true → length es ≤ 32
 unfolding goodNames
@@ -193,17 +192,17 @@ pub record Pairing (list : List ℕ) (t : Table) (work : List ℕ) : Type 0 wher
   pub table : t ≡ tabled es 0 emptyTable
   pub marks : take (length list) (drop 8192 work) ≡ markEntries es 0 (replicate (length list) 0)
 
-module _ (list work : List ℕ) (l : Listed) where
-  pairing-of : (es : List Entry) → listOf Pairs list ≡ some es → l .table ≡ tabled es 0 emptyTable → take (length list) (drop 8192 work) ≡ markEntries es 0 (replicate (length list) 0) → goodTable (l .table) ≡ true
-      → Pairing list (l .table) work
-  pairing-of es o t k g =
-      let n : goodNames (map wordOf es) ≡ true = sym (good-listed es (leb (length es) 32) refl) ∙ rw t at g in
-      record { es = es; is = o; good = n; few = few-names-of es n; table = t; marks = k }
+module _ (list work : List ℕ) (t : Table) (ok : Bool) where
+  pairing-of : (es : List Entry) → listOf Pairs list ≡ some es → t ≡ tabled es 0 emptyTable → take (length list) (drop 8192 work) ≡ markEntries es 0 (replicate (length list) 0) → goodWords (t .n) (t .words) ≡ true
+      → Pairing list t work
+  pairing-of es o u k g =
+      let n : goodNames (map wordOf es) ≡ true = sym (good-listed es t u) ∙ g in
+      record { es = es; is = o; good = n; few = few-names-of es n; table = u; marks = k }
 
-  pub pairing : Listing (listOf Pairs list) (replicate (length list) 0) (take (length list) (drop 8192 work)) l → l .ok ≡ true → (g : Bool) → g ≡ goodTable (l .table) → g ≡ true → Pairing list (l .table) work
-  pairing h ok g e y =
-      let (es, o, t, k) = listing-yes (listOf Pairs list) (replicate (length list) 0) (take (length list) (drop 8192 work)) l h ok in
-      pairing-of es o t k (sym e ∙ y)
+  pub pairing : Listing (listOf Pairs list) emptyTable t (replicate (length list) 0) (take (length list) (drop 8192 work)) ok → ok ≡ true → (g : Bool) → g ≡ goodWords (t .n) (t .words) → g ≡ true → Pairing list t work
+  pairing h y g e z =
+      let (es, o, u, k) = listing-yes _ _ _ _ _ _ h y in
+      pairing-of es o u k (sym e ∙ z)
 
 module _ (list : List ℕ) (t : Table) (work : List ℕ) (y : Pairing list t work) where
   pub pairs-few : t .n ≤ 32
@@ -229,7 +228,7 @@ module _ (list : List ℕ) (t : Table) (work : List ℕ) (y : Pairing list t wor
     free-said : freeOutcome list row wl room ≡ finish (x .sort) room (substitute (y .es) (x .form))
     free-said = free-named list row wl room enough (take (length row) work) x short (y .es) (y .is) ∙ rw (y .good)
 
-    pub free-row : (d : ℕ) → LeavesBy t list d → (b : Bool) → (b ≡ true → Ok d (x .sort) (x .form)) → replaced b (kindFor (asExpr Either row)) [] (freePlan t) list (drop 8192 work) row work room ≡ freeOutcome list row wl room
+    pub free-row : (d : ℕ) → LeavesBy (t .starts) (t .ends) (t .n) list d → (b : Bool) → (b ≡ true → Ok d (x .sort) (x .form)) → replaced b (kindFor (asExpr Either row)) [] (freePlan t) list (drop 8192 work) row work room ≡ freeOutcome list row wl room
     free-row d left b shallow = free-built b (λ y l. within (shallow y) l) ∙ sym free-said
       where
         within : Ok d (x .sort) (x .form) → length (encode (substitute (y .es) (x .form))) ≤ 8192 → isOne (rowForm (x .sort) (encode (substitute (y .es) (x .form)))) ≡ true

@@ -5,8 +5,8 @@ use mathlib.Core.List.{List, [], _∷_, _++_, map, reverse, reverse-cons}
 use Prim.Native.Nat.{ℕ, zero, suc, _+_, _-_, _*_, _≤_, _<_}
 use native.Mathlib.Nat.{suc-add}
 use native.Mathlib.Omega.{arith}
-use borrow.Author.Tests.{le-leb, leb-true}
-use lib.Dec.{eqb, leb}
+use borrow.Author.Tests.{lt-ltb, ltb-true}
+use lib.Dec.{eqb, ltb}
 use lib.ListN.{length, getD, take, drop, length-map, length-drop}
 use Rattle.tree.specs.Form.{free, bound, Form, leaf, node, Forms, none, more, pick, between, encode, encodeAll}
 use Rattle.tree.specs.Tag.{Sort, expr, pred, sorts}
@@ -20,11 +20,12 @@ use Rattle.rules.specs.Walk.{Binding, inside, outside, binding, Outer, named, d
 use Rattle.rules.specs.Shift.{fall, lower}
 use Rattle.rules.proofs.WalkLaws.{eachAll, binding-back, and-left, and-right}
 use Rattle.rules.proofs.LimitLaws.{small as fits, ok-small as ok-fits}
+use Rattle.shift.specs.Internal.Items.{allBelow}
 use Rattle.shift.proofs.ShiftLaws.{between-high}
 use Rattle.rules.proofs.TreeLaws.{up-up}
 use Rattle.rules.specs.Fill.{keptCount, keptNames, fillIndex, fillFor, fill}
 use Rattle.rules.specs.Free.{orName, seek, freeFor, substitute}
-use Rattle.replace.specs.Internal.Pieces.{smallWords as small, areNames}
+use Rattle.replace.specs.Internal.Pieces.{areNames}
 use Rattle.rules.proofs.OkLaws.{ok-deep}
 use Rattle.replace.proofs.FillTree.{count-both, kept-reverse, lowPlace}
 use Rattle.replace.proofs.QuantLaws.{Quant, tag-heading}
@@ -57,31 +58,38 @@ pub walk-deeper : (K m : ℕ) (act : ℕ → Outer → Form) → ((k : ℕ) (x :
 walk-deeper K m act h ok k l = walk-tested K m fits act h ok k l (ok-fits ok k)
 
 -- words that are at most 63,487
+abbrev small : List ℕ → Bool
+small ws = allBelow 63488 ws
+
 pub small-split : (a b : List ℕ) → small (a ++ b) ≡ true → (small a ≡ true) × (small b ≡ true)
+unfolding allBelow
 small-split [] b h = (refl, h)
 small-split (w ∷ a) b h =
-    let (x, y) = small-split a b (and-right (leb w 63487) (small (a ++ b)) h) in
-    (rw (and-left (leb w 63487) (small (a ++ b)) h) x, y)
+    let (x, y) = small-split a b (and-right (ltb w 63488) (small (a ++ b)) h) in
+    (rw (and-left (ltb w 63488) (small (a ++ b)) h) x, y)
 
 small-join : (a b : List ℕ) → small a ≡ true → small b ≡ true → small (a ++ b) ≡ true
+unfolding allBelow
 small-join [] b h g = g
-small-join (w ∷ a) b h g = rw (and-left (leb w 63487) (small a) h) (small-join a b (and-right (leb w 63487) (small a) h) g)
+small-join (w ∷ a) b h g = rw (and-left (ltb w 63488) (small a) h) (small-join a b (and-right (ltb w 63488) (small a) h) g)
 
 -- an outer identifier's number is at most 63,487
 abbrev low : ℕ → Outer → Bool
-low k (named m) = leb m 63487
-low k (dangling j) = leb (k + j) 63487
+low k (named m) = ltb m 63488
+low k (dangling j) = ltb (k + j) 63488
 
-low-index : (k i : ℕ) (z : Binding) → binding k i ≡ z → leb i 63487 ≡ true → collectIndex true low k z ≡ true
+low-index : (k i : ℕ) (z : Binding) → binding k i ≡ z → ltb i 63488 ≡ true → collectIndex true low k z ≡ true
 low-index k i inside q h = refl
 low-index k i (outside j) q h = rw (binding-back k i j q) h
 
-last-word : (t n : ℕ) → small (t ∷ n ∷ []) ≡ true → leb n 63487 ≡ true
-last-word t n h = and-left (leb n 63487) true (and-right (leb t 63487) (leb n 63487 && true) h)
+last-word : (t n : ℕ) → small (t ∷ n ∷ []) ≡ true → ltb n 63488 ≡ true
+unfolding allBelow
+last-word t n h = and-left (ltb n 63488) true (and-right (ltb t 63488) (ltb n 63488 && true) h)
 
 kids-small : (t : ℕ) (o ds ws : List ℕ) → small (t ∷ (o ++ (ds ++ ws))) ≡ true → small ws ≡ true
+unfolding allBelow
 kids-small t o ds ws h =
-    let (a, b) = small-split o (ds ++ ws) (and-right (leb t 63487) (small (o ++ (ds ++ ws))) h) in
+    let (a, b) = small-split o (ds ++ ws) (and-right (ltb t 63488) (small (o ++ (ds ++ ws))) h) in
     let (c, d) = small-split ds ws b in
     d
 
@@ -101,8 +109,8 @@ mutual
 
 -- such a form can be lifted by 2,048
 up-ok : (n k : ℕ) (x : Outer) → n ≤ 2048 → low k x ≡ true → Ok 1 expr (up n k x)
-up-ok n k (named m) l h = let g = leb-true m 63487 h in ok-free (between-in 0 65535 m (omega arith) (omega arith))
-up-ok n k (dangling j) l h = let g = leb-true (k + j) 63487 h in ok-bound (between-in 0 65535 (k + (j + n)) (omega arith) (omega arith))
+up-ok n k (named m) l h = let g = ltb-true m 63488 h in ok-free (between-in 0 65535 m (omega arith) (omega arith))
+up-ok n k (dangling j) l h = let g = ltb-true (k + j) 63488 h in ok-bound (between-in 0 65535 (k + (j + n)) (omega arith) (omega arith))
 
 pub lift-small : {d : ℕ} {s : Sort} {e : Form} → Ok d s e → small (encode e) ≡ true → (n : ℕ) → n ≤ 2048 → Ok d s (lift n e)
 lift-small {d} {s} {e} ok h n l = ok-deep (walk-tested (32 * d) 0 low (up n) (λ k x a b. up-ok n k x l b) ok 0 (omega arith) (small-low 0 e h)) d (omega arith)
@@ -146,16 +154,16 @@ module _ (act : ℕ → Outer → Form) (g : (k : ℕ) (x : Outer) → low k x �
   small-index k i (outside j) q h = g k (dangling j) (rw (binding-back k i j q) (last-word 2 i h))
 
   mutual
-    unfolding walk encode
+    unfolding walk encode allBelow
 
     small-walk : (k : ℕ) (f : Form) → small (encode f) ≡ true → small (encode (walk act k f)) ≡ true
     small-walk k (leaf (free n)) h = g k (named n) (last-word 1 n h)
     small-walk k (leaf (bound i)) h = small-index k i (binding k i) refl h
     small-walk k (node t o ds ks) h =
-        let (a, b) = small-split o (ds ++ encodeAll ks) (and-right (leb t 63487) (small (o ++ (ds ++ encodeAll ks))) h) in
+        let (a, b) = small-split o (ds ++ encodeAll ks) (and-right (ltb t 63488) (small (o ++ (ds ++ encodeAll ks))) h) in
         let (c, d) = small-split ds (encodeAll ks) b in
         let e = encodeAll (walkAll act (length ds + k) ks) in
-        rw (and-left (leb t 63487) (small (o ++ (ds ++ encodeAll ks))) h) (small-join o (ds ++ e) a (small-join ds e c (small-walkAll (length ds + k) ks d)))
+        rw (and-left (ltb t 63488) (small (o ++ (ds ++ encodeAll ks))) h) (small-join o (ds ++ e) a (small-join ds e c (small-walkAll (length ds + k) ks d)))
 
     small-walkAll : (k : ℕ) (fs : Forms) → small (encodeAll fs) ≡ true → small (encodeAll (walkAll act k fs)) ≡ true
     small-walkAll k none h = refl
@@ -169,9 +177,9 @@ fall-ok n k (named m) h = ok-free h
 fall-ok n k (dangling j) h = let g = between-high 65535 (k + j) h in ok-bound (between-in 0 65535 (0 + (j - n + k)) (omega arith) (omega arith))
 
 fall-small : (n k : ℕ) (x : Outer) → low k x ≡ true → small (encode (put (fall n) k x)) ≡ true
-unfolding walk encode
+unfolding walk encode allBelow
 fall-small n k (named m) h = rw h
-fall-small n k (dangling j) h = let g = leb-true (k + j) 63487 h in rw (le-leb (0 + (j - n + k)) 63487 (omega arith))
+fall-small n k (dangling j) h = let g = ltb-true (k + j) 63488 h in rw (lt-ltb (0 + (j - n + k)) 63488 (omega arith))
 
 -- the names of the first j declarations and of the others
 pub names-take : (j : ℕ) (ns : List ℕ) → areNames ns ≡ true → areNames (take j ns) ≡ true

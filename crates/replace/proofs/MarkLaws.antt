@@ -1,5 +1,6 @@
 -- Marks made in part of a work row: of a form, and of the entries of a list. Assumes nothing.
 use mathlib.Core.Path.{_≡_, refl, ap, sym, _∙_}
+use mathlib.Core.Bool.{Bool}
 use mathlib.Core.List.{List, [], _∷_, _++_, append-assoc, append-nil}
 use mathlib.Core.Option.{Option, none as absent, some}
 use Prim.Native.Nat.{ℕ, zero, suc, _+_, _-_, _≤_, _<_}
@@ -12,7 +13,7 @@ use Rattle.form.specs.Lists.{Place, kept, filled, Entry, entry, placeWords, ent
 use Rattle.reader.specs.Internal.Reads.{mark, Marked, markPlace, markEntry, markEntries, ListingFrom, Listing}
 use Rattle.form.specs.declared.answer.Kind.{Kind}
 use Rattle.form.specs.declared.answer.ListKind.{ListKind}
-use Rattle.reader.specs.declared.lists.Listed.{Listed}
+use Rattle.reader.specs.declared.lists.Table.{Table}
 use Rattle.form.proofs.HeadLaws.{here, gone}
 use Rattle.form.proofs.ListLaws.{list-sound}
 use Rattle.shift.specs.Internal.Items.{Fresh, items, store}
@@ -110,12 +111,12 @@ take-entries es list b m e k =
     let n : length (marksList es) ≡ length list = list-length es ∙ rw e in
     rw (w, take-at (marksList es) b (length list) n, e) (sym (only-entries es))
 
-pub listing-front : (kind : ListKind) (list b m : List ℕ) (r : Listed) → Listing (listOf kind list) (replicate (length list) 0 ++ b) m r → Listing (listOf kind list) (replicate (length list) 0) (take (length list) m) r
+pub listing-front : (kind : ListKind) (list b m : List ℕ) (t u : Table) (ok : Bool) → Listing (listOf kind list) t u (replicate (length list) 0 ++ b) m ok → Listing (listOf kind list) t u (replicate (length list) 0) (take (length list) m) ok
 unfolding ListingFrom
-listing-front kind list b m r k = go (listOf kind list) refl k
+listing-front kind list b m t u ok k = go (listOf kind list) refl k
   where
-    go : (o : Option (List Entry)) → listOf kind list ≡ o → Listing o (replicate (length list) 0 ++ b) m r → Listing o (replicate (length list) 0) (take (length list) m) r
-    go (some es) q k = (k .0, take-entries es list b m (list-sound kind list es q .0) (k .1))
+    go : (o : Option (List Entry)) → listOf kind list ≡ o → Listing o t u (replicate (length list) 0 ++ b) m ok → Listing o t u (replicate (length list) 0) (take (length list) m) ok
+    go (some es) q k = (k .0, k .1, take-entries es list b m (list-sound kind list es q .0) (k .2))
     go absent q k = k
 
 -- the row cleared from a position on, and the part after it
@@ -136,27 +137,25 @@ module _ (l l′ : List ℕ) (at n : ℕ) (fits : at + n ≤ length l) (e : l′
   pub cleared-front : take at l′ ≡ take at l
   cleared-front = rw cleared (take-at (take at l) (replicate n 0 ++ drop n (drop at l)) at (length-take-le at l (omega arith)))
 
--- the part comes back changed: what stands before it stays
-module _ (kind : ListKind) (list l l′ ys b : List ℕ) (r : Listed) (fits : 8192 + length list ≤ length l) (e : l′ ≡ store l 8192 (replicate (length list) 0)) (long : length ys ≡ length (take (length l′ - 8192) (drop 8192 l′))) where
+-- the part comes back changed
+module _ (kind : ListKind) (list l l′ ys b : List ℕ) (t u : Table) (ok : Bool) (fits : 8192 + length list ≤ length l) (e : l′ ≡ store l 8192 (replicate (length list) 0)) (long : length ys ≡ length (take (length l′ - 8192) (drop 8192 l′))) where
   front-length : length (take 8192 l′) ≡ 8192
   front-length = rw (cleared-front l l′ 8192 (length list) fits e) (length-take-le 8192 l (omega arith))
 
-  pub entries-front : Listing (listOf kind list) (take (length l′ - 8192) (drop 8192 l′)) ys r
-      → Listing (listOf kind list) (replicate (length list) 0) (take (length list) (drop 8192 (take 8192 l′ ++ (ys ++ b)))) r × (take 8192 (take 8192 l′ ++ (ys ++ b)) ≡ take 8192 l)
+  pub entries-front : Listing (listOf kind list) t u (take (length l′ - 8192) (drop 8192 l′)) ys ok
+      → Listing (listOf kind list) t u (replicate (length list) 0) (take (length list) (drop 8192 (take 8192 l′ ++ (ys ++ b)))) ok
   entries-front k =
       let p = cleared-part l l′ 8192 (length list) fits e in
-      let n : length list ≤ length ys = rw (long, p, length-append, length-replicate) (omega arith) in (
-        rw (drop-at (take 8192 l′) (ys ++ b) 8192 front-length, take-append-le (length list) ys b n) (listing-front kind list (drop (length list) (drop 8192 l)) ys r (rw p at k)),
-        take-at (take 8192 l′) (ys ++ b) 8192 front-length ∙ cleared-front l l′ 8192 (length list) fits e,
-      )
+      let n : length list ≤ length ys = rw (long, p, length-append, length-replicate) (omega arith) in
+      rw (drop-at (take 8192 l′) (ys ++ b) 8192 front-length, take-append-le (length list) ys b n) (listing-front kind list (drop (length list) (drop 8192 l)) ys t u ok (rw p at k))
 
 -- a form's marks in the first 8,192 words leave the others as they were
 pub front-kept : (o : Found) (a ys b : List ℕ) (n : ℕ) → length ys ≡ 8192 → n ≤ 8192 → Marked o a (take n ys) → Marked o a (take n (ys ++ b)) × (drop 8192 (ys ++ b) ≡ b)
 front-kept o a ys b n e h k = (rw (take-append-le n ys b (omega arith)) k, drop-at ys b 8192 e)
 
-pub listing-kept : (kind : ListKind) (list l l′ : List ℕ) (r : Listed) → drop 8192 l′ ≡ drop 8192 l → Listing (listOf kind list) (replicate (length list) 0) (take (length list) (drop 8192 l)) r
-    → Listing (listOf kind list) (replicate (length list) 0) (take (length list) (drop 8192 l′)) r
-listing-kept kind list l l′ r e h = rw e h
+pub listing-kept : (kind : ListKind) (list l l′ : List ℕ) (t u : Table) (ok : Bool) → drop 8192 l′ ≡ drop 8192 l → Listing (listOf kind list) t u (replicate (length list) 0) (take (length list) (drop 8192 l)) ok
+    → Listing (listOf kind list) t u (replicate (length list) 0) (take (length list) (drop 8192 l′)) ok
+listing-kept kind list l l′ t u ok e h = rw e h
 
 -- one more word copied
 pub copy-more : (ws l l′ : List ℕ) (at i : ℕ) → i < length ws → l′ ≡ set l (at + i) (getD ws i 0) → store l (at + i) (drop i ws) ≡ store l′ (at + (i + 1)) (drop (i + 1) ws)

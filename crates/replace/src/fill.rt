@@ -11,7 +11,6 @@ use form::answer::Answer;
 use form::answer::Kind;
 use form::answer::Limit;
 use form::answer::ListKind;
-use reader::lists::Table;
 ghost use mathlib.Core.Path.{_≡_};
 ghost use mathlib.Core.List.{[], _∷_};
 ghost use Prim.Native.Nat.{_+_, _≤_, _<_};
@@ -19,7 +18,7 @@ ghost use lib.ListN.{length, getD, take, drop};
 ghost use Rattle.form.specs.Answer.{told, written};
 ghost use Rattle.shift.specs.Internal.Items.{store};
 ghost use Rattle.rules.specs.Fill.{fillOutcome};
-ghost use Rattle.replace.specs.Internal.Pieces.{Ready, fillPlan, keptWords, headWords, declaredIn, filledRow};
+ghost use Rattle.replace.specs.Internal.Pieces.{Ready, tableOf, fillPlan, keptWords, headWords, declaredIn, filledRow};
 
 // The number of declarations of a row that is a quantified predicate; 0 for any other.
 pub fn declared(row: &[u32]) -> u32
@@ -83,25 +82,24 @@ pub(crate) fn write_head(words: &[u32], row: &[u32], head: &mut [u32]) -> usize
     p
 }
 
-// The quantified predicate with its declarations filled by the places of the table.
+// The quantified predicate with its n declarations filled by the places of a table, whose rows are lent.
 fn fill_with(
     sure: bool,
     list: &[u32],
     list_marks: &[u32],
     row: &[u32],
     marks: &[u32],
-    table: Table,
+    n: usize,
+    words: &[u32],
+    starts: &[usize],
+    ends: &[usize],
     out: &mut [u32],
 ) -> Answer
-    requires { ⌜ Ready (fillPlan table) (now list) (now «list_marks») ⌝ }
-    requires { ⌜ 2 + table .n ≤ length (now row) ⌝ }
-    ensures { λ r. ⌜ r ≡ told (filledRow sure (now (list .entry)) (now («list_marks» .entry)) (now (row .entry)) (now (marks .entry)) table (length (now (out .entry)))) ⌝ }
-    ensures { λ _. ⌜ now (out .exit) ≡ written (filledRow sure (now (list .entry)) (now («list_marks» .entry)) (now (row .entry)) (now (marks .entry)) table (length (now (out .entry)))) (now (out .entry)) ⌝ }
+    requires { ⌜ Ready (fillPlan (tableOf n (now words) (now starts) (now ends))) (now list) (now «list_marks») ⌝ }
+    requires { ⌜ 2 + n ≤ length (now row) ⌝ }
+    ensures { λ r. ⌜ r ≡ told (filledRow sure (now (list .entry)) (now («list_marks» .entry)) (now (row .entry)) (now (marks .entry)) (tableOf n (now (words .entry)) (now (starts .entry)) (now (ends .entry))) (length (now (out .entry)))) ⌝ }
+    ensures { λ _. ⌜ now (out .exit) ≡ written (filledRow sure (now (list .entry)) (now («list_marks» .entry)) (now (row .entry)) (now (marks .entry)) (tableOf n (now (words .entry)) (now (starts .entry)) (now (ends .entry))) (length (now (out .entry)))) (now (out .entry)) ⌝ }
 {
-    let n = table.n;
-    let words = table.words;
-    let starts = table.starts;
-    let ends = table.ends;
     let rule = Rule {
         n: n,
         fills: true,
@@ -115,9 +113,9 @@ fn fill_with(
         Kind::Predicate,
         &head[..h],
         rule,
-        &words,
-        &starts,
-        &ends,
+        words,
+        starts,
+        ends,
         list,
         list_marks,
         row,
@@ -132,17 +130,31 @@ fn fill_marked(
     sure: bool,
     list: &[u32],
     row: &[u32],
-    table: Table,
+    n: usize,
+    words: &[u32; 32],
+    starts: &[usize; 32],
+    ends: &[usize; 32],
     work: &[u32],
     out: &mut [u32],
 ) -> Answer
     requires { ⌜ 8192 ≤ length (now work) ⌝ }
-    requires { ⌜ Ready (fillPlan table) (now list) (drop 8192 (now work)) ⌝ }
-    requires { ⌜ 2 + table .n ≤ length (now row) ⌝ }
-    ensures { λ r. ⌜ r ≡ told (filledRow sure (now (list .entry)) (drop 8192 (now (work .entry))) (now (row .entry)) (now (work .entry)) table (length (now (out .entry)))) ⌝ }
-    ensures { λ _. ⌜ now (out .exit) ≡ written (filledRow sure (now (list .entry)) (drop 8192 (now (work .entry))) (now (row .entry)) (now (work .entry)) table (length (now (out .entry)))) (now (out .entry)) ⌝ }
+    requires { ⌜ Ready (fillPlan (tableOf n (now words) (now starts) (now ends))) (now list) (drop 8192 (now work)) ⌝ }
+    requires { ⌜ 2 + n ≤ length (now row) ⌝ }
+    ensures { λ r. ⌜ r ≡ told (filledRow sure (now (list .entry)) (drop 8192 (now (work .entry))) (now (row .entry)) (now (work .entry)) (tableOf n (now (words .entry)) (now (starts .entry)) (now (ends .entry))) (length (now (out .entry)))) ⌝ }
+    ensures { λ _. ⌜ now (out .exit) ≡ written (filledRow sure (now (list .entry)) (drop 8192 (now (work .entry))) (now (row .entry)) (now (work .entry)) (tableOf n (now (words .entry)) (now (starts .entry)) (now (ends .entry))) (length (now (out .entry)))) (now (out .entry)) ⌝ }
 {
-    fill_with(sure, list, &work[8192..], row, work, table, out)
+    fill_with(
+        sure,
+        list,
+        &work[8192..],
+        row,
+        work,
+        n,
+        words,
+        starts,
+        ends,
+        out,
+    )
 }
 
 // Replaces the filled declarations of a quantified predicate by their expressions.
@@ -159,21 +171,31 @@ pub fn instantiate(list: &[u32], row: &[u32], work: &mut [u32], out: &mut [u32])
     if Limit::WORDS < list.len() {
         return refuse_list(row, Kind::Predicate);
     }
-    let listed = mark_entries(list, ListKind::Places, work);
-    let table = listed.table;
-    let depth = depth_left_by(table, list);
+    let mut words = [0u32; 32];
+    let mut starts = [0usize; 32];
+    let mut ends = [0usize; 32];
+    let listed = mark_entries(
+        list,
+        ListKind::Places,
+        work,
+        &mut words,
+        &mut starts,
+        &mut ends,
+    );
+    let n = listed.n;
+    let depth = depth_left_by(&starts, &ends, n, list);
     let Reading::Taken(sure) = mark_row(row, Kind::Predicate, depth, work) else {
         return Answer::No(2);
     };
     if !listed.ok {
         return Answer::No(2);
     }
-    let n = declared(row);
-    if n == 0 {
+    let names = declared(row);
+    if names == 0 {
         return Answer::No(3);
     }
-    if table.n != n as usize {
+    if n != names as usize {
         return Answer::No(5);
     }
-    fill_marked(sure, list, row, table, work, out)
+    fill_marked(sure, list, row, n, &words, &starts, &ends, work, out)
 }

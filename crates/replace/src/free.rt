@@ -10,7 +10,6 @@ use form::answer::Answer;
 use form::answer::Kind;
 use form::answer::Limit;
 use form::answer::ListKind;
-use reader::lists::Table;
 ghost use mathlib.Core.Path.{_≡_};
 ghost use mathlib.Core.List.{[]};
 ghost use Prim.Native.Nat.{_≤_};
@@ -19,7 +18,7 @@ ghost use Rattle.form.specs.Answer.{told, written};
 ghost use Rattle.reader.specs.Internal.Reads.{asExpr};
 ghost use Rattle.form.specs.declared.answer.Kind.the-variants.{Either};
 ghost use Rattle.rules.specs.Free.{freeOutcome};
-ghost use Rattle.replace.specs.Internal.Pieces.{Ready, replaced, kindFor, freePlan};
+ghost use Rattle.replace.specs.Internal.Pieces.{Ready, tableOf, replaced, kindFor, freePlan};
 
 fn kind_of(row: &[u32]) -> Kind
     ensures { λ r. ⌜ r ≡ kindFor (asExpr Either (now (row .entry))) ⌝ }
@@ -30,38 +29,38 @@ fn kind_of(row: &[u32]) -> Kind
     Kind::Predicate
 }
 
-// The names of a form replaced by the entries of a table; the form's marks stand at the start of the work row, the list's from word
-// 8,192 on.
+// The names of a form replaced by the n entries of a table, whose rows are lent; the form's marks stand at the start of the work row,
+// the list's from word 8,192 on.
 fn substitute_marked(
     sure: bool,
     list: &[u32],
     row: &[u32],
-    table: Table,
+    n: usize,
+    words: &[u32; 32],
+    starts: &[usize; 32],
+    ends: &[usize; 32],
     work: &[u32],
     out: &mut [u32],
 ) -> Answer
     requires { ⌜ 8192 ≤ length (now work) ⌝ }
-    requires { ⌜ Ready (freePlan table) (now list) (drop 8192 (now work)) ⌝ }
-    ensures { λ r. ⌜ r ≡ told (replaced sure (kindFor (asExpr Either (now (row .entry)))) [] (freePlan table) (now (list .entry)) (drop 8192 (now (work .entry))) (now (row .entry)) (now (work .entry)) (length (now (out .entry)))) ⌝ }
-    ensures { λ _. ⌜ now (out .exit) ≡ written (replaced sure (kindFor (asExpr Either (now (row .entry)))) [] (freePlan table) (now (list .entry)) (drop 8192 (now (work .entry))) (now (row .entry)) (now (work .entry)) (length (now (out .entry)))) (now (out .entry)) ⌝ }
+    requires { ⌜ Ready (freePlan (tableOf n (now words) (now starts) (now ends))) (now list) (drop 8192 (now work)) ⌝ }
+    ensures { λ r. ⌜ r ≡ told (replaced sure (kindFor (asExpr Either (now (row .entry)))) [] (freePlan (tableOf n (now (words .entry)) (now (starts .entry)) (now (ends .entry)))) (now (list .entry)) (drop 8192 (now (work .entry))) (now (row .entry)) (now (work .entry)) (length (now (out .entry)))) ⌝ }
+    ensures { λ _. ⌜ now (out .exit) ≡ written (replaced sure (kindFor (asExpr Either (now (row .entry)))) [] (freePlan (tableOf n (now (words .entry)) (now (starts .entry)) (now (ends .entry)))) (now (list .entry)) (drop 8192 (now (work .entry))) (now (row .entry)) (now (work .entry)) (length (now (out .entry)))) (now (out .entry)) ⌝ }
 {
     let rule = Rule {
-        n: table.n,
+        n: n,
         fills: false,
         gone: 0,
         down: 0,
     };
-    let words = table.words;
-    let starts = table.starts;
-    let ends = table.ends;
     replace(
         sure,
         kind_of(row),
         &row[..0],
         rule,
-        &words,
-        &starts,
-        &ends,
+        words,
+        starts,
+        ends,
         list,
         &work[8192..],
         row,
@@ -90,16 +89,27 @@ pub fn substitute_free_idents(
     if Limit::WORDS < list.len() {
         return refuse_list(row, Kind::Either);
     }
-    let listed = mark_entries(list, ListKind::Pairs, work);
-    let depth = depth_left_by(listed.table, list);
+    let mut words = [0u32; 32];
+    let mut starts = [0usize; 32];
+    let mut ends = [0usize; 32];
+    let listed = mark_entries(
+        list,
+        ListKind::Pairs,
+        work,
+        &mut words,
+        &mut starts,
+        &mut ends,
+    );
+    let n = listed.n;
+    let depth = depth_left_by(&starts, &ends, n, list);
     let Reading::Taken(sure) = mark_row(row, Kind::Either, depth, work) else {
         return Answer::No(2);
     };
     if !listed.ok {
         return Answer::No(2);
     }
-    if !reader::lists::good_table(listed.table) {
+    if !reader::lists::good_table(&words, n) {
         return Answer::No(4);
     }
-    substitute_marked(sure, list, row, listed.table, work, out)
+    substitute_marked(sure, list, row, n, &words, &starts, &ends, work, out)
 }

@@ -15,7 +15,7 @@ ghost use Rattle.tree.specs.Tag.{expr, pred};
 ghost use Rattle.form.specs.Decode.{decode, formOf};
 ghost use Rattle.form.specs.Lists.{listOf};
 ghost use Rattle.form.specs.Answer.{told, checkOutcome};
-ghost use Rattle.reader.specs.Internal.Reads.{Told, Marked, Listing};
+ghost use Rattle.reader.specs.Internal.Reads.{Told, Marked, tableOf, Listing};
 ghost use Rattle.form.specs.declared.answer.Answer.the-variants.{No};
 ghost use Rattle.shift.specs.Internal.Items.{Fresh, store};
 ghost use Rattle.replace.specs.Internal.Pieces.{isFound, shallowForm, readingOf};
@@ -114,12 +114,18 @@ pub(crate) fn mark_fresh(row: &[u32], kind: Kind, marks: &mut [u32]) -> Answer
     reader::check::mark(row, kind, marks)
 }
 
-// The entries of the list, which are marked from word 8,192 of the work row on.
-pub(crate) fn mark_entries(list: &[u32], kind: ListKind, work: &mut [u32]) -> Listed
+// The entries of the list, which are marked from word 8,192 of the work row on; the rows of their table are lent.
+pub(crate) fn mark_entries(
+    list: &[u32],
+    kind: ListKind,
+    work: &mut [u32],
+    words: &mut [u32; 32],
+    starts: &mut [usize; 32],
+    ends: &mut [usize; 32],
+) -> Listed
     requires { ⌜ 8192 + length (now list) ≤ length (now work) ⌝ }
-    ensures { λ r. ⌜ Listing (listOf kind (now (list .entry))) (replicate (length (now (list .entry))) 0) (take (length (now (list .entry))) (drop 8192 (now (work .exit)))) r ⌝ }
-    ensures { λ _. ⌜ take 8192 (now (work .exit)) ≡ take 8192 (now (work .entry)) ⌝ }
+    ensures { λ r. ⌜ Listing (listOf kind (now (list .entry))) (tableOf 0 (now (words .entry)) (now (starts .entry)) (now (ends .entry))) (tableOf (r .n) (now (words .exit)) (now (starts .exit)) (now (ends .exit))) (replicate (length (now (list .entry))) 0) (take (length (now (list .entry))) (drop 8192 (now (work .exit)))) (r .ok) ⌝ }
 {
     clear(work, 8192, list.len());
-    reader::lists::mark_list(list, kind, &mut work[8192..])
+    reader::lists::mark_list(list, kind, &mut work[8192..], words, starts, ends)
 }

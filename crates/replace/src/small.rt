@@ -2,12 +2,14 @@
 use form::head::Step;
 use reader::lists::Table;
 use reader::reader::expr_at;
+use shift::items::all_below;
 ghost use mathlib.Core.Path.{_≡_};
 ghost use Prim.Native.Nat.{_≤_};
 ghost use lib.ListN.{length};
-ghost use Rattle.replace.specs.Internal.Pieces.{smallWords, deepPart, deepAt, Depth, PartsDepth, Leaves, LeavesBy};
+ghost use Rattle.replace.specs.Internal.Pieces.{deepPart, deepAt, depthFrom, depthLeft, deepParts, depthLeftBy};
 
-// What leaves room for a replacement: the depths of the form and of the expression are together at most 65, and 63,487 + 2,048 = 65,535.
+// What leaves room for a replacement: the depths of the form and of the expression are together at most 65, and no word is over
+// 63,487 = 65,535 - 2,048.
 pub struct Margin {
     pub value: usize,
 }
@@ -15,21 +17,7 @@ pub struct Margin {
 impl Margin {
     pub const DEPTHS: u32 = 65;
 
-    pub const WORD: u32 = 63487;
-}
-
-// Whether no word is over 63,487.
-fn are_low(words: &[u32]) -> bool
-    ensures { λ r. ⌜ r ≡ smallWords (now (words .entry)) ⌝ }
-{
-    let mut i = 0;
-    while i < words.len() {
-        if Margin::WORD < words[i] {
-            return false;
-        }
-        i += 1;
-    }
-    true
+    pub const WORDS_BELOW: u32 = 63488;
 }
 
 // Whether the row is exactly one expression at most so deep.
@@ -49,7 +37,7 @@ fn is_within(row: &[u32], depth: u32) -> bool
 
 // The first of `from`, one more than twice that, and so on within which the row is exactly one expression; 65 where none is.
 fn depth_from(row: &[u32], from: u32) -> u32
-    ensures { λ r. ⌜ Depth from (λ d. deepPart d (now (row .entry))) r ⌝ }
+    ensures { λ r. ⌜ r ≡ depthFrom from (λ d. deepPart d (now (row .entry))) ⌝ }
 {
     let mut d = from;
     while d < Margin::DEPTHS {
@@ -63,7 +51,8 @@ fn depth_from(row: &[u32], from: u32) -> u32
 
 // The same of the words from `start` up to `end`, where there are any.
 fn depth_at(start: usize, end: usize, list: &[u32], from: u32) -> u32
-    ensures { λ r. ⌜ Depth from (λ d. deepAt d start end (now (list .entry))) r ⌝ }
+    requires { ⌜ from ≤ 65 ⌝ }
+    ensures { λ r. ⌜ r ≡ depthFrom from (λ d. deepAt d start end (now (list .entry))) ⌝ }
 {
     if end <= start {
         return from;
@@ -74,11 +63,11 @@ fn depth_at(start: usize, end: usize, list: &[u32], from: u32) -> u32
     depth_from(&list[start..end], from)
 }
 
-// A depth within which each of the first n parts of the list is an expression; 65 where none was found.
-fn parts_depth(starts: &[usize], ends: &[usize], list: &[u32], n: usize) -> u32
+// The first of 1, 3, 7 and so on within which each of the first n parts of the list is an expression; 65 where none is.
+fn parts_depth(starts: &[usize], ends: &[usize], n: usize, list: &[u32]) -> u32
     requires { ⌜ n ≤ length (now starts) ⌝ }
     requires { ⌜ n ≤ length (now ends) ⌝ }
-    ensures { λ r. ⌜ PartsDepth (now (starts .entry)) (now (ends .entry)) (now (list .entry)) n r ⌝ }
+    ensures { λ r. ⌜ r ≡ depthFrom 1 (λ d. deepParts d (now (starts .entry)) (now (ends .entry)) n (now (list .entry))) ⌝ }
 {
     let mut d = 1;
     let mut i = 0;
@@ -91,26 +80,23 @@ fn parts_depth(starts: &[usize], ends: &[usize], list: &[u32], n: usize) -> u32
 
 // How deep a form may be that is sure to stay one when the row is put into it; 0 where none is.
 pub fn depth_left(row: &[u32]) -> u32
-    ensures { λ r. ⌜ Leaves (now (row .entry)) r ⌝ }
+    ensures { λ r. ⌜ r ≡ depthLeft (now (row .entry)) ⌝ }
 {
-    if !are_low(row) {
+    if !all_below(row, Margin::WORDS_BELOW) {
         return 0;
     }
     Margin::DEPTHS - depth_from(row, 1)
 }
 
-// How deep a form may be that is sure to stay one when the parts of the table are put into it; 0 where none is.
-pub(crate) fn depth_left_by(table: Table, list: &[u32]) -> u32
-    ensures { λ r. ⌜ LeavesBy table (now (list .entry)) r ⌝ }
+// How deep a form may be that is sure to stay one when the first n parts of the list are put into it; 0 where none is.
+pub(crate) fn depth_left_by(starts: &[usize; 32], ends: &[usize; 32], n: usize, list: &[u32]) -> u32
+    ensures { λ r. ⌜ r ≡ depthLeftBy (now (starts .entry)) (now (ends .entry)) n (now (list .entry)) ⌝ }
 {
-    let n = table.n;
     if Table::LIMIT < n {
         return 0;
     }
-    if !are_low(list) {
+    if !all_below(list, Margin::WORDS_BELOW) {
         return 0;
     }
-    let starts = table.starts;
-    let ends = table.ends;
-    Margin::DEPTHS - parts_depth(&starts, &ends, list, n)
+    Margin::DEPTHS - parts_depth(starts, ends, n, list)
 }

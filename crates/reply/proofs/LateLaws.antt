@@ -22,7 +22,7 @@ use Rattle.form.specs.declared.answer.Answer.{Answer}
 use Rattle.form.specs.declared.answer.Answer.the-variants.{Done, No}
 use Rattle.form.specs.declared.answer.ListKind.{ListKind}
 use Rattle.form.specs.declared.answer.ListKind.the-variants.{Pairs, Places}
-use Rattle.reader.specs.declared.lists.Listed.{Listed}
+use Rattle.reader.specs.declared.lists.Table.{Table}
 use Rattle.form.proofs.DecodeLaws.{clash}
 use Rattle.reader.proofs.CheckLaws.{form-of}
 use Rattle.form.proofs.RowLaws.{row-short, found-exact}
@@ -131,14 +131,14 @@ module _ (kind : Kind) (text row : List ℕ) where
       rw (le-leb (length row) 8192 (row-short s row f (found-exact Either row s f o)), same ∙ o, sym t) refl
 
 -- a list's
-module _ (kind : ListKind) (text row : List ℕ) (short : length row ≤ 8192) (a b : List ℕ) (l : Listed) (t : Listing (listOf kind row) a b l) where
-  pub list-none : l .ok ≡ false → No 2 ≡ told (spelledList kind text row (answer []))
+module _ (kind : ListKind) (text row : List ℕ) (short : length row ≤ 8192) (u v : Table) (a b : List ℕ) (ok : Bool) (t : Listing (listOf kind row) u v a b ok) where
+  pub list-none : ok ≡ false → No 2 ≡ told (spelledList kind text row (answer []))
   unfolding spelledList
-  list-none e = rw (le-leb (length row) 8192 short, listing-no (listOf kind row) a b l t e)
+  list-none e = rw (le-leb (length row) 8192 short, listing-no _ _ _ _ _ _ t e)
 
-  pub list-told : l .ok ≡ true → (c : Bool) → c ≡ fitsList kind text row → told (needs 8 c (answer [])) ≡ told (spelledList kind text row (answer []))
+  pub list-told : ok ≡ true → (c : Bool) → c ≡ fitsList kind text row → told (needs 8 c (answer [])) ≡ told (spelledList kind text row (answer []))
   unfolding spelledList
-  list-told e c f = let (es, o, u, m) = listing-yes (listOf kind row) a b l t e in rw (le-leb (length row) 8192 short, o, f)
+  list-told e c f = let (es, o, r, m) = listing-yes _ _ _ _ _ _ t e in rw (le-leb (length row) 8192 short, o, f)
 
 -- the names'
 pub names-told : (text row : List ℕ) → length row ≤ 8192 → (c : Bool) → c ≡ fitsNames text row → told (needs 8 c (answer [])) ≡ told (spelledNames text row (answer []))

@@ -50,7 +50,10 @@ pub fn check_list_text(text: &[u8], row: &[u32], kind: ListKind) -> Answer
         return Answer::No(1);
     }
     let mut marks = [0u32; 1];
-    let listed = mark_list(row, kind, &mut marks);
+    let mut words = [0u32; 32];
+    let mut starts = [0usize; 32];
+    let mut ends = [0usize; 32];
+    let listed = mark_list(row, kind, &mut marks, &mut words, &mut starts, &mut ends);
     if !listed.ok {
         return Answer::No(2);
     }

@@ -92,7 +92,7 @@ fn still_below(below: bool, hi: u32, w: u32) -> bool
 }
 
 // Whether every word of a row is below hi: one pass to its end, which takes several words at a time.
-fn all_below(row: &[u32], hi: u32) -> bool
+pub fn all_below(row: &[u32], hi: u32) -> bool
     ensures { λ r. ⌜ r ≡ allBelow hi (now (row .entry)) ⌝ }
 {
     let mut below = true;

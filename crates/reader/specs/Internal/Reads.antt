@@ -16,7 +16,6 @@ use Rattle.form.specs.declared.answer.Kind.the-variants.{Expression, Predicate,
 use Rattle.tree.specs.declared.tag.Shape.{Shape}
 use Rattle.tree.specs.declared.tag.Shape.the-variants.{Unknown, Plain, Name, Value, Exprs, Preds, Apply, Compr, Quant}
 use Rattle.reader.specs.declared.lists.Table.{Table}
-use Rattle.reader.specs.declared.lists.Listed.{Listed}
 use Rattle.form.specs.declared.head.Step.{Step}
 use Rattle.form.specs.declared.head.Step.the-variants.{End, Bad}
 
@@ -93,29 +92,32 @@ unfoldable pub ToldEntry : ℕ → Option (Entry × List ℕ) → List ℕ → L
 ToldEntry at (some x) a b r = (r ≡ End (at + length (entryWords (x .0)))) × (b ≡ markEntry (x .0) at a)
 ToldEntry at absent a b r = r ≡ Bad
 
+-- the table of n entries whose rows are lent
+abbrev pub tableOf : ℕ → List ℕ → List ℕ → List ℕ → Table
+tableOf n ws ss es = record { words = ws; starts = ss; ends = es; n = n }
+
 unfoldable pub emptyTable : Table
-emptyTable = record { words = replicate 32 0; starts = replicate 32 0; ends = replicate 32 0; n = 0 }
+emptyTable = tableOf 0 (replicate 32 0) (replicate 32 0) (replicate 32 0)
 
 -- one row more; past 32 only their number grows
 unfoldable pub addRow : Table → ℕ → ℕ → ℕ → Table
-addRow t w s e =
-    pick (leb 32 (t .n)) (record { words = t .words; starts = t .starts; ends = t .ends; n = t .n + 1 })
-    (record { words = set (t .words) (t .n) w; starts = set (t .starts) (t .n) s; ends = set (t .ends) (t .n) e; n = t .n + 1 })
+addRow t w s e = pick (leb 32 (t .n)) (tableOf (t .n + 1) (t .words) (t .starts) (t .ends)) (tableOf (t .n + 1) (set (t .words) (t .n) w) (set (t .starts) (t .n) s) (set (t .ends) (t .n) e))
 
 unfoldable pub tabled : List Entry → ℕ → Table → Table
 tabled [] at t = t
 tabled (e ∷ es) at t = tabled es (at + length (entryWords e)) (addRow t (wordOf e) (at + 1) (at + length (entryWords e)))
 
--- the entries from a position on, added to the table t
-unfoldable pub ListingFrom : ℕ → Table → Option (List Entry) → List ℕ → List ℕ → Listed → Type 0
-ListingFrom at t (some es) a b r = (r ≡ record { ok = true; table = tabled es at t }) × (b ≡ markEntries es at a)
-ListingFrom at t absent a b r = r .ok ≡ false
+-- the entries from a position on, if there are such, turn the table t into u and the marks a into b
+unfoldable pub ListingFrom : ℕ → Option (List Entry) → Table → Table → List ℕ → List ℕ → Bool → Type 0
+ListingFrom at (some es) t u a b ok = (ok ≡ true) × (u ≡ tabled es at t) × (b ≡ markEntries es at a)
+ListingFrom at absent t u a b ok = ok ≡ false
 
-abbrev pub Listing : Option (List Entry) → List ℕ → List ℕ → Listed → Type 0
-Listing o a b r = ListingFrom 0 emptyTable o a b r
+abbrev pub Listing : Option (List Entry) → Table → Table → List ℕ → List ℕ → Bool → Type 0
+Listing o t u a b ok = ListingFrom 0 o t u a b ok
 
 unfoldable pub memberOf : ℕ → List ℕ → Bool
 memberOf m ns = member m ns
 
-unfoldable pub goodTable : Table → Bool
-goodTable t = leb (t .n) 32 && distinct (take (t .n) (t .words))
+-- whether the first n words, of at most 32, can be names of one list
+unfoldable pub goodWords : ℕ → List ℕ → Bool
+goodWords n ws = leb n 32 && distinct (take n ws)

@@ -3,7 +3,7 @@
 use mathlib.Core.Path.{_≡_}
 use mathlib.Core.Bool.{Bool, true, false, not, _&&_}
 use mathlib.Core.List.{List, [], _∷_, _++_}
-use Prim.Native.Nat.{ℕ, zero, suc, _+_, _-_, _/_, _≤_, _<_, max}
+use Prim.Native.Nat.{ℕ, zero, suc, _+_, _-_, _*_, _/_, _≤_, _<_, max}
 use lib.Dec.{leb, ltb, eqb}
 use lib.ListN.{length, getD, take, drop, replicate}
 use Rattle.tree.specs.Form.{pick, between}
@@ -11,10 +11,11 @@ use Rattle.tree.specs.Tag.{expr, pred}
 use Rattle.form.specs.Decode.{decode, whole, Found, found, missing, asSort, formOf}
 use Rattle.form.specs.Answer.{Outcome, answer, needs, isOne}
 use Rattle.reader.specs.Internal.Reads.{asExpr}
+pub use Rattle.reader.specs.Internal.Reads.{tableOf}
 use Rattle.form.specs.declared.answer.Kind.{Kind}
 use Rattle.form.specs.declared.answer.Kind.the-variants.{Expression, Predicate}
 use Rattle.reader.specs.declared.lists.Table.{Table}
-use Rattle.shift.specs.Internal.Items.{items, sizeOf, wordsOf, rewritten, allItems, movedWords}
+use Rattle.shift.specs.Internal.Items.{items, sizeOf, wordsOf, rewritten, allItems, allBelow, movedWords}
 use Rattle.shift.specs.declared.items.Item.{Item}
 use Rattle.shift.specs.declared.items.Item.the-variants.{Plain, Ident}
 use Rattle.replace.specs.declared.pieces.Piece.{Piece}
@@ -98,7 +99,7 @@ lengthRefusal n room = pick (leb n 8192) (pick (leb n room) 0 14) 7
 
 -- the plan of a rule and the rows of its table
 abbrev pub planFor : Rule → List ℕ → List ℕ → List ℕ → Plan
-planFor r ws ss es = record { table = record { words = ws; starts = ss; ends = es; n = r .n }; fills = r .fills; gone = r .gone; down = r .down }
+planFor r ws ss es = record { table = tableOf (r .n) ws ss es; fills = r .fills; gone = r .gone; down = r .down }
 
 -- the plan's table has 32 places, of which it uses n
 pub record Tabled (p : Plan) : Type 0 where
@@ -147,11 +148,6 @@ readingOf (found s f) o = Taken true
 readingOf missing (found s f) = Taken false
 readingOf missing missing = Refused
 
--- every word is at most 63,487: 2,048 can be added to each index
-abbrev pub smallWords : List ℕ → Bool
-smallWords [] = true
-smallWords (w ∷ ws) = leb w 63487 && smallWords ws
-
 -- exactly one expression at most d deep; the words from s up to e, where there are any
 unfoldable pub deepPart : ℕ → List ℕ → Bool
 deepPart d ws = isOne (whole (decode d expr ws))
@@ -159,28 +155,33 @@ deepPart d ws = isOne (whole (decode d expr ws))
 unfoldable pub deepAt : ℕ → ℕ → ℕ → List ℕ → Bool
 deepAt d s e l = pick (leb e s) true (leb e (length l) && deepPart d (part s e l))
 
--- a depth from `from` on at which the test holds; 65 where none was found
-pub record Depth (from : ℕ) (test : ℕ → Bool) (r : ℕ) : Type 0 where
-  pub least : from ≤ 65 → from ≤ r
-  pub most : from ≤ 65 → r ≤ 65
-  pub holds : r ≤ 64 → test r ≡ true
+-- the first of d, one more than twice d and so on, none over 64, at which the test holds; 65 where there is none: at most k are tried, and
+-- of 65 all
+unfoldable pub firstDepth : ℕ → ℕ → (ℕ → Bool) → ℕ
+firstDepth zero d test = 65
+firstDepth (suc k) d test = pick (leb d 64) (pick (test d) d (firstDepth k (2 * d + 1) test)) 65
 
--- a depth at which each of the first n parts is an expression; 65 where none was found
-pub record PartsDepth (starts ends l : List ℕ) (n r : ℕ) : Type 0 where
-  pub least : 1 ≤ r
-  pub most : r ≤ 65
-  pub each : r ≤ 64 → (i : ℕ) → i < n → deepAt r (getD starts i 0) (getD ends i 0) l ≡ true
+abbrev pub depthFrom : ℕ → (ℕ → Bool) → ℕ
+depthFrom d test = firstDepth 65 d test
 
--- a form at most r deep stays one if expressions so deep and of such words are put into it: a row alone, the parts of a table
+-- how deep a form may be that is sure to stay one when the row is put into it, or 0: what the first of 1, 3, 7, 15, 31 and 63 within which
+-- the row is exactly one expression leaves of 65, if 2,048 can be added to each word
+unfoldable pub depthLeft : List ℕ → ℕ
+depthLeft row = pick (allBelow 63488 row) (65 - depthFrom 1 (λ d. deepPart d row)) 0
+
+-- whether each of the first n parts of a list is an expression at most d deep, where it has words; and the depth that they leave
+unfoldable pub deepParts : ℕ → List ℕ → List ℕ → ℕ → List ℕ → Bool
+deepParts d starts ends zero list = true
+deepParts d starts ends (suc n) list = deepParts d starts ends n list && deepAt d (getD starts n 0) (getD ends n 0) list
+
+unfoldable pub depthLeftBy : List ℕ → List ℕ → ℕ → List ℕ → ℕ
+depthLeftBy starts ends n list = pick (leb n 32 && allBelow 63488 list) (65 - depthFrom 1 (λ d. deepParts d starts ends n list)) 0
+
+-- a form at most r deep stays one if the row is put into it
 pub record Leaves (row : List ℕ) (r : ℕ) : Type 0 where
   pub most : r ≤ 64
-  pub words : 0 < r → smallWords row ≡ true
+  pub words : 0 < r → allBelow 63488 row ≡ true
   pub deep : 0 < r → deepPart (65 - r) row ≡ true
-
-pub record LeavesBy (t : Table) (list : List ℕ) (r : ℕ) : Type 0 where
-  pub most : r ≤ 64
-  pub words : 0 < r → smallWords list ≡ true
-  pub each : 0 < r → (i : ℕ) → i < t .n → deepAt (65 - r) (getD (t .starts) i 0) (getD (t .ends) i 0) list ≡ true
 
 -- a head, and what a plan puts for the items of a row
 abbrev pub replacedWords : List ℕ → Plan → List ℕ → List ℕ → List ℕ → List ℕ → List ℕ
@@ -274,10 +275,6 @@ droppedRow ws row marks =
 
 unfoldable pub droppedOutcome : List ℕ → List ℕ → List ℕ → ℕ → Outcome
 droppedOutcome ws row marks room = needs 9 (not (eqb (filledWords ws) 0)) (needs 14 (leb (length (droppedRow ws row marks)) room) (answer (droppedRow ws row marks)))
-
--- the table of n places whose rows are lent
-abbrev pub tableOf : ℕ → List ℕ → List ℕ → List ℕ → Table
-tableOf n ws ss es = record { words = ws; starts = ss; ends = es; n = n }
 
 -- whether the first n parts lie in a row of so many words; whether a table's parts stand in the list row, and all of it is marked
 unfoldable pub partsIn : List ℕ → List ℕ → ℕ → ℕ → Bool

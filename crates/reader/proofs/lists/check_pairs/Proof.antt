@@ -1,14 +1,11 @@
--- `form::lists::check_pairs` meets its contract. Assumes nothing.
+-- `reader::lists::check_pairs` meets its contract. Assumes nothing.
 use mathlib.Core.Bool.{true, false}
 use borrow.Author.Tests.{not-true, not-false}
+use Rattle.reader.specs.Internal.Reads.{emptyTable}
 use Rattle.reader.proofs.TableLaws.{pairs-long, pairs-none, pairs-answer}
 use borrow.Author.Needs.{needs}
 use Rattle.reader.proofs.lists.check_pairs.Statement.{statement}
 use Rattle.reader.proofs.lists.check_pairs.Tie as tie
-use Rattle.reader.proofs.lists.check_pairs.Reads as reads
-use Rattle.reader.proofs.lists.check_pairs.Lts as lts
-use Rattle.reader.proofs.lists.good_table.Reads as good-table-reads
-use Rattle.reader.proofs.lists.mark_list.Reads as mark-list-reads
 
 returns : tie.Need-returns
 returns c = pairs-long _ (c .if1 .taken)
@@ -20,16 +17,19 @@ mark-list-requires : tie.Need-mark-list-requires
 mark-list-requires c κs = search needs
 
 returns-2 : tie.Need-returns-2
-returns-2 c = pairs-none _ (c .before .before .before .before .before .if1 .left) _ _ _ (c .before .before .before .mark-list .ensures) (not-true _ (c .if2 .taken))
+unfolding emptyTable
+returns-2 c = let b3 = c .before .before .before in let b8 = b3 .before .before .before .before .before in pairs-none _ (b8 .if1 .left) _ _ _ _ (b3 .mark-list .ensures) (not-true _ (c .if2 .taken))
 
 good-table-requires : tie.Need-good-table-requires
 good-table-requires c κs = search needs
 
 returns-3 : tie.Need-returns-3
-returns-3 c = pairs-answer _ (c .before .before .before .before .before .before .before .if1 .left) _ _ _ (c .before .before .before .before .before .mark-list .ensures) (not-false _ (c .before .before .if2 .left)) false _ (c .before .good-table .ensures) (not-true _ (c .if3 .taken))
+unfolding emptyTable
+returns-3 c = let b3 = c .before .before .before in let b6 = b3 .before .before .before in let b11 = b6 .before .before .before .before .before in pairs-answer _ (b11 .if1 .left) _ _ _ _ (b6 .mark-list .ensures) (not-false _ (b3 .if2 .left)) false _ (c .before .good-table .ensures) (not-true _ (c .if3 .taken))
 
 returns-4 : tie.Need-returns-4
-returns-4 c = pairs-answer _ (c .before .before .before .before .before .before .before .if1 .left) _ _ _ (c .before .before .before .before .before .mark-list .ensures) (not-false _ (c .before .before .if2 .left)) true _ (c .before .good-table .ensures) (not-false _ (c .if3 .left))
+unfolding emptyTable
+returns-4 c = let b3 = c .before .before .before in let b6 = b3 .before .before .before in let b11 = b6 .before .before .before .before .before in pairs-answer _ (b11 .if1 .left) _ _ _ _ (b6 .mark-list .ensures) (not-false _ (b3 .if2 .left)) true _ (c .before .good-table .ensures) (not-false _ (c .if3 .left))
 
 pub check-pairs-spec : {M : Type 1} → statement M
 check-pairs-spec =

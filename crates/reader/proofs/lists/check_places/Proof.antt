@@ -1,12 +1,10 @@
--- `form::lists::check_places` meets its contract. Assumes nothing.
+-- `reader::lists::check_places` meets its contract. Assumes nothing.
 use borrow.Author.Tests.{not-true, not-false}
+use Rattle.reader.specs.Internal.Reads.{emptyTable}
 use Rattle.reader.proofs.TableLaws.{places-long, places-none, places-over, places-other, places-done}
 use borrow.Author.Needs.{needs}
 use Rattle.reader.proofs.lists.check_places.Statement.{statement}
 use Rattle.reader.proofs.lists.check_places.Tie as tie
-use Rattle.reader.proofs.lists.check_places.Reads as reads
-use Rattle.reader.proofs.lists.check_places.Lts as lts
-use Rattle.reader.proofs.lists.mark_list.Reads as mark-list-reads
 
 returns : tie.Need-returns
 returns c = places-long _ _ (c .if1 .taken)
@@ -18,16 +16,20 @@ mark-list-requires : tie.Need-mark-list-requires
 mark-list-requires c κs = search needs
 
 returns-2 : tie.Need-returns-2
-returns-2 c = places-none _ (c .before .before .before .before .before .if1 .left) _ _ _ _ (c .before .before .before .mark-list .ensures) (not-true _ (c .if2 .taken))
+unfolding emptyTable
+returns-2 c = let b3 = c .before .before .before in let b8 = b3 .before .before .before .before .before in places-none _ (b8 .if1 .left) _ _ _ _ _ (b3 .mark-list .ensures) (not-true _ (c .if2 .taken))
 
 returns-3 : tie.Need-returns-3
-returns-3 c = places-over _ (c .before .before .before .before .before .before .if1 .left) _ _ _ _ (c .before .before .before .before .mark-list .ensures) (not-false _ (c .before .if2 .left)) (c .if3 .taken)
+unfolding emptyTable
+returns-3 c = let b4 = c .before .before .before .before in let b9 = b4 .before .before .before .before .before in places-over _ (b9 .if1 .left) _ _ _ _ _ (b4 .mark-list .ensures) (not-false _ (c .before .if2 .left)) (c .if3 .taken)
 
 returns-4 : tie.Need-returns-4
-returns-4 c = places-other _ (c .before .before .before .before .before .before .before .before .before .if1 .left) _ _ _ _ (c .before .before .before .before .before .before .before .mark-list .ensures) (not-false _ (c .before .before .before .before .if2 .left)) (c .before .before .before .if3 .left) (c .if4 .taken)
+unfolding emptyTable
+returns-4 c = let b3 = c .before .before .before in let b6 = b3 .before .before .before in let b11 = b6 .before .before .before .before .before in places-other _ (b11 .if1 .left) _ _ _ _ _ (b6 .mark-list .ensures) (not-false _ (b3 .if2 .left)) (c .before .before .if3 .left) (c .if4 .taken)
 
 returns-5 : tie.Need-returns-5
-returns-5 c = places-done _ (c .before .before .before .before .before .before .before .before .before .if1 .left) _ _ _ _ (c .before .before .before .before .before .before .before .mark-list .ensures) (not-false _ (c .before .before .before .before .if2 .left)) (c .before .before .before .if3 .left) (c .if4 .left)
+unfolding emptyTable
+returns-5 c = let b3 = c .before .before .before in let b6 = b3 .before .before .before in let b11 = b6 .before .before .before .before .before in places-done _ (b11 .if1 .left) _ _ _ _ _ (b6 .mark-list .ensures) (not-false _ (b3 .if2 .left)) (c .before .before .if3 .left) (c .if4 .left)
 
 pub check-places-spec : {M : Type 1} → statement M
 check-places-spec =

@@ -1,34 +1,27 @@
--- `form::lists::mark_list` meets its contract. Assumes nothing.
+-- `reader::lists::mark_list` meets its contract. Assumes nothing.
 use mathlib.Core.Path.{_≡_, refl, _∙_}
+use mathlib.Core.Bool.{Bool}
 use mathlib.Core.List.{List}
 use mathlib.Core.Logic.{⊎-elim}
 use Prim.Native.Nat.{ℕ, _+_, _-_, _≤_}
 use native.Mathlib.Omega.{arith}
-use borrow.Author.Needs.{needs}
-use borrow.Author.Tests.{le-leb, lt-leb}
 use lib.ListN.{length, getD, drop}
 use Rattle.form.specs.Lists.{listOf}
-use Rattle.reader.specs.Internal.Reads.{emptyTable, addRow, ListingFrom}
-use Rattle.reader.specs.declared.lists.Listed.{Listed}
-use Rattle.reader.proofs.TableLaws.{entry-rises, list-more, list-stop, list-end, row-none, counted}
+use Rattle.reader.specs.Internal.Reads.{tableOf, addRow, ListingFrom}
+use Rattle.reader.specs.declared.lists.Table.{Table}
+use Rattle.reader.proofs.TableLaws.{entry-rises, list-more, list-stop, list-end, row-stored, row-counted}
+use borrow.Author.Needs.{needs}
 use Rattle.reader.proofs.lists.mark_list.Statement.{statement}
 use Rattle.reader.proofs.lists.mark_list.Tie as tie
-use Rattle.reader.proofs.lists.mark_list.Reads as reads
-use Rattle.reader.proofs.lists.mark_list.Lts as lts
-use Rattle.reader.proofs.lists.Table.new.Reads as new-reads
-use Rattle.reader.proofs.lists.entry_at.Reads as entry-at-reads
 
 abbrev Inv-loop : tie.InvT-loop
-Inv-loop row kind marks₀ table₀ p₀ marks table p = ((b : List ℕ) (r : Listed) → ListingFrom p table (listOf kind (drop p row)) marks b r → ListingFrom 0 emptyTable (listOf kind row) marks₀ b r) × (table .n ≤ p) × (length marks ≡ length marks₀)
+Inv-loop row kind marks₀ words₀ starts₀ ends₀ n₀ p₀ marks words starts ends n p = ((u : Table) (b : List ℕ) (ok : Bool) → ListingFrom p (listOf kind (drop p row)) (tableOf n words starts ends) u marks b ok → ListingFrom 0 (listOf kind row) (tableOf 0 words₀ starts₀ ends₀) u marks₀ b ok) × (n ≤ p) × (length marks ≡ length marks₀)
 
 abbrev μ-loop : tie.MeasureT-loop
-μ-loop row kind marks₀ table₀ p₀ marks table p = length row - p
-
-new-requires : tie.Need-new-requires Inv-loop μ-loop
-new-requires c κs = search needs
+μ-loop row kind marks₀ words₀ starts₀ ends₀ n₀ p₀ marks words starts ends n p = length row - p
 
 loop-holds : tie.Need-loop-holds Inv-loop μ-loop
-loop-holds c = (λ b r t. rw (← c .new .ensures) t, rw (c .new .ensures) (row-none), refl)
+loop-holds c = (λ u b ok t. t, omega arith, refl)
 
 entry-at-requires : tie.Need-entry-at-requires Inv-loop μ-loop
 entry-at-requires c κs = search needs
@@ -40,53 +33,52 @@ enum-told : tie.Need-enum-told Inv-loop μ-loop
 enum-told c = search needs
 
 same-length : tie.Need-same-length Inv-loop μ-loop
-same-length c = c .before .before .before .before .entry-at .kept .1 .1 .0 ∙ c .before .before .before .before .before .before .before .loop .inv .2
+same-length c = let b4 = c .before .before .before .before in let b7 = b4 .before .before .before in b4 .entry-at .kept .1 .1 .0 ∙ b7 .loop .inv .2
 
 returns : tie.Need-returns Inv-loop μ-loop
-returns c = c .before .before .before .before .before .before .before .loop .inv .0 _ _ (list-stop _ _ _ (c .before .before .before .before .before .before .loop-test .taken) _ _ _ _ (c .before .before .before .before .entry-at .ensures) (c .enum-told .given .1) _ _ refl)
+returns c = let b4 = c .before .before .before .before in let b7 = b4 .before .before .before in b7 .loop .inv .0 _ _ _ (list-stop _ _ _ (b4 .before .before .loop-test .taken) _ _ _ _ (b4 .entry-at .ensures) (c .enum-told .given .1) _ _)
 
-mul-table : tie.Need-mul-table Inv-loop μ-loop
-mul-table c = search needs
+mul-words : tie.Need-mul-words Inv-loop μ-loop
+mul-words c = search needs
 
-shared-slice-read-table : tie.Need-shared-slice-read-table Inv-loop μ-loop
-shared-slice-read-table c = search needs
+shared-slice-read-words : tie.Need-shared-slice-read-words Inv-loop μ-loop
+shared-slice-read-words c = search needs
 
-mul-table-2 : tie.Need-mul-table-2 Inv-loop μ-loop
-mul-table-2 c = search needs
+mul-words-2 : tie.Need-mul-words-2 Inv-loop μ-loop
+mul-words-2 c = search needs
 
-element-write-table : tie.Need-element-write-table Inv-loop μ-loop
-element-write-table c = search needs
+element-write-words : tie.Need-element-write-words Inv-loop μ-loop
+element-write-words c = search needs
 
-add-table : tie.Need-add-table Inv-loop μ-loop
-add-table c = search needs
+add-starts : tie.Need-add-starts Inv-loop μ-loop
+add-starts c = search needs
 
-mul-table-3 : tie.Need-mul-table-3 Inv-loop μ-loop
-mul-table-3 c = search needs
+mul-starts : tie.Need-mul-starts Inv-loop μ-loop
+mul-starts c = search needs
 
-element-write-table-2 : tie.Need-element-write-table-2 Inv-loop μ-loop
-element-write-table-2 c = search needs
+element-write-starts : tie.Need-element-write-starts Inv-loop μ-loop
+element-write-starts c = search needs
 
-mul-table-4 : tie.Need-mul-table-4 Inv-loop μ-loop
-mul-table-4 c = search needs
+mul-ends : tie.Need-mul-ends Inv-loop μ-loop
+mul-ends c = search needs
 
-element-write-table-3 : tie.Need-element-write-table-3 Inv-loop μ-loop
-element-write-table-3 c = search needs
+element-write-ends : tie.Need-element-write-ends Inv-loop μ-loop
+element-write-ends c = search needs
 
-add-table-2 : tie.Need-add-table-2 Inv-loop μ-loop
-add-table-2 c = search needs
+add-n : tie.Need-add-n Inv-loop μ-loop
+add-n c = search needs
 
 loop-less : tie.Need-loop-less Inv-loop μ-loop
-loop-less c = let h = entry-rises _ _ _ _ _ _ (c .before .before .before .before .before .before .entry-at .ensures) (c .before .before .q .given .1) in omega arith
+loop-less c = let b6 = c .before .before .before .before .before .before in let h = entry-rises _ _ _ _ _ _ (b6 .entry-at .ensures) (c .before .before .q .given .1) in omega arith
 
 loop-again : tie.Need-loop-again Inv-loop μ-loop
-unfolding addRow
-loop-again c = let b6 = c .before .before .before .before .before .before in let b9 = b6 .before .before .before in let b13 = b9 .before .before .before .before in let u : counted (c .if1 .table) (b9 .loop .table .n + 1) ≡ addRow (b9 .loop .table) (getD (b13 .args .row .now) (b9 .loop .p) 0) (b9 .loop .p + 1) (c .before .before .q .given .0 .0) = ⊎-elim (λ w. rw (w .2, lt-leb _ _ (w .0 .taken))) (λ w. rw (w .1, le-leb _ _ (w .0 .left))) (c .if1 .came) in (λ b r t. b9 .loop .inv .0 b r (list-more _ _ _ (b6 .before .before .loop-test .taken) _ _ _ _ (b6 .entry-at .ensures) _ _ (c .before .before .q .given .1) u b r t), let h = entry-rises _ _ _ _ _ _ (b6 .entry-at .ensures) (c .before .before .q .given .1) in omega arith, b6 .entry-at .kept .1 .1 .0 ∙ b9 .loop .inv .2)
+loop-again c = let b6 = c .before .before .before .before .before .before in let b9 = b6 .before .before .before in let b12 = b9 .before .before .before in let e : tableOf (b9 .loop .n + 1) (c .if1 .words) (c .if1 .starts) (c .if1 .ends) ≡ addRow (tableOf (b9 .loop .n) (b9 .loop .words) (b9 .loop .starts) (b9 .loop .ends)) (getD (b12 .args .row .now) (b9 .loop .p) 0) (b9 .loop .p + 1) (c .before .before .q .given .0 .0) = ⊎-elim (λ w. rw (w .2, w .3, w .4) (row-stored _ _ _ _ _ _ _ (w .0 .taken))) (λ w. rw (w .1, w .2, w .3) (row-counted _ _ _ _ _ _ _ (w .0 .left))) (c .if1 .came) in (λ u b ok t. b9 .loop .inv .0 u b ok (list-more _ _ _ (b6 .before .before .loop-test .taken) _ _ _ _ (b6 .entry-at .ensures) _ _ (c .before .before .q .given .1) e u b ok t), let h = entry-rises _ _ _ _ _ _ (b6 .entry-at .ensures) (c .before .before .q .given .1) in omega arith, b6 .entry-at .kept .1 .1 .0 ∙ b9 .loop .inv .2)
 
 same-length-2 : tie.Need-same-length-2 Inv-loop μ-loop
 same-length-2 c = c .before .loop .inv .2
 
 returns-2 : tie.Need-returns-2 Inv-loop μ-loop
-returns-2 c = c .before .loop .inv .0 _ _ (list-end _ _ _ _ _ (c .loop-test .left))
+returns-2 c = c .before .loop .inv .0 _ _ _ (list-end _ _ _ _ _ (c .loop-test .left))
 
 pub mark-list-spec : {M : Type 1} → statement M
 mark-list-spec =
@@ -94,23 +86,22 @@ mark-list-spec =
     (tie.spec
     Inv-loop
     μ-loop
-    new-requires
     loop-holds
     entry-at-requires
     enum-known-q
     enum-told
     same-length
     returns
-    mul-table
-    shared-slice-read-table
-    mul-table-2
-    element-write-table
-    add-table
-    mul-table-3
-    element-write-table-2
-    mul-table-4
-    element-write-table-3
-    add-table-2
+    mul-words
+    shared-slice-read-words
+    mul-words-2
+    element-write-words
+    add-starts
+    mul-starts
+    element-write-starts
+    mul-ends
+    element-write-ends
+    add-n
     loop-less
     loop-again
     same-length-2

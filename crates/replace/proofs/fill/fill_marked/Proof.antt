@@ -1,16 +1,13 @@
 -- `replace::fill::fill_marked` meets its contract. Assumes nothing.
-use borrow.Author.Needs.{needs}
 use Prim.Native.Nat.{_-_}
 use lib.ListN.{length, take, drop}
 use Rattle.shift.proofs.CheckedLaws.{passed}
-use Rattle.replace.specs.Internal.Pieces.{Ready, fillPlan}
+use Rattle.replace.specs.Internal.Pieces.{tableOf, Ready, fillPlan}
 use Rattle.replace.proofs.BuildLaws.{rest-part}
 use Rattle.replace.proofs.FillLaws.{same-filled}
+use borrow.Author.Needs.{needs}
 use Rattle.replace.proofs.fill.fill_marked.Statement.{statement}
 use Rattle.replace.proofs.fill.fill_marked.Tie as tie
-use Rattle.replace.proofs.fill.fill_marked.Reads as reads
-use Rattle.replace.proofs.fill.fill_marked.Lts as lts
-use Rattle.replace.proofs.fill.fill_with.Reads as fill-with-reads
 
 sub-fill-with : tie.Need-sub-fill-with
 sub-fill-with c = search needs
@@ -22,13 +19,13 @@ part-fill-with-end : tie.Need-part-fill-with-end
 part-fill-with-end c = search needs
 
 fill-with-requires : tie.Need-fill-with-requires
-fill-with-requires c κs = let b6 = c .before .before .before .before .before .before in (let h : Ready (fillPlan (b6 .args .table)) (b6 .args .list .now) (take (length (b6 .args .work .now) - 8192) (drop 8192 (b6 .args .work .now))) = rw (rest-part (b6 .args .work .now) 8192) (b6 .pre .1 .0) in h, b6 .pre .1 .1)
+fill-with-requires c κs = let b9 = c .before .before .before .before .before .before .before .before .before in (let h : Ready (fillPlan (tableOf (b9 .args .n) (b9 .args .words .now) (b9 .args .starts .now) (b9 .args .ends .now))) (b9 .args .list .now) (take (length (b9 .args .work .now) - 8192) (drop 8192 (b9 .args .work .now))) = rw (rest-part (b9 .args .work .now) 8192) (b9 .pre .1 .0) in h, b9 .pre .1 .1)
 
 same-length : tie.Need-same-length
 same-length c = search needs
 
 returns : tie.Need-returns
-returns c = passed _ _ _ _ _ (same-filled _ _ _ _ _ _ _ _ (rest-part (c .before .before .before .before .before .before .before .before .before .args .work .now) 8192)) (c .before .before .fill-with .ensures)
+returns c = let b12 = c .before .before .before .before .before .before .before .before .before .before .before .before in passed _ _ _ _ _ (same-filled _ _ _ _ _ _ _ _ (rest-part (b12 .args .work .now) 8192)) (c .before .before .fill-with .ensures)
 
 pub fill-marked-spec : {M : Type 1} → statement M
 fill-marked-spec =

@@ -4,15 +4,17 @@ use Prim.Native.Nat.{_≤_}
 use native.Mathlib.Omega.{arith}
 use borrow.Author.Tests.{not-true, not-false}
 use lib.ListN.{length}
-use borrow.Author.Needs.{needs}
+use Rattle.reader.specs.Internal.Reads.{emptyTable}
 use Rattle.reader.proofs.TableLaws.{listing-no}
 use Rattle.shift.proofs.CheckedLaws.{refused, passed}
 use Rattle.replace.proofs.CallLaws.{refused-by}
 use Rattle.replace.proofs.MarkLaws.{listing-kept}
 use Rattle.replace.proofs.ShallowLaws.{reading-missing, reading-checked, reading-shallow}
+use Rattle.replace.proofs.SmallLaws.{leaves-by}
 use Rattle.form.specs.declared.answer.Kind.the-variants.{Either}
 use Rattle.form.specs.declared.answer.ListKind.the-variants.{Pairs}
 use Rattle.replace.proofs.FreeLaws.{free-small, free-long, free-missing, free-list-long, free-no-list, free-bad, pairing, pairs-ready, free-row}
+use borrow.Author.Needs.{needs}
 use Rattle.replace.proofs.free.substitute_free_idents.Statement.{statement}
 use Rattle.replace.proofs.free.substitute_free_idents.Tie as tie
 
@@ -35,7 +37,7 @@ depth-left-by-requires : tie.Need-depth-left-by-requires
 depth-left-by-requires c κs = search needs
 
 mark-row-requires : tie.Need-mark-row-requires
-mark-row-requires c κs = let b4 = c .before .before .before .before in let b7 = b4 .before .before .before in let h : 8192 ≤ length (b4 .mark-entries .last .1 .1 .0) = omega arith in ((c .before .depth-left-by .ensures .most), (h, b7 .if2 .left))
+mark-row-requires c κs = let b6 = c .before .before .before .before .before .before in let b12 = b6 .before .before .before .before .before .before in let left = leaves-by _ _ _ _ _ (c .before .depth-left-by .ensures) in let h : 8192 ≤ length (b6 .mark-entries .last .1 .1 .0) = let v = b6 .mark-entries .kept .1 .1 .0 in let w = b12 .before .if1 .left in omega arith in (left .most, (h, b12 .if2 .left))
 
 enum-known-sure : tie.Need-enum-known-sure
 enum-known-sure c = search needs
@@ -47,13 +49,13 @@ same-length : tie.Need-same-length
 same-length c = search needs
 
 returns-4 : tie.Need-returns-4
-returns-4 c = let b4 = c .before .before .before .before in let b12 = b4 .before .before .before .before .before .before .before .before in let b18 = b12 .before .before .before .before .before .before in refused _ _ _ _ (free-missing (b18 .args .list .now) (b18 .args .row .now) _ _ (b12 .before .if1 .left) (b12 .if2 .left) (reading-missing _ (b4 .before .before .depth-left-by .ensures .most) _ _ _ (b4 .mark-row .ensures .0) (c .enum-told .given .1))) refl
+returns-4 c = let b4 = c .before .before .before .before in let b17 = b4 .before .before .before .before .before .before .before .before .before .before .before .before .before in let b23 = b17 .before .before .before .before .before .before in let left = leaves-by _ _ _ _ _ (b4 .before .before .depth-left-by .ensures) in refused _ _ _ _ (free-missing (b23 .args .list .now) (b23 .args .row .now) _ _ (b17 .before .if1 .left) (b17 .if2 .left) (reading-missing _ (left .most) _ _ _ (b4 .mark-row .ensures .0) (c .enum-told .given .1))) refl
 
 same-length-2 : tie.Need-same-length-2
 same-length-2 c = search needs
 
 returns-5 : tie.Need-returns-5
-returns-5 c = let b3 = c .before .before .before in let b7 = b3 .before .before .before .before in let b12 = b7 .before .before .before .before .before in let b15 = b12 .before .before .before in let b21 = b15 .before .before .before .before .before .before in refused _ _ _ _ (free-no-list (b21 .args .list .now) (b21 .args .row .now) _ _ (b15 .before .if1 .left) _ (reading-checked _ (b7 .before .before .depth-left-by .ensures .most) Either (b21 .args .row .now) _ (length (b21 .args .row .now)) _ refl _ _ (b15 .if2 .left) (b7 .mark-row .ensures .0) (b3 .sure .given .1) (b7 .mark-row .ensures .1 .0)) (b12 .before .before .if3 .left) (listing-no _ _ _ _ (b12 .mark-entries .ensures .0) (not-true _ (c .if4 .taken)))) refl
+returns-5 c = let b3 = c .before .before .before in let b7 = b3 .before .before .before .before in let b14 = b7 .before .before .before .before .before .before .before in let b19 = b14 .before .before .before .before .before in let b26 = b19 .before .before .before .before .before .before .before in let left = leaves-by _ _ _ _ _ (b7 .before .before .depth-left-by .ensures) in let x = reading-checked _ (left .most) Either (b26 .args .row .now) _ (length (b26 .args .row .now)) _ refl _ _ (b19 .before .if2 .left) (b7 .mark-row .ensures .0) (b3 .sure .given .1) (b7 .mark-row .ensures .1 .0) in refused _ _ _ _ (free-no-list (b26 .args .list .now) (b26 .args .row .now) _ _ (b19 .before .before .if1 .left) _ x (b19 .if3 .left) (listing-no _ _ _ _ _ _ (b14 .mark-entries .ensures) (not-true _ (c .if4 .taken)))) refl
 
 good-table-requires : tie.Need-good-table-requires
 good-table-requires c κs = search needs
@@ -62,10 +64,12 @@ same-length-3 : tie.Need-same-length-3
 same-length-3 c = search needs
 
 returns-6 : tie.Need-returns-6
-returns-6 c = let b5 = c .before .before .before .before .before in let b9 = b5 .before .before .before .before in let b14 = b9 .before .before .before .before .before in let b17 = b14 .before .before .before in let b23 = b17 .before .before .before .before .before .before in refused _ _ _ _ (free-bad (b23 .args .list .now) (b23 .args .row .now) _ _ (b17 .before .if1 .left) _ (reading-checked _ (b9 .before .before .depth-left-by .ensures .most) Either (b23 .args .row .now) _ (length (b23 .args .row .now)) _ refl _ _ (b17 .if2 .left) (b9 .mark-row .ensures .0) (b5 .sure .given .1) (b9 .mark-row .ensures .1 .0)) (b14 .before .before .if3 .left) _ _ _ (b14 .mark-entries .ensures .0) (not-false _ (c .before .before .if4 .left)) _ (c .before .good-table .ensures) (not-true _ (c .if5 .taken))) refl
+unfolding emptyTable
+returns-6 c = let b3 = c .before .before .before in let b6 = b3 .before .before .before in let b10 = b6 .before .before .before .before in let b17 = b10 .before .before .before .before .before .before .before in let b22 = b17 .before .before .before .before .before in let b29 = b22 .before .before .before .before .before .before .before in let left = leaves-by _ _ _ _ _ (b10 .before .before .depth-left-by .ensures) in let x = reading-checked _ (left .most) Either (b29 .args .row .now) _ (length (b29 .args .row .now)) _ refl _ _ (b22 .before .if2 .left) (b10 .mark-row .ensures .0) (b6 .sure .given .1) (b10 .mark-row .ensures .1 .0) in refused _ _ _ _ (free-bad (b29 .args .list .now) (b29 .args .row .now) _ _ (b22 .before .before .if1 .left) _ x (b22 .if3 .left) _ _ _ _ (b17 .mark-entries .ensures) (not-false _ (b3 .if4 .left)) _ (c .before .good-table .ensures) (not-true _ (c .if5 .taken))) refl
 
 substitute-marked-requires : tie.Need-substitute-marked-requires
-substitute-marked-requires c κs = let b3 = c .before .before .before in let b11 = b3 .before .before .before .before .before .before .before .before in let b16 = b11 .before .before .before .before .before in let b25 = b16 .before .before .before .before .before .before .before .before .before in (let h : 8192 ≤ length (b11 .mark-row .last .1 .1 .1 .0) = omega arith in h, pairs-ready (b25 .args .list .now) (b16 .mark-entries .result .table) (b11 .mark-row .last .1 .1 .1 .0) (pairing (b25 .args .list .now) (b11 .mark-row .last .1 .1 .1 .0) (b16 .mark-entries .result) (listing-kept Pairs (b25 .args .list .now) (b16 .mark-entries .last .1 .1 .0) (b11 .mark-row .last .1 .1 .1 .0) (b16 .mark-entries .result) (b11 .mark-row .ensures .1 .1) (b16 .mark-entries .ensures .0)) (not-false _ (b3 .before .if4 .left)) _ (b3 .good-table .ensures) (not-false _ (c .before .before .if5 .left))) (omega arith))
+unfolding emptyTable
+substitute-marked-requires c κs = let b5 = c .before .before .before .before .before in let b8 = b5 .before .before .before in let b15 = b8 .before .before .before .before .before .before .before in let b22 = b15 .before .before .before .before .before .before .before in let b27 = b22 .before .before .before .before .before in let b34 = b27 .before .before .before .before .before .before .before in let u = b15 .mark-row .kept .1 .1 .1 .0 in let v = b22 .mark-entries .kept .1 .1 .0 in let w = b27 .before .before .if1 .left in let z = b27 .if3 .left in let y = pairing (b34 .args .list .now) (b15 .mark-row .last .1 .1 .1 .0) _ _ (listing-kept Pairs (b34 .args .list .now) (b22 .mark-entries .last .1 .1 .0) (b15 .mark-row .last .1 .1 .1 .0) _ _ _ (b15 .mark-row .ensures .1 .1) (b22 .mark-entries .ensures)) (not-false _ (b8 .if4 .left)) _ (b5 .before .good-table .ensures) (not-false _ (b5 .if5 .left)) in let h : 8192 ≤ length (b15 .mark-row .last .1 .1 .1 .0) = omega arith in (h, pairs-ready (b34 .args .list .now) _ (b15 .mark-row .last .1 .1 .1 .0) y (omega arith))
 
 same-length-4 : tie.Need-same-length-4
 same-length-4 c = search needs
@@ -74,7 +78,8 @@ same-length-5 : tie.Need-same-length-5
 same-length-5 c = search needs
 
 returns-7 : tie.Need-returns-7
-returns-7 c = let b5 = c .before .before .before .before .before in let b10 = b5 .before .before .before .before .before in let b14 = b10 .before .before .before .before in let b19 = b14 .before .before .before .before .before in let b22 = b19 .before .before .before in let b28 = b22 .before .before .before .before .before .before in passed _ _ _ _ _ (free-row (b28 .args .list .now) _ (b14 .mark-row .last .1 .1 .1 .0) (pairing (b28 .args .list .now) (b14 .mark-row .last .1 .1 .1 .0) (b19 .mark-entries .result) (listing-kept Pairs (b28 .args .list .now) (b19 .mark-entries .last .1 .1 .0) (b14 .mark-row .last .1 .1 .1 .0) (b19 .mark-entries .result) (b14 .mark-row .ensures .1 .1) (b19 .mark-entries .ensures .0)) (not-false _ (b5 .before .before .if4 .left)) _ (b5 .before .good-table .ensures) (not-false _ (b5 .if5 .left))) (b28 .args .row .now) _ _ (b22 .before .if1 .left) (b19 .before .before .if3 .left) (reading-checked _ (b14 .before .before .depth-left-by .ensures .most) Either (b28 .args .row .now) _ (length (b28 .args .row .now)) _ refl _ _ (b22 .if2 .left) (b14 .mark-row .ensures .0) (b10 .sure .given .1) (b14 .mark-row .ensures .1 .0)) _ (b14 .before .before .depth-left-by .ensures) _ (reading-shallow _ (b14 .before .before .depth-left-by .ensures .most) _ _ _ _ (reading-checked _ (b14 .before .before .depth-left-by .ensures .most) Either (b28 .args .row .now) _ (length (b28 .args .row .now)) _ refl _ _ (b22 .if2 .left) (b14 .mark-row .ensures .0) (b10 .sure .given .1) (b14 .mark-row .ensures .1 .0)) _ _ (b14 .mark-row .ensures .0) (b10 .sure .given .1))) (c .before .before .substitute-marked .ensures)
+unfolding emptyTable
+returns-7 c = let b8 = c .before .before .before .before .before .before .before .before in let b11 = b8 .before .before .before in let b14 = b11 .before .before .before in let b18 = b14 .before .before .before .before in let b25 = b18 .before .before .before .before .before .before .before in let b30 = b25 .before .before .before .before .before in let b37 = b30 .before .before .before .before .before .before .before in let left = leaves-by _ _ _ _ _ (b18 .before .before .depth-left-by .ensures) in let x = reading-checked _ (left .most) Either (b37 .args .row .now) _ (length (b37 .args .row .now)) _ refl _ _ (b30 .before .if2 .left) (b18 .mark-row .ensures .0) (b14 .sure .given .1) (b18 .mark-row .ensures .1 .0) in let y = pairing (b37 .args .list .now) (b18 .mark-row .last .1 .1 .1 .0) _ _ (listing-kept Pairs (b37 .args .list .now) (b25 .mark-entries .last .1 .1 .0) (b18 .mark-row .last .1 .1 .1 .0) _ _ _ (b18 .mark-row .ensures .1 .1) (b25 .mark-entries .ensures)) (not-false _ (b11 .if4 .left)) _ (b8 .before .good-table .ensures) (not-false _ (b8 .if5 .left)) in passed _ _ _ _ _ (free-row (b37 .args .list .now) _ (b18 .mark-row .last .1 .1 .1 .0) y (b37 .args .row .now) _ _ (b30 .before .before .if1 .left) (b30 .if3 .left) x _ left _ (reading-shallow _ (left .most) _ _ _ _ x _ _ (b18 .mark-row .ensures .0) (b14 .sure .given .1))) (c .before .before .substitute-marked .ensures)
 
 pub substitute-free-idents-spec : {M : Type 1} → statement M
 substitute-free-idents-spec =

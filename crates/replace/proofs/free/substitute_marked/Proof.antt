@@ -2,10 +2,10 @@
 use mathlib.Core.Path.{refl}
 use Prim.Native.Nat.{_-_}
 use lib.ListN.{length, take, drop}
-use borrow.Author.Needs.{needs}
 use Rattle.shift.proofs.CheckedLaws.{passed}
-use Rattle.replace.specs.Internal.Pieces.{Ready, freePlan}
+use Rattle.replace.specs.Internal.Pieces.{tableOf, Ready, freePlan}
 use Rattle.replace.proofs.BuildLaws.{rest-part, same-replaced}
+use borrow.Author.Needs.{needs}
 use Rattle.replace.proofs.free.substitute_marked.Statement.{statement}
 use Rattle.replace.proofs.free.substitute_marked.Tie as tie
 
@@ -14,15 +14,6 @@ kind-of-requires c κs = search needs
 
 slice-aggregate-replace : tie.Need-slice-aggregate-replace
 slice-aggregate-replace c = search needs
-
-slice-aggregate-replace-2 : tie.Need-slice-aggregate-replace-2
-slice-aggregate-replace-2 c = search needs
-
-slice-aggregate-replace-3 : tie.Need-slice-aggregate-replace-3
-slice-aggregate-replace-3 c = search needs
-
-slice-aggregate-replace-4 : tie.Need-slice-aggregate-replace-4
-slice-aggregate-replace-4 c = search needs
 
 sub-replace : tie.Need-sub-replace
 sub-replace c = search needs
@@ -34,13 +25,13 @@ part-replace-end : tie.Need-part-replace-end
 part-replace-end c = search needs
 
 replace-requires : tie.Need-replace-requires
-replace-requires c κs = let b14 = c .before .before .before .before .before .before .before .before .before .before .before .before .before .before in let h : Ready (freePlan (b14 .args .table)) (b14 .args .list .now) (take (length (b14 .args .work .now) - 8192) (drop 8192 (b14 .args .work .now))) = rw (rest-part (b14 .args .work .now) 8192) (b14 .pre .1) in h
+replace-requires c κs = let b11 = c .before .before .before .before .before .before .before .before .before .before .before in let h : Ready (freePlan (tableOf (b11 .args .n) (b11 .args .words .now) (b11 .args .starts .now) (b11 .args .ends .now))) (b11 .args .list .now) (take (length (b11 .args .work .now) - 8192) (drop 8192 (b11 .args .work .now))) = rw (rest-part (b11 .args .work .now) 8192) (b11 .pre .1) in h
 
 same-length : tie.Need-same-length
 same-length c = search needs
 
 returns : tie.Need-returns
-returns c = let b9 = c .before .before .before .before .before .before .before .before .before in let b17 = b9 .before .before .before .before .before .before .before .before in passed _ _ _ _ _ (same-replaced _ _ _ _ _ _ _ _ _ _ _ _ refl (b9 .kind-of .ensures) (rest-part (b17 .args .work .now) 8192)) (c .before .before .replace .ensures)
+returns c = let b9 = c .before .before .before .before .before .before .before .before .before in let b14 = b9 .before .before .before .before .before in passed _ _ _ _ _ (same-replaced _ _ _ _ _ _ _ _ _ _ _ _ refl (b9 .kind-of .ensures) (rest-part (b14 .args .work .now) 8192)) (c .before .before .replace .ensures)
 
 pub substitute-marked-spec : {M : Type 1} → statement M
 substitute-marked-spec =
@@ -48,9 +39,6 @@ substitute-marked-spec =
     (tie.spec
     kind-of-requires
     slice-aggregate-replace
-    slice-aggregate-replace-2
-    slice-aggregate-replace-3
-    slice-aggregate-replace-4
     sub-replace
     part-replace-start
     part-replace-end

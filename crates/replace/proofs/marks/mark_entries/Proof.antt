@@ -1,12 +1,8 @@
 -- `replace::marks::mark_entries` meets its contract. Assumes nothing.
-use borrow.Author.Needs.{needs}
 use Rattle.replace.proofs.MarkLaws.{entries-front}
+use borrow.Author.Needs.{needs}
 use Rattle.replace.proofs.marks.mark_entries.Statement.{statement}
 use Rattle.replace.proofs.marks.mark_entries.Tie as tie
-use Rattle.replace.proofs.marks.mark_entries.Reads as reads
-use Rattle.replace.proofs.marks.mark_entries.Lts as lts
-use Rattle.reader.proofs.lists.mark_list.Reads as mark-list-reads
-use Rattle.replace.proofs.marks.clear.Reads as clear-reads
 
 clear-requires : tie.Need-clear-requires
 clear-requires c κs = search needs
@@ -27,7 +23,7 @@ same-length : tie.Need-same-length
 same-length c = search needs
 
 returns : tie.Need-returns
-returns c = entries-front _ _ _ _ _ _ _ (c .before .before .before .before .before .before .before .before .before .before .pre) (c .before .before .before .before .before .before .clear .ensures) (c .before .before .mark-list .kept .1 .1 .0) (c .before .before .mark-list .ensures)
+returns c = let b9 = c .before .before .before .before .before .before .before .before .before in let b13 = b9 .before .before .before .before in entries-front _ _ _ _ _ _ _ _ _ (b13 .pre) (b9 .clear .ensures) (c .before .before .mark-list .kept .1 .1 .0) (c .before .before .mark-list .ensures)
 
 pub mark-entries-spec : {M : Type 1} → statement M
 mark-entries-spec =

@@ -1,17 +1,15 @@
 -- `replace::small::depth_at` meets its contract. Assumes nothing.
 use mathlib.Core.Path.{_∙_}
-use native.Mathlib.Nat.{le-refl}
-use native.Mathlib.Omega.{arith}
 use borrow.Author.Needs.{needs}
-use Rattle.replace.proofs.SmallLaws.{at-none, at-part}
+use Rattle.replace.proofs.SmallLaws.{at-none, at-past, at-part}
 use Rattle.replace.proofs.small.depth_at.Statement.{statement}
 use Rattle.replace.proofs.small.depth_at.Tie as tie
 
 returns : tie.Need-returns
-returns c = record { least = λ h. le-refl _; most = λ h. h; holds = λ h. at-none _ _ _ _ (c .if1 .taken) }
+returns c = at-none _ _ _ _ (c .before .before .pre) (c .if1 .taken)
 
 returns-2 : tie.Need-returns-2
-returns-2 c = record { least = λ h. h; most = λ h. omega arith; holds = λ h. absurd (omega arith) }
+returns-2 c = at-past _ _ _ _ (c .before .if1 .left) (c .if2 .taken)
 
 mul-depth-from : tie.Need-mul-depth-from
 mul-depth-from c = search needs
@@ -29,7 +27,7 @@ depth-from-requires : tie.Need-depth-from-requires
 depth-from-requires c κs = search needs
 
 returns-3 : tie.Need-returns-3
-returns-3 c = let b3 = c .before .before .before in let d = c .depth-from .ensures in record { least = d .least; most = d .most; holds = λ h. at-part _ _ _ _ (b3 .if1 .left) (c .before .before .if2 .left) ∙ d .holds h }
+returns-3 c = c .depth-from .ensures ∙ at-part _ _ _ _ (c .before .before .before .if1 .left) (c .before .before .if2 .left)
 
 pub depth-at-spec : {M : Type 1} → statement M
 depth-at-spec =

@@ -1,17 +1,17 @@
 -- `replace::small::parts_depth` meets its contract. Assumes nothing.
+use mathlib.Core.Path.{_≡_}
 use Prim.Native.Nat.{_-_, _≤_}
 use native.Mathlib.Omega.{arith}
-use borrow.Author.Needs.{needs}
-use Rattle.replace.specs.Internal.Pieces.{PartsDepth}
-use Rattle.replace.proofs.SmallLaws.{parts-none, parts-more, parts-all}
+use Rattle.replace.specs.Internal.Pieces.{deepParts, depthFrom}
+use Rattle.replace.proofs.SmallLaws.{parts-none, parts-next, parts-all, depth-most}
 use Rattle.replace.proofs.small.parts_depth.Statement.{statement}
 use Rattle.replace.proofs.small.parts_depth.Tie as tie
 
 abbrev Inv-loop : tie.InvT-loop
-Inv-loop starts ends list n d₀ i₀ d i = PartsDepth starts ends list i d × (i ≤ n)
+Inv-loop starts ends n list d₀ i₀ d i = (d ≡ depthFrom 1 (λ k. deepParts k starts ends i list)) × (i ≤ n)
 
 abbrev μ-loop : tie.MeasureT-loop
-μ-loop starts ends list n d₀ i₀ d i = n - i
+μ-loop starts ends n list d₀ i₀ d i = n - i
 
 loop-holds : tie.Need-loop-holds Inv-loop μ-loop
 loop-holds c = (parts-none _ _ _, omega arith)
@@ -29,7 +29,7 @@ shared-slice-read-depth-at-2 : tie.Need-shared-slice-read-depth-at-2 Inv-loop μ
 shared-slice-read-depth-at-2 c = omega arith
 
 depth-at-requires : tie.Need-depth-at-requires Inv-loop μ-loop
-depth-at-requires c κs = search needs
+depth-at-requires c κs = depth-most _ _ _ (c .before .before .before .loop .inv .0)
 
 add-i : tie.Need-add-i Inv-loop μ-loop
 add-i c = omega arith
@@ -38,7 +38,7 @@ loop-less : tie.Need-loop-less Inv-loop μ-loop
 loop-less c = omega arith
 
 loop-again : tie.Need-loop-again Inv-loop μ-loop
-loop-again c = let b4 = c .before .before .before .before in (parts-more _ _ _ _ _ _ (b4 .loop .inv .0) (c .depth-at .ensures), omega arith)
+loop-again c = let b4 = c .before .before .before .before in (parts-next _ _ _ _ _ _ (b4 .loop .inv .0) (c .depth-at .ensures), omega arith)
 
 returns : tie.Need-returns Inv-loop μ-loop
 returns c = parts-all _ _ _ _ _ _ (c .before .loop .inv .0) (c .before .loop .inv .1) (c .loop-test .left)

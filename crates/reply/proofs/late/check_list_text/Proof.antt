@@ -17,16 +17,16 @@ mark-list-requires : tie.Need-mark-list-requires
 mark-list-requires c κs = search needs
 
 returns-2 : tie.Need-returns-2
-returns-2 c = list-none _ _ _ (c .before .before .before .before .before .if1 .left) _ _ _ (c .before .before .before .mark-list .ensures) (not-true _ (c .if2 .taken))
+returns-2 c = let b3 = c .before .before .before in let b8 = b3 .before .before .before .before .before in list-none _ _ _ (b8 .if1 .left) _ _ _ _ _ (b3 .mark-list .ensures) (not-true _ (c .if2 .taken))
 
 fits-list-requires : tie.Need-fits-list-requires
 fits-list-requires c κs = search needs
 
 returns-3 : tie.Need-returns-3
-returns-3 c = list-told _ _ _ (c .before .before .before .before .before .before .before .if1 .left) _ _ _ (c .before .before .before .before .before .mark-list .ensures) (not-false _ (c .before .before .if2 .left)) false (sym (not-true _ (c .if3 .taken)) ∙ c .before .fits-list .ensures)
+returns-3 c = let b5 = c .before .before .before .before .before in let b10 = b5 .before .before .before .before .before in list-told _ _ _ (b10 .if1 .left) _ _ _ _ _ (b5 .mark-list .ensures) (not-false _ (c .before .before .if2 .left)) false (sym (not-true _ (c .if3 .taken)) ∙ c .before .fits-list .ensures)
 
 returns-4 : tie.Need-returns-4
-returns-4 c = list-told _ _ _ (c .before .before .before .before .before .before .before .if1 .left) _ _ _ (c .before .before .before .before .before .mark-list .ensures) (not-false _ (c .before .before .if2 .left)) true (sym (not-false _ (c .if3 .left)) ∙ c .before .fits-list .ensures)
+returns-4 c = let b5 = c .before .before .before .before .before in let b10 = b5 .before .before .before .before .before in list-told _ _ _ (b10 .if1 .left) _ _ _ _ _ (b5 .mark-list .ensures) (not-false _ (c .before .before .if2 .left)) true (sym (not-false _ (c .if3 .left)) ∙ c .before .fits-list .ensures)
 
 pub check-list-text-spec : {M : Type 1} → statement M
 check-list-text-spec =
