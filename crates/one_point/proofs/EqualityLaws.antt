@@ -131,7 +131,7 @@ joined-words t (more f (more g fs)) = omega arith
 -- the equality scanned
 left-by : (row : List ℕ) (pos e m : ℕ) (out out₂ out₃ : List ℕ) (found : Replacement) (gone : Bool) (next end : ℕ) → pos + 2 ≤ length out → (z : Scans) → Neats (present (leftOf z)) → PartsTold row (pos + 2) out 0 z found e m out₂
     → ((fs : Forms) → m ≡ count fs → Wrote (pos + 2) out₂ (encodeAll fs) e out₂ → (gone ≡ isGone (joined 351 fs)) × Wrote pos out₂ (leftWords (joined 351 fs)) end out₃)
-    → Left row pos out (with (λ gs. joined 351 (present gs)) z) (record { next = next; found = found; gone = gone; end = end }) out₃ × (end ≤ pos + 2 + words (present (leftOf z)))
+    → Left row pos out (with (λ gs. joined 351 (present gs)) z) (record { ok = true; next = next; found = found; gone = gone; end = end }) out₃ × (end ≤ pos + 2 + words (present (leftOf z)))
 unfolding PartsTold Left
 left-by row pos e m out out₂ out₃ found gone next end low (scans x gs) n t h =
     let u = h (present gs) (omega (arith, t .2)) (wrote-self (pos + 2) e out (encodeAll (present gs)) out₂ low (t .1)) in
@@ -150,7 +150,7 @@ scan-equal n l r = refl
 pub equality-done : (row : List ℕ) (at n pos e m : ℕ) (out out₂ out₃ : List ℕ) (found : Replacement) (gone : Bool) (next end : ℕ) (l r : Form) (f : Form) → f ≡ equal l r → next ≡ at + length (encode (equal l r))
     → pos + 2 ≤ length out → (ps : List (Form × Form)) → ps ≡ parts l r → PartsTold row (pos + 2) out 0 (offerParts n ps) found e m out₂
     → ((fs : Forms) → m ≡ count fs → Wrote (pos + 2) out₂ (encodeAll fs) e out₂ → (gone ≡ isGone (joined 351 fs)) × Wrote pos out₂ (leftWords (joined 351 fs)) end out₃)
-    → Became row at f pos out (scan n true f) (record { next = next; found = found; gone = gone; end = end }) out₃
+    → Became row at f pos out (scan n true f) (record { ok = true; next = next; found = found; gone = gone; end = end }) out₃
 equality-done row at n pos e m out out₂ out₃ found gone next end l r f is to low ps q t h =
     let u = left-by row pos e m out out₂ out₃ found gone next end low (offerParts n (parts l r)) (offer-neat n (parts l r)) (rw q at t) h in
     let a = offer-less n (parts l r) in

@@ -1,5 +1,5 @@
--- The scan at a predicate that is copied, and at an equality. Assumes nothing.
-use mathlib.Core.Path.{_≡_, refl, sym, _∙_}
+-- The scan at a predicate that is copied, and at the sides of an equality. Assumes nothing.
+use mathlib.Core.Path.{_≡_, refl, ap, _∙_}
 use mathlib.Core.Bool.{Bool, true, false}
 use mathlib.Core.Option.{some}
 use mathlib.Core.List.{List, [], _∷_, _++_, append-assoc, append-nil}
@@ -7,28 +7,28 @@ use Prim.Native.Nat.{ℕ, suc, _+_, _-_, _*_, _≤_}
 use native.Mathlib.Omega.{arith}
 use borrow.Author.Tests.{eqb-true, eqb-false}
 use lib.Dec.{eqb}
-use lib.ListN.{length, getD, take, drop}
+use lib.ListN.{length, take, drop}
 use lib.Seq.{drop-drop, drop-append-seam}
 use Rattle.tree.specs.Form.{Form, node, Forms, none, more, encode, encodeAll}
 use Rattle.tree.specs.Tag.{Sort, expr, pred, shapeOf, predTags}
-use Rattle.form.specs.Decode.{got, gots, decode}
+use Rattle.form.specs.Decode.{Got, got, no-form, gots, decode}
 use Rattle.form.specs.declared.head.Step.{Step}
 use Rattle.form.specs.declared.head.Step.the-variants.{End, Bad}
-use Rattle.form.proofs.DecodeLaws.{clash, Ok, ok-node, OkAll, ok-none, ok-more, decode-encode, decodeAll-encode, decode-sound}
-use Rattle.rules.proofs.OkLaws.{ok-deep}
+use Rattle.form.proofs.DecodeLaws.{clash, Ok, ok-node, OkAll, ok-none, ok-more, decodeAll-encode, decode-sound, decode-at}
+use Rattle.reader.specs.Internal.Reads.{decodeIn}
 use Rattle.rules.specs.Replacement.{nothing}
 use Rattle.rules.specs.Split.{parts, equal}
 use Rattle.rules.specs.Scan.{scanned}
-use Rattle.places.specs.Internal.Positions.{endAt, readAll, Beside, partsAt, partWords}
+use Rattle.places.specs.Internal.Positions.{endAt, readAll, Beside, partsAt}
 use Rattle.places.specs.Internal.Wrote.{Wrote}
 use Rattle.one_point.specs.Internal.Writes.{Neat, neat-not, neat-other}
 use Rattle.one_point.specs.Internal.Parts.{TookIs}
 use Rattle.one_point.specs.Internal.Scans.{Left, Became}
 use Rattle.places.specs.declared.sides.Replacement.the-variants.{Not}
-use Rattle.places.proofs.ViewLaws.{plain-node, Equal, equal-node}
-use Rattle.places.proofs.SidesLaws.{part-words}
+use Rattle.places.proofs.ViewLaws.{plain-node}
+use Rattle.places.proofs.SidesLaws.{skip-is, part-words}
 use Rattle.places.proofs.WroteLaws.{wrote-end}
-use Rattle.places.proofs.PartsLaws.{tagOf, tag-at, some-words, in-row}
+use Rattle.places.proofs.PartsLaws.{some-words, in-row}
 use Rattle.places.proofs.StepLaws.{equal-length}
 
 -- a well-formed predicate that is a not has one child
@@ -58,21 +58,11 @@ module _ (row : List ℕ) (d at : ℕ) (f : Form) (is : decode d pred (drop at r
   pub stands-ok : Ok d pred f
   stands-ok = decode-sound d pred (drop at row) f (drop (at + length (encode f)) row) is .1
 
-  pub ends : (r : Step) → r ≡ endAt at (decode d pred (drop at row)) → r ≡ End (at + length (encode f))
-  unfolding endAt
-  ends r e = e ∙ rw is refl
-
-  pub not-bad : (r : Step) → r ≡ endAt at (decode d pred (drop at row)) → r ≡ Bad → ⊥
-  not-bad r e b = let z = ends r e in clash cc
-
-  pub next-at : (r : Step) (n : ℕ) → r ≡ endAt at (decode d pred (drop at row)) → r ≡ End n → n ≡ at + length (encode f)
-  next-at r n e b = let z = ends r e in cc
-
   pub fits : at + length (encode f) ≤ length row
   fits = in-row row (encode f) (drop (at + length (encode f)) row) at stands-words (some-words f)
 
   pub copied-form : (n pos end : ℕ) (out out′ : List ℕ) → n ≡ at + length (encode f) → Wrote pos out (take (n - at) (drop at row)) end out′
-      → Became row at f pos out (scanned nothing (some f)) (record { next = n; found = Not; gone = false; end = end }) out′
+      → Became row at f pos out (scanned nothing (some f)) (record { ok = true; next = n; found = Not; gone = false; end = end }) out′
   unfolding Left TookIs
   copied-form n pos end out out′ e w =
       let a : take (n - at) (drop at row) ≡ encode f = part-words row (encode f) (drop (at + length (encode f)) row) at n stands-words e in
@@ -80,13 +70,30 @@ module _ (row : List ℕ) (d at : ℕ) (f : Form) (is : decode d pred (drop at r
       let l = wrote-end pos end out (encode f) out′ v in
       record { next = e; left = (refl, refl, v, pred-neat d f stands-ok); short = omega arith }
 
--- an equality
-equal-from : {d : ℕ} {f : Form} → Equal d f → d ≤ 64 → Equal 64 f
-equal-from x h = record { left = x .left; right = x .right; is = x .is; ok-left = ok-deep (x .ok-left) 64 h; ok-right = ok-deep (x .ok-right) 64 h }
+-- where a form ends that is read at a position, and that none is
+pub record EndsAt (row : List ℕ) (d : ℕ) (s : Sort) (at n : ℕ) : Type 0 where
+  pub form : Form
+  pub is : decode d s (drop at row) ≡ got form (drop (at + length (encode form)) row)
+  pub end : n ≡ at + length (encode form)
 
-pub equal-view : {d : ℕ} {f : Form} → Ok d pred f → d ≤ 64 → tagOf f ≡ 101 → Equal 64 f
-equal-view (ok-node {t = t} a b k) h e = rw e (equal-from (equal-node (rw e at (ok-node a b k))) (omega arith))
+module _ (row : List ℕ) (d : ℕ) (s : Sort) (at : ℕ) (deep : d ≤ 64) (r : Step) (e : r ≡ endAt at (decodeIn d 0 s (drop at row))) where
+  pub ends-at : (n : ℕ) → r ≡ End n → EndsAt row d s at n
+  unfolding endAt
+  ends-at n q = go (decode d s (drop at row)) refl (skip-is at d s (drop at row) r deep e)
+    where
+      go : (g : Got) → decode d s (drop at row) ≡ g → r ≡ endAt at g → EndsAt row d s at n
+      go (got f x) p e = record { form = f; is = p ∙ ap (λ (z : List ℕ). got f z) (decode-at d s row at f x p); end = cc }
+      go no-form p e = absurd (clash cc)
 
+  pub ends-not : r ≡ Bad → decode d s (drop at row) ≡ no-form
+  unfolding endAt
+  ends-not q = go (decode d s (drop at row)) (skip-is at d s (drop at row) r deep e)
+    where
+      go : (g : Got) → r ≡ endAt at g → g ≡ no-form
+      go (got f x) e = absurd (clash cc)
+      go no-form e = refl
+
+-- the sides of an equality
 module _ (row : List ℕ) (at : ℕ) (l r : Form) (x : List ℕ) (ok-l : Ok 64 expr l) (ok-r : Ok 64 expr r) (words : drop at row ≡ encode (equal l r) ++ x) where
   left-words : drop (at + 1) row ≡ encode l ++ (encode r ++ x)
   unfolding encode
@@ -94,17 +101,6 @@ module _ (row : List ℕ) (at : ℕ) (l r : Form) (x : List ℕ) (ok-l : Ok 64 e
 
   right-words : drop (at + 1 + length (encode l)) row ≡ encode r ++ x
   right-words = rw (← drop-drop (length (encode l)) (at + 1) row, left-words) (drop-append-seam (encode l) (encode r ++ x))
-
-  pub right-at : (m : ℕ) → m ≡ partWords row (at + 1) (at + 1) .middle → m ≡ at + 1 + length (encode l)
-  unfolding partWords endAt
-  right-at m e = e ∙ rw (left-words, decode-encode ok-l (encode r ++ x)) refl
-
-  pub next-from : (m n : ℕ) → m ≡ at + 1 + length (encode l) → n ≡ partWords row m m .middle → n ≡ at + length (encode (equal l r))
-  unfolding partWords endAt
-  next-from m n h e =
-      let s = equal-length l r in
-      let a : n ≡ at + 1 + length (encode l) + length (encode r) = e ∙ rw (h, right-words, decode-encode ok-r x) refl in
-      omega arith
 
   one-left : readAll 1 (drop (at + 1) row) ≡ gots (more l none) (encode r ++ x)
   unfolding encode
@@ -138,33 +134,3 @@ module _ (row : List ℕ) (at : ℕ) (l r : Form) (x : List ℕ) (ok-l : Ok 64 e
   pub parts-are : (m : ℕ) → m ≡ at + 1 + length (encode l) → partsAt row (at + 1) m 1 ≡ parts l r
   unfolding partsAt parts
   parts-are m h = rw (h, one-left, one-right) (append-nil (parts l r))
-
--- an equality that stands at a position, with its sides
-pub record EqualAt (row : List ℕ) (at : ℕ) (f : Form) : Type 0 where
-  pub left : Form
-  pub right : Form
-  pub is : f ≡ equal left right
-  pub inside : at + length (encode (equal left right)) ≤ length row
-  pub right-is : (m : ℕ) → m ≡ partWords row (at + 1) (at + 1) .middle → m ≡ at + 1 + length (encode left)
-  pub next-is : (m n : ℕ) → m ≡ at + 1 + length (encode left) → n ≡ partWords row m m .middle → n ≡ at + length (encode (equal left right))
-  pub beside : (m pos room : ℕ) → m ≡ at + 1 + length (encode left) → pos + 2 * length (encode (equal left right)) ≤ room → length row ≤ 8192 → Beside row (at + 1) m 1 (pos + 2) 0 room
-  pub parts-from : (m : ℕ) → m ≡ at + 1 + length (encode left) → partsAt row (at + 1) m 1 ≡ parts left right
-
-pub equal-at : (row : List ℕ) (d at : ℕ) (f : Form) → decode d pred (drop at row) ≡ got f (drop (at + length (encode f)) row) → d ≤ 64 → getD row at 0 ≡ 101 → EqualAt row at f
-equal-at row d at f e deep tag =
-    let w = stands-words row d at f e in
-    made (drop (at + length (encode f)) row) w (equal-view (stands-ok row d at f e) deep (sym (tag-at row at f (drop (at + length (encode f)) row) w) ∙ tag))
-  where
-    made : (y : List ℕ) → drop at row ≡ encode f ++ y → Equal 64 f → EqualAt row at f
-    made y w x =
-        let v : drop at row ≡ encode (equal (x .left) (x .right)) ++ y = rw (x .is) at w in
-        record {
-          left = x .left;
-          right = x .right;
-          is = x .is;
-          inside = in-row row (encode (equal (x .left) (x .right))) y at v (some-words (equal (x .left) (x .right)));
-          right-is = right-at row at (x .left) (x .right) y (x .ok-left) (x .ok-right) v;
-          next-is = next-from row at (x .left) (x .right) y (x .ok-left) (x .ok-right) v;
-          beside = sides-beside row at (x .left) (x .right) y (x .ok-left) (x .ok-right) v;
-          parts-from = parts-are row at (x .left) (x .right) y (x .ok-left) (x .ok-right) v;
-        }
