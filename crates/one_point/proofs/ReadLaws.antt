@@ -11,18 +11,16 @@ use Rattle.tree.specs.Form.{Form, node, none, more, encode}
 use Rattle.tree.specs.Tag.{Sort, expr, pred, own, ownOf, shapeOf, predTags, sorts}
 use Rattle.form.specs.Decode.{read, Got, got, no-form, Gots, gots, no-forms, isLeaf, close, decode, decodeAll}
 use Rattle.tree.specs.declared.tag.Shape.the-variants.{Plain, Preds}
-use Rattle.form.proofs.DecodeLaws.{clash, decode-at, decode-sound}
+use Rattle.form.proofs.DecodeLaws.{clash, decode-encode, decode-at, decode-sound}
 use Rattle.form.proofs.HeadLaws.{gone, here, between-in}
 use Rattle.reader.proofs.ReaderLaws.{no-word, node-here}
 use Rattle.rules.proofs.OkLaws.{ok-deep}
-use Rattle.rules.specs.Split.{parts, equal}
+use Rattle.rules.specs.Split.{equal}
 use Rattle.rules.specs.Scan.{Scan}
-use Rattle.places.specs.Internal.Positions.{Beside, partsAt}
-use Rattle.one_point.specs.Internal.Scans.{Became, Told, ScanTold, readKids, kidsAt, isRead, areKids}
+use Rattle.one_point.specs.Internal.Scans.{Became, Told, ScanTold, Sided, readKids, kidsAt, isRead, areKids}
 use Rattle.one_point.specs.declared.scan.Scanned.{Scanned}
-use Rattle.places.proofs.PartsLaws.{some-words, in-row}
-use Rattle.places.proofs.StepLaws.{equal-length}
-use Rattle.one_point.proofs.ScanLaws.{EndsAt, fits, sides-beside, parts-are}
+use Rattle.places.proofs.PartsLaws.{some-words}
+use Rattle.one_point.proofs.ScanLaws.{EndsAt, fits}
 
 -- what a scan tells, taken apart and put together
 pub record ScannedAt (z : Form → Scan) (row : List ℕ) (d at pos : ℕ) (out : List ℕ) (r : Scanned) (out′ : List ℕ) : Type 0 where
@@ -125,16 +123,6 @@ module _ (row : List ℕ) (at : ℕ) (low : at < length row) where
         second-no b = plain-read d deep ∙ rw (q, a, b)
 
 -- an equality, from its sides
-pub record EqualRead (row : List ℕ) (d at right next : ℕ) : Type 0 where
-  pub left : Form
-  pub other : Form
-  pub after : List ℕ
-  pub is : decode d pred (drop at row) ≡ got (equal left other) after
-  pub next-is : next ≡ at + length (encode (equal left other))
-  pub inside : at + length (encode (equal left other)) ≤ length row
-  pub beside : (pos room : ℕ) → pos + 2 * (length row - at) ≤ room → length row ≤ 8192 → Beside row (at + 1) right 1 (pos + 2) 0 room
-  pub parts-from : partsAt row (at + 1) right 1 ≡ parts left other
-
 module _ (row : List ℕ) (d at : ℕ) (low : at < length row) (deep : 0 < d) (tag : getD row at 0 ≡ 101) where
   pub equal-no : decode (d - 1) expr (drop (at + 1) row) ≡ no-form → decode d pred (drop at row) ≡ no-form
   equal-no h = first-no row at low 101 0 2 equal-tag tag d deep expr (expr ∷ []) refl h
@@ -143,27 +131,33 @@ module _ (row : List ℕ) (d at : ℕ) (low : at < length row) (deep : 0 < d) (t
     pub equal-no-right : decode (d - 1) expr (drop right row) ≡ no-form → decode d pred (drop at row) ≡ no-form
     equal-no-right h = second-no row at low 101 0 2 equal-tag tag d deep expr refl (a .form) _ (a .is) (rw (a .end) at h)
 
-    pub equal-read : d ≤ 64 → (next : ℕ) → EndsAt row (d - 1) expr right next → EqualRead row d at right next
-    equal-read most next b =
-        let x = drop (at + 1 + length (encode (a .form)) + length (encode (b .form))) row in
-        let e : decode d pred (drop at row) ≡ got (equal (a .form) (b .form)) x = two-got row at low 101 0 2 equal-tag tag d deep expr refl (a .form) _ (a .is) (b .form) x (rw (a .end) at (b .is)) in
-        let w = decode-sound d pred (drop at row) (equal (a .form) (b .form)) x e .0 in
-        let ok-l = ok-deep (decode-sound (d - 1) expr (drop (at + 1) row) (a .form) _ (a .is) .1) 64 (omega arith) in
-        let ok-r = ok-deep (decode-sound (d - 1) expr (drop right row) (b .form) _ (b .is) .1) 64 (omega arith) in
-        let s = equal-length (a .form) (b .form) in
-        let p = a .end in
-        let q = b .end in
-        let i = in-row row (encode (equal (a .form) (b .form))) x at w (some-words (equal (a .form) (b .form))) in
-        record {
-          left = a .form;
-          other = b .form;
-          after = x;
-          is = e;
-          next-is = omega arith;
-          inside = i;
-          beside = λ pos room h short. sides-beside row at (a .form) (b .form) x ok-l ok-r w right pos room (a .end) (omega arith) short;
-          parts-from = parts-are row at (a .form) (b .form) x ok-l ok-r w right (a .end);
-        }
+    module _ (next : ℕ) (b : EndsAt row (d - 1) expr right next) where
+      equal-is : decode d pred (drop at row) ≡ got (equal (a .form) (b .form)) (drop next row)
+      equal-is =
+          let e = a .end in
+          let n = b .end in
+          rw n (two-got row at low 101 0 2 equal-tag tag d deep expr refl (a .form) _ (a .is) (b .form) (drop (right + length (encode (b .form))) row) (rw (← e) (b .is)))
+
+      as-deep : d ≤ 64 → (s : ℕ) (f : Form) (x : List ℕ) → decode (d - 1) expr (drop s row) ≡ got f x → decode 64 expr (drop s row) ≡ got f x
+      as-deep most s f x e =
+          let (w, ok) = decode-sound (d - 1) expr (drop s row) f x e in
+          rw w (decode-encode (ok-deep ok 64 (omega arith)) x)
+
+      pub equal-read : d ≤ 64 → (x : Sided row at right next) × (decode d pred (drop at row) ≡ got (equal (x .left) (x .other)) (drop next row))
+      equal-read most =
+          let e = a .end in
+          let n = b .end in (
+            record {
+              left = a .form;
+              other = b .form;
+              words = decode-sound d pred (drop at row) (equal (a .form) (b .form)) (drop next row) equal-is .0;
+              is-left = rw e (as-deep most (at + 1) (a .form) _ (a .is));
+              is-other = rw n (as-deep most right (b .form) _ (b .is));
+              left-end = e;
+              other-end = n;
+            },
+            equal-is,
+          )
 
 -- an associative node, from the number of its children
 module _ (row : List ℕ) (at : ℕ) (low : at < length row) (t : ℕ) (leaf-not : isLeaf t ≡ false) (shape : shapeOf pred t ≡ Preds 2) (tag : getD row at 0 ≡ t) where

@@ -2,13 +2,12 @@
 use mathlib.Core.Path.{_≡_, refl, ap, _∙_}
 use mathlib.Core.Bool.{Bool, true, false}
 use mathlib.Core.Option.{some}
-use mathlib.Core.List.{List, [], _∷_, _++_, append-assoc, append-nil}
-use Prim.Native.Nat.{ℕ, suc, _+_, _-_, _*_, _≤_}
+use mathlib.Core.List.{List, [], _∷_, _++_, append-nil}
+use Prim.Native.Nat.{ℕ, suc, _+_, _-_, _*_, _≤_, _<_}
 use native.Mathlib.Omega.{arith}
 use borrow.Author.Tests.{eqb-true, eqb-false}
 use lib.Dec.{eqb}
 use lib.ListN.{length, take, drop}
-use lib.Seq.{drop-drop, drop-append-seam}
 use Rattle.tree.specs.Form.{Form, node, Forms, none, more, encode, encodeAll}
 use Rattle.tree.specs.Tag.{Sort, expr, pred, shapeOf, predTags}
 use Rattle.form.specs.Decode.{Got, got, no-form, gots, decode}
@@ -16,20 +15,21 @@ use Rattle.form.specs.declared.head.Step.{Step}
 use Rattle.form.specs.declared.head.Step.the-variants.{End, Bad}
 use Rattle.form.proofs.DecodeLaws.{clash, Ok, ok-node, OkAll, ok-none, ok-more, decodeAll-encode, decode-sound, decode-at}
 use Rattle.reader.specs.Internal.Reads.{decodeIn}
-use Rattle.rules.specs.Replacement.{nothing}
+use Rattle.rules.specs.Replacement.{nothing, accept}
 use Rattle.rules.specs.Split.{parts, equal}
 use Rattle.rules.specs.Scan.{scanned}
-use Rattle.places.specs.Internal.Positions.{endAt, readAll, Beside, partsAt}
+use Rattle.places.specs.Internal.Positions.{endAt, readAll, Beside, Within, bothPairs, partsAt}
 use Rattle.places.specs.Internal.Wrote.{Wrote}
 use Rattle.one_point.specs.Internal.Writes.{Neat, neat-not, neat-other}
-use Rattle.one_point.specs.Internal.Parts.{TookIs}
-use Rattle.one_point.specs.Internal.Scans.{Left, Became}
+use Rattle.one_point.specs.Internal.Parts.{acceptWords, TookIs}
+use Rattle.one_point.specs.Internal.Scans.{Left, Became, Sided}
 use Rattle.places.specs.declared.sides.Replacement.the-variants.{Not}
 use Rattle.places.proofs.ViewLaws.{plain-node}
 use Rattle.places.proofs.SidesLaws.{skip-is, part-words}
 use Rattle.places.proofs.WroteLaws.{wrote-end}
-use Rattle.places.proofs.PartsLaws.{some-words, in-row}
+use Rattle.places.proofs.PartsLaws.{tag-at, some-words, in-row, parts-single}
 use Rattle.places.proofs.StepLaws.{equal-length}
+use Rattle.one_point.proofs.AcceptLaws.{took}
 
 -- a well-formed predicate that is a not has one child
 pub one-more : {d : ℕ} {s : Sort} {ks : Forms} → OkAll d (s ∷ []) ks → (g : Form) × (ks ≡ more g none) × Ok d s g
@@ -94,43 +94,75 @@ module _ (row : List ℕ) (d : ℕ) (s : Sort) (at : ℕ) (deep : d ≤ 64) (r :
       go no-form e = refl
 
 -- the sides of an equality
-module _ (row : List ℕ) (at : ℕ) (l r : Form) (x : List ℕ) (ok-l : Ok 64 expr l) (ok-r : Ok 64 expr r) (words : drop at row ≡ encode (equal l r) ++ x) where
-  left-words : drop (at + 1) row ≡ encode l ++ (encode r ++ x)
-  unfolding encode
-  left-words = rw (← drop-drop 1 at row, words) (simp (append-nil, append-assoc))
+module _ (row : List ℕ) (at right next : ℕ) (x : Sided row at right next) where
+  left-sound : (drop (at + 1) row ≡ encode (x .left) ++ drop right row) × Ok 64 expr (x .left)
+  left-sound = decode-sound 64 expr (drop (at + 1) row) (x .left) (drop right row) (x .is-left)
 
-  right-words : drop (at + 1 + length (encode l)) row ≡ encode r ++ x
-  right-words = rw (← drop-drop (length (encode l)) (at + 1) row, left-words) (drop-append-seam (encode l) (encode r ++ x))
+  other-sound : (drop right row ≡ encode (x .other) ++ drop next row) × Ok 64 expr (x .other)
+  other-sound = decode-sound 64 expr (drop right row) (x .other) (drop next row) (x .is-other)
 
-  one-left : readAll 1 (drop (at + 1) row) ≡ gots (more l none) (encode r ++ x)
-  unfolding encode
-  one-left = rw (left-words, ← append-nil (encode l)) (decodeAll-encode (ok-more ok-l ok-none) (encode r ++ x))
+  pub sides-end : next ≡ at + length (encode (equal (x .left) (x .other)))
+  sides-end = let s = equal-length (x .left) (x .other) in let a = x .left-end in let b = x .other-end in omega arith
 
-  one-right : readAll 1 (drop (at + 1 + length (encode l)) row) ≡ gots (more r none) x
+  pub sides-in : (at < next) × (next ≤ length row)
+  sides-in =
+      let e = sides-end in
+      let s = some-words (equal (x .left) (x .other)) in
+      let i = in-row row (encode (equal (x .left) (x .other))) (drop next row) at (x .words) s in
+      (omega arith, omega arith)
+
+  pub sides-within : Within row (record { left = at + 1; middle = right; right = right; end = next })
+  sides-within =
+      let i = sides-in .1 in
+      let a = x .left-end in
+      let b = x .other-end in
+      record { left-up = omega arith; left-in = omega arith; right-up = omega arith; right-in = omega arith }
+
+  one-left : readAll 1 (drop (at + 1) row) ≡ gots (more (x .left) none) (drop right row)
   unfolding encode
-  one-right = rw (right-words, ← append-nil (encode r)) (decodeAll-encode (ok-more ok-r ok-none) x)
+  one-left = rw (left-sound .0, ← append-nil (encode (x .left))) (decodeAll-encode (ok-more (left-sound .1) ok-none) (drop right row))
+
+  one-right : readAll 1 (drop right row) ≡ gots (more (x .other) none) (drop next row)
+  unfolding encode
+  one-right = rw (other-sound .0, ← append-nil (encode (x .other))) (decodeAll-encode (ok-more (other-sound .1) ok-none) (drop next row))
 
   one-length : (f : Form) → length (encodeAll (more f none)) ≡ length (encode f)
   unfolding encode
   one-length f = rw append-nil refl
 
-  pub sides-beside : (m pos room : ℕ) → m ≡ at + 1 + length (encode l) → pos + 2 * length (encode (equal l r)) ≤ room → length row ≤ 8192 → Beside row (at + 1) m 1 (pos + 2) 0 room
-  sides-beside m pos room h k short =
-      let s = equal-length l r in
-      let a = one-length l in
-      let b = one-length r in
-      let i = in-row row (encode (equal l r)) x at words (some-words (equal l r)) in
+  pub sides-beside : (pos room : ℕ) → pos + 2 * (next - at) ≤ room → length row ≤ 8192 → Beside row (at + 1) right 1 (pos + 2) 0 room
+  sides-beside pos room k short =
+      let s = equal-length (x .left) (x .other) in
+      let e = sides-end in
+      let a = one-length (x .left) in
+      let b = one-length (x .other) in
+      let i = sides-in .1 in
       record {
-        lefts = more l none;
-        rights = more r none;
-        left-rest = encode r ++ x;
-        right-rest = x;
+        lefts = more (x .left) none;
+        rights = more (x .other) none;
+        left-rest = drop right row;
+        right-rest = drop next row;
         is-left = one-left;
-        is-right = rw h one-right;
+        is-right = one-right;
         room = omega arith;
         few = omega arith;
       }
 
-  pub parts-are : (m : ℕ) → m ≡ at + 1 + length (encode l) → partsAt row (at + 1) m 1 ≡ parts l r
+  pub parts-are : partsAt row (at + 1) right 1 ≡ parts (x .left) (x .other)
   unfolding partsAt parts
-  parts-are m h = rw (h, one-left, one-right) (append-nil (parts l r))
+  parts-are = rw (one-left, one-right) (append-nil (parts (x .left) (x .other)))
+
+  -- they are one part where they are not both pairs
+  pub one-part : bothPairs row (at + 1) right ≡ false → parts (x .left) (x .other) ≡ (x .left, x .other) ∷ []
+  unfolding bothPairs
+  one-part e =
+      let a = tag-at row (at + 1) (x .left) (drop right row) (left-sound .0) in
+      let b = tag-at row right (x .other) (drop next row) (other-sound .0) in
+      parts-single (x .left) (x .other) (rw (a, b) at e)
+
+  pub part-took : length row ≤ 8192 → (n : ℕ) → TookIs row (accept n (x .left) (x .other)) (acceptWords n (record { left = at + 1; middle = right; right = right; end = next }) row)
+  part-took short n =
+      let i = sides-in .1 in
+      let a = x .left-end in
+      let b = x .other-end in
+      took row n (record { left = at + 1; middle = right; right = right; end = next }) (x .left) (x .other) (left-sound .1) (other-sound .1) (omega arith) (omega arith) (x .left-end) (x .other-end) (left-sound .0) (other-sound .0)

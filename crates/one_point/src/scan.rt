@@ -2,6 +2,7 @@
 use crate::children::Stopped;
 use crate::children::one_more;
 use crate::children::skip_preds;
+use crate::parts::accept;
 use crate::parts::copy_parts;
 use crate::parts::is_taken;
 use crate::parts::search_parts;
@@ -9,20 +10,23 @@ use crate::writes::copy_part;
 use crate::writes::finish_junction;
 use crate::writes::finish_not;
 use form::head::Step;
+use places::positions::both_pairs;
 use places::positions::skip_expr;
 use places::positions::skip_pred;
 use places::sides::Replacement;
+use places::sides::Sides;
 use tree::tag::Tag;
 ghost use mathlib.Core.Path.{_≡_};
 ghost use mathlib.Core.Bool.{true, false};
 ghost use mathlib.Core.Option.{some};
-ghost use Prim.Native.Nat.{_≤_};
+ghost use Prim.Native.Nat.{_+_, _-_, _*_, _≤_};
 ghost use lib.ListN.{length, getD};
 ghost use Rattle.tree.specs.Form.{pick};
 ghost use Rattle.rules.specs.Replacement.{Taken, nothing};
 ghost use Rattle.rules.specs.Scan.{scanned, scan, roleOf, junction};
 ghost use Rattle.one_point.specs.Internal.Parts.{TookIs};
-ghost use Rattle.one_point.specs.Internal.Scans.{Room, Entered, ScanTold, nextScan, SearchedKids};
+ghost use Rattle.one_point.specs.Internal.Scans.{Room, Entered, ScanTold, Sided, SidesTold, nextScan, SearchedKids};
+ghost use Rattle.places.specs.Internal.Positions.{bothPairs};
 
 // Whether a predicate was read; where it ends in the row, the equality taken, whether the node is gone, and where what is left of it ends in
 // the output.
@@ -65,7 +69,72 @@ fn copy_pred(row: &[u32], at: usize, depth: u32, out: &mut [u32], pos: usize) ->
     }
 }
 
-// An equality: its parts, offered in order.
+// An equality that is one part: it is gone where it is taken, else copied.
+fn scan_part(
+    row: &[u32],
+    at: usize,
+    right: usize,
+    next: usize,
+    n: usize,
+    out: &mut [u32],
+    pos: usize,
+) -> Scanned
+    requires { ⌜ Sided (now row) at right next × (bothPairs (now row) (at + 1) right ≡ false) × (length (now row) ≤ 8192) × (n ≤ 32) × (pos + 2 * (next - at) ≤ length (now out)) ⌝ }
+    ensures { λ r. ⌜ SidesTold (now (row .entry)) at right next n pos (now (out .entry)) r (now (out .exit)) ⌝ }
+{
+    let sides = Sides {
+        left: at + 1,
+        middle: right,
+        right: right,
+        end: next,
+    };
+    let offered = accept(row, sides, n);
+    if is_taken(offered) {
+        return Scanned {
+            ok: true,
+            next: next,
+            found: offered,
+            gone: true,
+            end: pos,
+        };
+    }
+    let end = copy_part(row, at, next, out, pos);
+    Scanned {
+        ok: true,
+        next: next,
+        found: Replacement::Not,
+        gone: false,
+        end: end,
+    }
+}
+
+// An equality of two pairs: its parts, offered in order.
+fn scan_parts(
+    row: &[u32],
+    at: usize,
+    right: usize,
+    next: usize,
+    n: usize,
+    out: &mut [u32],
+    pos: usize,
+) -> Scanned
+    requires { ⌜ Sided (now row) at right next × (length (now row) ≤ 8192) × (n ≤ 32) × (pos + 2 * (next - at) ≤ length (now out)) ⌝ }
+    ensures { λ r. ⌜ SidesTold (now (row .entry)) at right next n pos (now (out .entry)) r (now (out .exit)) ⌝ }
+{
+    let s = search_parts(row, at + 1, right, n, out, pos + 2);
+    let c = copy_parts(row, s.left, s.right, s.todo, out, s.end, s.count);
+    let l = finish_junction(out, pos, c.end, Tag::AND, c.count);
+    let found = s.found;
+    Scanned {
+        ok: true,
+        next: next,
+        found: found,
+        gone: l.gone,
+        end: l.end,
+    }
+}
+
+// An equality, once both of its sides are read.
 fn scan_equality(
     row: &[u32],
     at: usize,
@@ -83,17 +152,10 @@ fn scan_equality(
     let Step::End(next) = skip_expr(row, right, depth - 1) else {
         return no_pred();
     };
-    let s = search_parts(row, at + 1, right, n, out, pos + 2);
-    let c = copy_parts(row, s.left, s.right, s.todo, out, s.end, s.count);
-    let l = finish_junction(out, pos, c.end, Tag::AND, c.count);
-    let found = s.found;
-    Scanned {
-        ok: true,
-        next: next,
-        found: found,
-        gone: l.gone,
-        end: l.end,
+    if both_pairs(row, at + 1, right) {
+        return scan_parts(row, at, right, next, n, out, pos);
     }
+    scan_part(row, at, right, next, n, out, pos)
 }
 
 fn start_of(gone: bool, pos: usize, end: usize) -> usize

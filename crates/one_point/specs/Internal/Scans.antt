@@ -2,13 +2,14 @@
 use mathlib.Core.Path.{_≡_}
 use mathlib.Core.Bool.{Bool, true, false}
 use mathlib.Core.Option.{Option, none as absent, some}
-use mathlib.Core.List.{List}
+use mathlib.Core.List.{List, _++_}
 use Prim.Native.Nat.{ℕ, _+_, _-_, _*_, _≤_, _<_}
 use lib.ListN.{length, drop, replicate}
 use Rattle.tree.specs.Form.{Form, Forms, none, pick, count, encode, encodeAll}
-use Rattle.tree.specs.Tag.{pred}
+use Rattle.tree.specs.Tag.{expr, pred}
 use Rattle.form.specs.Decode.{Got, got, no-form, Gots, gots, no-forms, decode, decodeAll}
-use Rattle.rules.specs.Scan.{Scan, scanned, Scans, scans, present, scanAll}
+use Rattle.rules.specs.Split.{equal}
+use Rattle.rules.specs.Scan.{Scan, scanned, Scans, scans, present, scan, scanAll}
 use Rattle.places.specs.Internal.Wrote.{Wrote}
 use Rattle.one_point.specs.Internal.Writes.{leftWords, isGone, Neat, Neats}
 use Rattle.rules.specs.Replacement.{Taken, taken, nothing}
@@ -51,6 +52,21 @@ pub record Room (row : List ℕ) (d at pos words : ℕ) : Type 0 where
 pub record Entered (row : List ℕ) (d at : ℕ) : Type 0 where
   pub inside : at < length row
   pub deeper : 0 < d
+
+-- the sides of an equality at `at`, which end at `right` and `next`
+pub record Sided (row : List ℕ) (at right next : ℕ) : Type 0 where
+  pub left : Form
+  pub other : Form
+  pub words : drop at row ≡ encode (equal left other) ++ drop next row
+  pub is-left : decode 64 expr (drop (at + 1) row) ≡ got left (drop right row)
+  pub is-other : decode 64 expr (drop right row) ≡ got other (drop next row)
+  pub left-end : right ≡ at + 1 + length (encode left)
+  pub other-end : next ≡ right + length (encode other)
+
+-- what the scan of an equality tells, by its sides
+pub record SidesTold (row : List ℕ) (at right next n pos : ℕ) (out : List ℕ) (r : Scanned) (out′ : List ℕ) : Type 0 where
+  pub ok : r .ok ≡ true
+  pub became : (x : Sided row at right next) → Became row at (equal (x .left) (x .other)) pos out (scan n true (equal (x .left) (x .other))) r out′
 
 -- what follows a child: copied where the child took an equality, else scanned
 unfoldable pub nextScan : Taken → Scan → Form → Scan

@@ -1,15 +1,13 @@
 -- `one_point::scan/scan_equality` meets its contract. Assumes nothing.
-use mathlib.Core.Path.{refl}
+use mathlib.Core.Path.{sym, _∙_}
 use mathlib.Core.Bool.{true}
 use Prim.Native.Nat.{_+_, _-_, _≤_}
 use native.Mathlib.Omega.{arith}
-use lib.ListN.{length}
 use Rattle.tree.specs.Tag.{expr}
 use Rattle.rules.specs.Split.{equal}
 use Rattle.rules.specs.Scan.{scan}
-use Rattle.one_point.proofs.ScanLaws.{ends-at, ends-not}
+use Rattle.one_point.proofs.ScanLaws.{ends-at, ends-not, sides-in}
 use Rattle.one_point.proofs.ReadLaws.{tell, tell-no, equal-no, equal-no-right, equal-read}
-use Rattle.one_point.proofs.EqualityLaws.{parts-written, parts-inside, equality-done}
 use borrow.Author.Needs.{needs}
 use Rattle.one_point.proofs.scan.scan_equality.Statement.{statement}
 use Rattle.one_point.proofs.scan.scan_equality.Tie as tie
@@ -53,26 +51,29 @@ no-pred-requires-2 c κs = search needs
 returns-2 : tie.Need-returns-2
 returns-2 c = let b3 = c .before .before .before in let b5 = b3 .before .before in let b7 = b5 .before .before in let b10 = b7 .before .before .before in let m : b10 .args .depth - 1 ≤ 64 = let g = b10 .pre .0 .deep in omega arith in tell-no (scan (b10 .args .n) true) (b10 .args .row .now) _ _ _ _ _ _ (equal-no-right (b10 .args .row .now) (b10 .args .depth) (b10 .args .at) (b10 .pre .2 .inside) (b10 .pre .2 .deeper) (b10 .pre .3) _ (ends-at (b10 .args .row .now) (b10 .args .depth - 1) expr (b10 .args .at + 1) m _ (b7 .skip-expr .ensures) _ (b5 .right .given .1)) (ends-not (b10 .args .row .now) (b10 .args .depth - 1) expr _ m _ (b3 .skip-expr2 .ensures) (c .before .enum-told2 .given .1))) (c .no-pred2 .ensures)
 
-add-search-parts : tie.Need-add-search-parts
-add-search-parts c = search needs
+add-both-pairs : tie.Need-add-both-pairs
+add-both-pairs c = search needs
 
-add-search-parts-2 : tie.Need-add-search-parts-2
-add-search-parts-2 c = search needs
+both-pairs-requires : tie.Need-both-pairs-requires
+both-pairs-requires c κs = search needs
 
-search-parts-requires : tie.Need-search-parts-requires
-search-parts-requires c κs = let b4 = c .before .before .before .before in let b6 = b4 .before .before in let b8 = b6 .before .before in let b11 = b8 .before .before .before in let m : b11 .args .depth - 1 ≤ 64 = let g = b11 .pre .0 .deep in omega arith in let x = equal-read (b11 .args .row .now) (b11 .args .depth) (b11 .args .at) (b11 .pre .2 .inside) (b11 .pre .2 .deeper) (b11 .pre .3) _ (ends-at (b11 .args .row .now) (b11 .args .depth - 1) expr (b11 .args .at + 1) m _ (b8 .skip-expr .ensures) _ (b6 .right .given .1)) (b11 .pre .0 .deep) _ (ends-at (b11 .args .row .now) (b11 .args .depth - 1) expr _ m _ (b4 .skip-expr2 .ensures) _ (c .before .before .next .given .1)) in (x .beside _ _ (b11 .pre .0 .room) (b11 .pre .0 .short), b11 .pre .0 .short, b11 .pre .1)
-
-copy-parts-requires : tie.Need-copy-parts-requires
-copy-parts-requires c κs = search needs
-
-finish-junction-requires : tie.Need-finish-junction-requires
-finish-junction-requires c κs = let b3 = c .before .before .before in let b7 = b3 .before .before .before .before in let b19 = b7 .before .before .before .before .before .before .before .before .before .before .before .before in let h = b19 .pre .0 .room in let h′ = b19 .pre .2 .inside in let low : b19 .args .pos + 2 ≤ length (b19 .args .out .now) = omega arith in let t = parts-written _ _ _ _ _ _ _ _ _ (b7 .search-parts .ensures .whole _ _ _ (b3 .copy-parts .ensures)) in (omega arith, parts-inside _ (b19 .args .out .now) _ _ _ _ _ _ _ low (b7 .search-parts .ensures .whole _ _ _ (b3 .copy-parts .ensures)))
+scan-parts-requires : tie.Need-scan-parts-requires
+scan-parts-requires c κs = let b4 = c .before .before .before .before in let b6 = b4 .before .before in let b8 = b6 .before .before in let b10 = b8 .before .before in let b13 = b10 .before .before .before in let m : b13 .args .depth - 1 ≤ 64 = let g = b13 .pre .0 .deep in omega arith in let l = ends-at (b13 .args .row .now) (b13 .args .depth - 1) expr (b13 .args .at + 1) m _ (b10 .skip-expr .ensures) _ (b8 .right .given .1) in let r = ends-at (b13 .args .row .now) (b13 .args .depth - 1) expr _ m _ (b6 .skip-expr2 .ensures) _ (b4 .next .given .1) in let q = equal-read (b13 .args .row .now) (b13 .args .depth) (b13 .args .at) (b13 .pre .2 .inside) (b13 .pre .2 .deeper) (b13 .pre .3) _ l _ r (b13 .pre .0 .deep) in let x = q .0 in let i = sides-in (b13 .args .row .now) (b13 .args .at) _ _ x in let u = i .0 in let v = i .1 in let h = b13 .pre .0 .room in (x, b13 .pre .0 .short, b13 .pre .1, omega arith)
 
 same-length : tie.Need-same-length
 same-length c = search needs
 
 returns-3 : tie.Need-returns-3
-returns-3 c = let b6 = c .before .before .before .before .before .before in let b10 = b6 .before .before .before .before in let b13 = b10 .before .before .before in let b15 = b13 .before .before in let b17 = b15 .before .before in let b19 = b17 .before .before in let b22 = b19 .before .before .before in let m : b22 .args .depth - 1 ≤ 64 = let g = b22 .pre .0 .deep in omega arith in let x = equal-read (b22 .args .row .now) (b22 .args .depth) (b22 .args .at) (b22 .pre .2 .inside) (b22 .pre .2 .deeper) (b22 .pre .3) _ (ends-at (b22 .args .row .now) (b22 .args .depth - 1) expr (b22 .args .at + 1) m _ (b19 .skip-expr .ensures) _ (b17 .right .given .1)) (b22 .pre .0 .deep) _ (ends-at (b22 .args .row .now) (b22 .args .depth - 1) expr _ m _ (b15 .skip-expr2 .ensures) _ (b13 .next .given .1)) in let h = b22 .pre .0 .room in let h′ = b22 .pre .2 .inside in let low : b22 .args .pos + 2 ≤ length (b22 .args .out .now) = omega arith in tell (scan (b22 .args .n) true) (b22 .args .row .now) _ _ _ _ _ _ (equal (x .left) (x .other)) _ (x .is) refl (equality-done (b22 .args .row .now) _ (b22 .args .n) _ _ _ _ _ _ _ _ _ _ (x .left) (x .other) _ refl (x .next-is) low _ (x .parts-from) (b10 .search-parts .ensures .whole _ _ _ (b6 .copy-parts .ensures)) (c .before .before .finish-junction .ensures))
+returns-3 c = let b7 = c .before .before .before .before .before .before .before in let b9 = b7 .before .before in let b11 = b9 .before .before in let b13 = b11 .before .before in let b16 = b13 .before .before .before in let m : b16 .args .depth - 1 ≤ 64 = let g = b16 .pre .0 .deep in omega arith in let l = ends-at (b16 .args .row .now) (b16 .args .depth - 1) expr (b16 .args .at + 1) m _ (b13 .skip-expr .ensures) _ (b11 .right .given .1) in let r = ends-at (b16 .args .row .now) (b16 .args .depth - 1) expr _ m _ (b9 .skip-expr2 .ensures) _ (b7 .next .given .1) in let q = equal-read (b16 .args .row .now) (b16 .args .depth) (b16 .args .at) (b16 .pre .2 .inside) (b16 .pre .2 .deeper) (b16 .pre .3) _ l _ r (b16 .pre .0 .deep) in let x = q .0 in tell (scan (b16 .args .n) true) (b16 .args .row .now) _ _ _ _ _ _ (equal (x .left) (x .other)) _ (q .1) (c .before .before .scan-parts .ensures .ok) (c .before .before .scan-parts .ensures .became x)
+
+scan-part-requires : tie.Need-scan-part-requires
+scan-part-requires c κs = let b4 = c .before .before .before .before in let b6 = b4 .before .before in let b8 = b6 .before .before in let b10 = b8 .before .before in let b13 = b10 .before .before .before in let m : b13 .args .depth - 1 ≤ 64 = let g = b13 .pre .0 .deep in omega arith in let l = ends-at (b13 .args .row .now) (b13 .args .depth - 1) expr (b13 .args .at + 1) m _ (b10 .skip-expr .ensures) _ (b8 .right .given .1) in let r = ends-at (b13 .args .row .now) (b13 .args .depth - 1) expr _ m _ (b6 .skip-expr2 .ensures) _ (b4 .next .given .1) in let q = equal-read (b13 .args .row .now) (b13 .args .depth) (b13 .args .at) (b13 .pre .2 .inside) (b13 .pre .2 .deeper) (b13 .pre .3) _ l _ r (b13 .pre .0 .deep) in let x = q .0 in let i = sides-in (b13 .args .row .now) (b13 .args .at) _ _ x in let u = i .0 in let v = i .1 in let h = b13 .pre .0 .room in (x, sym (c .before .before .both-pairs .ensures) ∙ c .before .if1 .left, b13 .pre .0 .short, b13 .pre .1, omega arith)
+
+same-length-2 : tie.Need-same-length-2
+same-length-2 c = search needs
+
+returns-4 : tie.Need-returns-4
+returns-4 c = let b7 = c .before .before .before .before .before .before .before in let b9 = b7 .before .before in let b11 = b9 .before .before in let b13 = b11 .before .before in let b16 = b13 .before .before .before in let m : b16 .args .depth - 1 ≤ 64 = let g = b16 .pre .0 .deep in omega arith in let l = ends-at (b16 .args .row .now) (b16 .args .depth - 1) expr (b16 .args .at + 1) m _ (b13 .skip-expr .ensures) _ (b11 .right .given .1) in let r = ends-at (b16 .args .row .now) (b16 .args .depth - 1) expr _ m _ (b9 .skip-expr2 .ensures) _ (b7 .next .given .1) in let q = equal-read (b16 .args .row .now) (b16 .args .depth) (b16 .args .at) (b16 .pre .2 .inside) (b16 .pre .2 .deeper) (b16 .pre .3) _ l _ r (b16 .pre .0 .deep) in let x = q .0 in tell (scan (b16 .args .n) true) (b16 .args .row .now) _ _ _ _ _ _ (equal (x .left) (x .other)) _ (q .1) (c .before .before .scan-part .ensures .ok) (c .before .before .scan-part .ensures .became x)
 
 pub scan-equality-spec : {M : Type 1} → statement M
 scan-equality-spec =
@@ -91,10 +92,11 @@ scan-equality-spec =
     enum-told-2
     no-pred-requires-2
     returns-2
-    add-search-parts
-    add-search-parts-2
-    search-parts-requires
-    copy-parts-requires
-    finish-junction-requires
+    add-both-pairs
+    both-pairs-requires
+    scan-parts-requires
     same-length
-    returns-3)
+    returns-3
+    scan-part-requires
+    same-length-2
+    returns-4)
