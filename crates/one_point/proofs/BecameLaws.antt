@@ -3,21 +3,23 @@ use mathlib.Core.Path.{_≡_, refl, ap, sym, _∙_}
 use mathlib.Core.Bool.{Bool, true, false, not}
 use mathlib.Core.Option.{Option, none as absent, some, Option·map}
 use mathlib.Core.List.{List, [], append-nil}
-use Prim.Native.Nat.{ℕ, suc, _+_, _≤_}
+use Prim.Native.Nat.{ℕ, suc, _+_, _-_, _≤_}
 use native.Mathlib.Omega.{arith}
-use lib.ListN.{length, take}
+use lib.ListN.{length, getD, take}
 use Rattle.tree.specs.Form.{Form, node, encode}
+use Rattle.tree.specs.Tag.{pred}
 use Rattle.form.proofs.DecodeLaws.{clash}
 use Rattle.rules.specs.Replacement.{Taken}
 use Rattle.rules.specs.Scan.{Scan, scanned, negate, scan}
 use Rattle.places.specs.Internal.Wrote.{Wrote}
 use Rattle.one_point.specs.Internal.Writes.{Neat, neat-not, neat-other}
-use Rattle.one_point.specs.Internal.Scans.{Left, Became}
+use Rattle.one_point.specs.Internal.Scans.{Left, Became, ScanTold, Entered}
 use Rattle.one_point.specs.declared.scan.Scanned.{Scanned}
 use Rattle.places.proofs.PartsLaws.{some-words}
 use Rattle.places.proofs.WroteLaws.{wrote-end, wrote-in, kept, wrote-self, based}
 use Rattle.one_point.proofs.WriteLaws.{negate-other}
 use Rattle.one_point.proofs.RebuildLaws.{notOf, not-words, scan-not}
+use Rattle.one_point.proofs.ReadLaws.{ScannedAt, told-no, tell, tell-no, not-tag, one-got, first-no}
 
 -- a negated predicate is neat, and has one word more at most
 pub neat-negate : {f : Form} → Neat f → Neat (negate f)
@@ -54,7 +56,7 @@ child-room {z = scanned x (some g)} {out} {out′} {r} pos low b q =
 module _ (row : List ℕ) (at n pos : ℕ) (b : Bool) (f g : Form) (is : f ≡ notOf g) (words : length (encode f) ≡ suc (length (encode g))) (out out₁ : List ℕ) (low : pos + 1 ≤ length out) (s : Scanned) where
   module _ (x : Taken) where
     gone-left : (h : Option Form) → scan n (not b) g ≡ scanned x h → s .gone ≡ true → Became row (at + 1) g (pos + 1) out (scanned x h) s out₁
-        → Became row at f pos out (scanned x (Option·map negate h)) (record { next = s .next; found = s .found; gone = true; end = pos }) out₁
+        → Became row at f pos out (scanned x (Option·map negate h)) (record { ok = true; next = s .next; found = s .found; gone = true; end = pos }) out₁
     unfolding Left Wrote
     gone-left (some h) e q c = let z = c .left .1 in absurd (clash cc)
     gone-left absent e q c =
@@ -67,7 +69,7 @@ module _ (row : List ℕ) (at n pos : ℕ) (b : Bool) (f g : Form) (is : f ≡ n
 
     not-left : (h : Option Form) → scan n (not b) g ≡ scanned x h → s .gone ≡ false → Became row (at + 1) g (pos + 1) out (scanned x h) s out₁ → (e : ℕ) (out₂ : List ℕ)
         → ((k : Form) → Neat k → Wrote (pos + 1) out₁ (encode k) (s .end) out₁ → Wrote pos out₁ (encode (negate k)) e out₂)
-        → Became row at f pos out (scanned x (Option·map negate h)) (record { next = s .next; found = s .found; gone = false; end = e }) out₂
+        → Became row at f pos out (scanned x (Option·map negate h)) (record { ok = true; next = s .next; found = s .found; gone = false; end = e }) out₂
     unfolding Left
     not-left absent q w c e out₂ t = let z = c .left .1 in absurd (clash cc)
     not-left (some h) q w c e out₂ t =
@@ -81,16 +83,28 @@ module _ (row : List ℕ) (at n pos : ℕ) (b : Bool) (f g : Form) (is : f ≡ n
         let k = negate-words m in
         record { next = omega arith; left = (c .left .0, refl, v, neat-negate m); short = omega arith }
 
-  module _ (c : Became row (at + 1) g (pos + 1) out (scan n (not b) g) s out₁) where
+-- a not, from what the scan of its child tells
+module _ (row : List ℕ) (d at n pos : ℕ) (b : Bool) (x : Entered row d at) (tag : getD row at 0 ≡ 8) (out out₁ : List ℕ) (s : Scanned) where
+  pub not-no : ScanTold (scan n (not b)) row (d - 1) (at + 1) (pos + 1) out s out₁ → s .ok ≡ false → ScanTold (scan n b) row d at pos out s out₁
+  not-no t e =
+      let h = told-no (scan n (not b)) row (d - 1) (at + 1) (pos + 1) out s out₁ t e in
+      tell-no (scan n b) row d at pos out s out₁ (first-no row at (x .inside) 8 1 0 not-tag tag d (x .deeper) pred [] refl h) e
+
+  module _ (low : pos + 1 ≤ length out) (a : ScannedAt (scan n (not b)) row (d - 1) (at + 1) (pos + 1) out s out₁) where
+    abbrev Made : Form
+    Made = notOf (a .form)
+
     -- the child is gone, and the not with it
-    pub not-gone : s .gone ≡ true → Became row at f pos out (scan n b f) (record { next = s .next; found = s .found; gone = true; end = pos }) out₁
+    pub not-gone : s .gone ≡ true → ScanTold (scan n b) row d at pos out (record { ok = true; next = s .next; found = s .found; gone = true; end = pos }) out₁
     not-gone q =
-        let y = child-of c in
-        rw (ap (scan n b) is ∙ scan-not n b g (y .took) (y .left) (y .is)) (gone-left (y .took) (y .left) (y .is) q (y .became))
+        let y = child-of (a .became) in
+        tell (scan n b) row d at pos out _ out₁ Made _ (one-got row at (x .inside) 8 1 0 not-tag tag d (x .deeper) pred refl (a .form) _ (a .is)) refl
+        (rw (scan-not n b (a .form) (y .took) (y .left) (y .is)) (gone-left row at n pos b Made (a .form) refl (not-words (a .form)) out out₁ low s (y .took) (y .left) (y .is) q (y .became)))
 
     -- what is left of the child is negated
     pub not-became : s .gone ≡ false → (e : ℕ) (out₂ : List ℕ) → ((k : Form) → Neat k → Wrote (pos + 1) out₁ (encode k) (s .end) out₁ → Wrote pos out₁ (encode (negate k)) e out₂)
-        → Became row at f pos out (scan n b f) (record { next = s .next; found = s .found; gone = false; end = e }) out₂
+        → ScanTold (scan n b) row d at pos out (record { ok = true; next = s .next; found = s .found; gone = false; end = e }) out₂
     not-became q e out₂ t =
-        let y = child-of c in
-        rw (ap (scan n b) is ∙ scan-not n b g (y .took) (y .left) (y .is)) (not-left (y .took) (y .left) (y .is) q (y .became) e out₂ t)
+        let y = child-of (a .became) in
+        tell (scan n b) row d at pos out _ out₂ Made _ (one-got row at (x .inside) 8 1 0 not-tag tag d (x .deeper) pred refl (a .form) _ (a .is)) refl
+        (rw (scan-not n b (a .form) (y .took) (y .left) (y .is)) (not-left row at n pos b Made (a .form) refl (not-words (a .form)) out out₁ low s (y .took) (y .left) (y .is) q (y .became) e out₂ t))

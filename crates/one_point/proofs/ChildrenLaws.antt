@@ -1,65 +1,103 @@
 -- Children one after another: the first of them, the rest, and those that are copied. Assumes nothing.
 use mathlib.Core.Path.{_≡_, refl, ap, sym, _∙_}
-use mathlib.Core.List.{List, _∷_, _++_, append-assoc}
-use Prim.Native.Nat.{ℕ, zero, suc, _+_, _-_, _*_, _≤_, _<_}
+use mathlib.Core.Bool.{true, false}
+use mathlib.Core.List.{List, _++_}
+use Prim.Native.Nat.{ℕ, zero, suc, _+_, _-_, _≤_, _<_}
 use native.Mathlib.Numerals.{sub-one}
 use native.Mathlib.Omega.{arith}
-use lib.ListN.{length, take, drop, replicate}
-use lib.Seq.{drop-drop, drop-append-seam}
+use lib.ListN.{length, take, drop, replicate, length-append, length-drop}
 use Rattle.tree.specs.Form.{Form, Forms, none, more, count, encode, encodeAll}
 use Rattle.tree.specs.Tag.{pred}
-use Rattle.form.specs.Decode.{got, gots, decode, decodeAll}
-use Rattle.form.proofs.DecodeLaws.{OkAll, ok-none, ok-more, decode-encode, decodeAll-encode, all-sound}
+use Rattle.form.specs.Decode.{got, no-form, Gots, gots, no-forms, addForm, decode, decodeAll}
+use Rattle.form.specs.declared.head.Step.{Step}
+use Rattle.form.specs.declared.head.Step.the-variants.{End, Bad}
+use Rattle.form.proofs.DecodeLaws.{clash, OkAll, ok-none, ok-more, all-sound}
 use Rattle.places.specs.Internal.Wrote.{Wrote}
 use Rattle.one_point.specs.Internal.Writes.{Neats, no-more, and-more}
-use Rattle.one_point.specs.Internal.Scans.{kidsAt, Kids, KidsCopied}
+use Rattle.one_point.specs.Internal.Scans.{readKids, formsOf, kidsAt, isRead, areKids, endOfAll, KidsCopied}
 use Rattle.places.proofs.SidesLaws.{part-words}
-use Rattle.one_point.proofs.ScanLaws.{pred-neat}
 use Rattle.places.proofs.PartsLaws.{first-length}
+use Rattle.one_point.proofs.ScanLaws.{pred-neat}
 
--- the first child
-pub record KidIs (row : List ℕ) (d q n w words : ℕ) : Type 0 where
-  pub form : Form
-  pub stands : decode d pred (drop q row) ≡ got form (drop (q + length (encode form)) row)
-  pub split : kidsAt row d q n ≡ more form (kidsAt row d (q + length (encode form)) (n - 1))
-  pub room : w + 2 * length (encode form) ≤ words
-  pub next : (w′ : ℕ) → w′ ≤ w + 2 * length (encode form) → Kids row d (q + length (encode form)) (n - 1) w′ words
+-- one form more in front
+read-more : (f : Form) (g : Gots) → isRead (addForm f g) ≡ isRead g
+read-more f (gots fs x) = refl
+read-more f no-forms = refl
 
-pub kid-length : {row : List ℕ} {d q n w words : ℕ} (x : KidIs row d q n w words) → length (encodeAll (kidsAt row d q n)) ≡ length (encode (x .form)) + length (encodeAll (kidsAt row d (q + length (encode (x .form))) (n - 1)))
-kid-length {row} {d} {q} {n} x = ap (λ z. length (encodeAll z)) (x .split) ∙ first-length (x .form) (kidsAt row d (q + length (encode (x .form))) (n - 1))
+forms-more : (f : Form) (g : Gots) → isRead g ≡ true → formsOf (addForm f g) ≡ more f (formsOf g)
+forms-more f (gots fs x) e = refl
+forms-more f no-forms e = absurd (clash cc)
+
+end-more : (f : Form) (at : ℕ) (g : Gots) → endOfAll at (addForm f g) ≡ endOfAll (at + length (encode f)) g
+unfolding endOfAll
+end-more f at (gots fs x) = ap End (let l = first-length f fs in omega arith)
+end-more f at no-forms = refl
 
 module _ (row : List ℕ) (d : ℕ) where
-  kid-in : (m q w words : ℕ) (x : List ℕ) {fs : Forms} → decodeAll (λ s l. decode d s l) (replicate (suc m) pred) (drop q row) ≡ gots fs x → OkAll d (pred ∷ replicate m pred) fs → drop q row ≡ encodeAll fs ++ x
-      → w + 2 * length (encodeAll fs) ≤ words → KidIs row d q (suc m) w words
-  unfolding encode kidsAt
-  kid-in m q w words x is (ok-more {f = f} {fs = rest} h k) e room =
-      let a : drop q row ≡ encode f ++ (encodeAll rest ++ x) = e ∙ append-assoc (encode f) (encodeAll rest) x in
-      let b : drop (q + length (encode f)) row ≡ encodeAll rest ++ x = rw (← drop-drop (length (encode f)) q row, a) (drop-append-seam (encode f) (encodeAll rest ++ x)) in
-      let c : decodeAll (λ s l. decode d s l) (replicate m pred) (drop (q + length (encode f)) row) ≡ gots rest x = rw b (decodeAll-encode k x) in
-      let l = first-length f rest in
-      record {
-        form = f;
-        stands = rw (b, a) (decode-encode h (encodeAll rest ++ x));
-        split = rw (is, sub-one, c);
-        room = omega arith;
-        next = λ w′ g. record { forms = rest; after = x; is = rw sub-one c; room = omega arith };
-      }
+  -- the first child, and the others
+  module _ (q : ℕ) (f : Form) (stands : decode d pred (drop q row) ≡ got f (drop (q + length (encode f)) row)) where
+    kids-more : (n : ℕ) → 0 < n → readKids row d q n ≡ addForm f (readKids row d (q + length (encode f)) (n - 1))
+    unfolding decodeAll
+    kids-more zero h = absurd (omega arith)
+    kids-more (suc n) h = rw (stands, sub-one)
 
-  pub kid-of : (n q w words : ℕ) (b : Kids row d q n w words) → 0 < n → KidIs row d q n w words
-  kid-of zero q w words b h = absurd (omega arith)
-  kid-of (suc m) q w words b h =
-      let (e, k) = all-sound d (pred ∷ replicate m pred) (drop q row) (b .forms) (b .after) (b .is) in
-      kid-in m q w words (b .after) (b .is) k e (b .room)
+    module _ (n : ℕ) (some : 0 < n) where
+      pub kids-same : areKids row d q n ≡ areKids row d (q + length (encode f)) (n - 1)
+      unfolding areKids
+      kids-same = ap isRead (kids-more n some) ∙ read-more f (readKids row d (q + length (encode f)) (n - 1))
+
+      pub kids-split : areKids row d (q + length (encode f)) (n - 1) ≡ true → kidsAt row d q n ≡ more f (kidsAt row d (q + length (encode f)) (n - 1))
+      unfolding areKids kidsAt
+      kids-split e = ap formsOf (kids-more n some) ∙ forms-more f (readKids row d (q + length (encode f)) (n - 1)) e
+
+      pub kids-length : areKids row d (q + length (encode f)) (n - 1) ≡ true → length (encodeAll (kidsAt row d q n)) ≡ length (encode f) + length (encodeAll (kidsAt row d (q + length (encode f)) (n - 1)))
+      kids-length e = ap (λ z. length (encodeAll z)) (kids-split e) ∙ first-length f (kidsAt row d (q + length (encode f)) (n - 1))
+
+      pub end-next : (p : ℕ) → p ≡ q + length (encode f) → endOfAll p (readKids row d p (n - 1)) ≡ endOfAll q (readKids row d q n)
+      end-next p e = rw e (sym (ap (endOfAll q) (kids-more n some) ∙ end-more f q (readKids row d (q + length (encode f)) (n - 1))))
+
+  -- a first child that is no predicate
+  module _ (q : ℕ) (lost : decode d pred (drop q row) ≡ no-form) where
+    kids-lost : (n : ℕ) → 0 < n → readKids row d q n ≡ no-forms
+    unfolding decodeAll
+    kids-lost zero h = absurd (omega arith)
+    kids-lost (suc n) h = rw lost
+
+    pub kids-no : (n : ℕ) → 0 < n → areKids row d q n ≡ false
+    unfolding areKids
+    kids-no n h = rw (kids-lost n h)
+
+    pub end-bad : (n : ℕ) → 0 < n → Bad ≡ endOfAll q (readKids row d q n)
+    unfolding endOfAll
+    end-bad n h = rw (kids-lost n h)
 
   pub kids-none : (q n : ℕ) → n ≤ 0 → kidsAt row d q n ≡ none
   unfolding kidsAt decodeAll
   kids-none q zero h = refl
   kids-none q (suc n) h = absurd (omega arith)
 
-  -- children copied
-  kids-are : (q n w words : ℕ) (b : Kids row d q n w words) → kidsAt row d q n ≡ b .forms
-  unfolding kidsAt
-  kids-are q n w words b = rw (b .is)
+  pub end-none : (q n : ℕ) → n ≤ 0 → End q ≡ endOfAll q (readKids row d q n)
+  unfolding endOfAll decodeAll encode
+  end-none q zero h = ap End (omega arith)
+  end-none q (suc n) h = absurd (omega arith)
+
+  -- where children end that are read
+  pub kids-bad : (q n : ℕ) (r : Step) → r ≡ endOfAll q (readKids row d q n) → r ≡ Bad → areKids row d q n ≡ false
+  unfolding endOfAll areKids
+  kids-bad q n r e k = go (readKids row d q n) e
+    where
+      go : (g : Gots) → r ≡ endOfAll q g → isRead g ≡ false
+      go (gots fs x) e = absurd (clash cc)
+      go no-forms e = refl
+
+  module _ (q n : ℕ) (r : Step) (to : ℕ) (e : r ≡ endOfAll q (readKids row d q n)) (k : r ≡ End to) where
+    pub kids-read : (areKids row d q n ≡ true) × (to ≡ q + length (encodeAll (kidsAt row d q n)))
+    unfolding endOfAll areKids kidsAt
+    kids-read = go (readKids row d q n) e
+      where
+        go : (g : Gots) → r ≡ endOfAll q g → (isRead g ≡ true) × (to ≡ q + length (encodeAll (formsOf g)))
+        go (gots fs x) e = (refl, cc)
+        go no-forms e = absurd (clash cc)
 
   counted : (n : ℕ) {fs : Forms} → OkAll d (replicate n pred) fs → count fs ≡ n
   counted zero ok-none = refl
@@ -69,16 +107,26 @@ module _ (row : List ℕ) (d : ℕ) where
   neats zero ok-none = no-more
   neats (suc n) (ok-more {f = f} h k) = and-more (pred-neat d f h) (neats n k)
 
-  pub kids-copied : (q n w words k to end : ℕ) (out out′ : List ℕ) (b : Kids row d q n w words) → to ≡ q + length (encodeAll (kidsAt row d q n)) → Wrote w out (take (to - q) (drop q row)) end out′
-      → KidsCopied (kidsAt row d q n) w out k end (k + n) out′
-  unfolding KidsCopied
-  kids-copied q n w words k to end out out′ b e t =
-      let (v, o) = all-sound d (replicate n pred) (drop q row) (b .forms) (b .after) (b .is) in
-      let f = kids-are q n w words b in
-      let l : to ≡ q + length (encodeAll (b .forms)) = rw f at e in
-      let c : take (to - q) (drop q row) ≡ encodeAll (b .forms) = part-words row (encodeAll (b .forms)) (b .after) q to v l in
-      rw f (rw c at t, ap (λ z. k + z) (sym (counted n o)), neats n o)
+  -- children copied
+  module _ (q n : ℕ) (are : areKids row d q n ≡ true) where
+    kids-words : (x : List ℕ) × (drop q row ≡ encodeAll (kidsAt row d q n) ++ x) × OkAll d (replicate n pred) (kidsAt row d q n)
+    unfolding areKids kidsAt
+    kids-words = go (readKids row d q n) refl are
+      where
+        go : (g : Gots) → readKids row d q n ≡ g → isRead g ≡ true → (x : List ℕ) × (drop q row ≡ encodeAll (formsOf g) ++ x) × OkAll d (replicate n pred) (formsOf g)
+        go (gots fs x) e h = let (v, o) = all-sound d (replicate n pred) (drop q row) fs x e in (x, v, o)
+        go no-forms e h = absurd (clash cc)
 
-pub words-zero : length (encodeAll none) ≡ 0
-unfolding encode
-words-zero = refl
+    pub kids-copied : (w k to end : ℕ) (out out′ : List ℕ) → to ≡ q + length (encodeAll (kidsAt row d q n)) → Wrote w out (take (to - q) (drop q row)) end out′ → KidsCopied (kidsAt row d q n) w out k end (k + n) out′
+    unfolding KidsCopied
+    kids-copied w k to end out out′ l t =
+        let (x, v, o) = kids-words in
+        let c : take (to - q) (drop q row) ≡ encodeAll (kidsAt row d q n) = part-words row (encodeAll (kidsAt row d q n)) x q to v l in
+        (rw c at t, ap (λ z. k + z) (sym (counted n o)), neats n o)
+
+    pub kids-inside : q ≤ length row → q + length (encodeAll (kidsAt row d q n)) ≤ length row
+    kids-inside h =
+        let (x, v, o) = kids-words in
+        let l = ap length v ∙ length-append (encodeAll (kidsAt row d q n)) x in
+        let m = length-drop q row in
+        omega arith

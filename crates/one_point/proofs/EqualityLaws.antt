@@ -1,21 +1,27 @@
 -- What is left of a scanned equality: its length, and that a not in it is neat. Assumes nothing.
-use mathlib.Core.Path.{_≡_, refl}
+use mathlib.Core.Path.{_≡_, refl, _∙_}
 use mathlib.Core.Bool.{Bool, true, false, _&&_}
 use mathlib.Core.Option.{Option}
 use mathlib.Core.List.{List, [], _∷_, _++_, append-nil}
-use Prim.Native.Nat.{ℕ, _+_, _*_, _≤_}
+use Prim.Native.Nat.{ℕ, _+_, _-_, _*_, _≤_}
 use native.Mathlib.Omega.{arith}
-use lib.ListN.{length, length-append}
+use lib.ListN.{length, take, drop, length-append}
 use Rattle.tree.specs.Form.{Form, leaf, node, Forms, none, more, pick, count, encode, encodeAll}
 use Rattle.rules.specs.Replacement.{Taken, taken, nothing, accept}
 use Rattle.rules.specs.Split.{isPair, parts, partsAll, equal}
 use Rattle.rules.specs.Scan.{Scans, scans, joined, present, copied, offerPart, offerParts, with, scan}
 use Rattle.places.specs.Internal.Wrote.{Wrote}
 use Rattle.one_point.specs.Internal.Writes.{leftWords, isGone, Neat, neat-other, Neats, no-more, and-more}
-use Rattle.one_point.specs.Internal.Parts.{PartsTold}
-use Rattle.one_point.specs.Internal.Scans.{NeatLeft, Left, Became}
+use Rattle.one_point.specs.Internal.Parts.{acceptWords, isTaken, TookIs, PartsTold}
+use Rattle.one_point.specs.Internal.Scans.{NeatLeft, Left, Became, Sided}
+use Rattle.form.proofs.DecodeLaws.{clash}
+use Rattle.places.specs.Internal.Positions.{bothPairs, partsAt}
 use Rattle.places.specs.declared.sides.Replacement.{Replacement}
-use Rattle.places.proofs.WroteLaws.{wrote-end, wrote-in, kept, wrote-self, based}
+use Rattle.places.specs.declared.sides.Replacement.the-variants.{Not}
+use Rattle.places.proofs.SidesLaws.{part-words}
+use Rattle.one_point.proofs.PartsStepLaws.{not-taken, took-not}
+use Rattle.one_point.proofs.ScanLaws.{sides-end, parts-are, one-part, part-took}
+use Rattle.places.proofs.WroteLaws.{nothing-written, wrote-end, wrote-in, kept, wrote-self, based}
 use Rattle.places.proofs.PartsLaws.{some-words}
 use Rattle.places.proofs.StepLaws.{equal-length}
 use Rattle.places.proofs.PartsOk.{kids-few}
@@ -131,7 +137,7 @@ joined-words t (more f (more g fs)) = omega arith
 -- the equality scanned
 left-by : (row : List ℕ) (pos e m : ℕ) (out out₂ out₃ : List ℕ) (found : Replacement) (gone : Bool) (next end : ℕ) → pos + 2 ≤ length out → (z : Scans) → Neats (present (leftOf z)) → PartsTold row (pos + 2) out 0 z found e m out₂
     → ((fs : Forms) → m ≡ count fs → Wrote (pos + 2) out₂ (encodeAll fs) e out₂ → (gone ≡ isGone (joined 351 fs)) × Wrote pos out₂ (leftWords (joined 351 fs)) end out₃)
-    → Left row pos out (with (λ gs. joined 351 (present gs)) z) (record { next = next; found = found; gone = gone; end = end }) out₃ × (end ≤ pos + 2 + words (present (leftOf z)))
+    → Left row pos out (with (λ gs. joined 351 (present gs)) z) (record { ok = true; next = next; found = found; gone = gone; end = end }) out₃ × (end ≤ pos + 2 + words (present (leftOf z)))
 unfolding PartsTold Left
 left-by row pos e m out out₂ out₃ found gone next end low (scans x gs) n t h =
     let u = h (present gs) (omega (arith, t .2)) (wrote-self (pos + 2) e out (encodeAll (present gs)) out₂ low (t .1)) in
@@ -147,17 +153,47 @@ scan-equal : (n : ℕ) (l r : Form) → scan n true (equal l r) ≡ with (λ gs.
 unfolding scan
 scan-equal n l r = refl
 
-pub equality-done : (row : List ℕ) (at n pos e m : ℕ) (out out₂ out₃ : List ℕ) (found : Replacement) (gone : Bool) (next end : ℕ) (l r : Form) (f : Form) → f ≡ equal l r → next ≡ at + length (encode (equal l r))
-    → pos + 2 ≤ length out → (ps : List (Form × Form)) → ps ≡ parts l r → PartsTold row (pos + 2) out 0 (offerParts n ps) found e m out₂
-    → ((fs : Forms) → m ≡ count fs → Wrote (pos + 2) out₂ (encodeAll fs) e out₂ → (gone ≡ isGone (joined 351 fs)) × Wrote pos out₂ (leftWords (joined 351 fs)) end out₃)
-    → Became row at f pos out (scan n true f) (record { next = next; found = found; gone = gone; end = end }) out₃
-equality-done row at n pos e m out out₂ out₃ found gone next end l r f is to low ps q t h =
-    let u = left-by row pos e m out out₂ out₃ found gone next end low (offerParts n (parts l r)) (offer-neat n (parts l r)) (rw q at t) h in
-    let a = offer-less n (parts l r) in
-    let b = parts-short l r in
-    let c = equal-length l r in
-    let s : end ≤ pos + 2 * length (encode (equal l r)) = omega (arith, u .1) in
-    rw is (record { next = to; left = rw (scan-equal n l r) (u .0); short = s })
+module _ (row : List ℕ) (at right next n pos : ℕ) (out : List ℕ) (x : Sided row at right next) where
+  abbrev Whole : Form
+  Whole = equal (x .left) (x .other)
+
+  -- the parts of two pairs
+  pub parts-done : (e m : ℕ) (out₂ out₃ : List ℕ) (found : Replacement) (gone : Bool) (end : ℕ) → pos + 2 ≤ length out → PartsTold row (pos + 2) out 0 (offerParts n (partsAt row (at + 1) right 1)) found e m out₂
+      → ((fs : Forms) → m ≡ count fs → Wrote (pos + 2) out₂ (encodeAll fs) e out₂ → (gone ≡ isGone (joined 351 fs)) × Wrote pos out₂ (leftWords (joined 351 fs)) end out₃)
+      → Became row at Whole pos out (scan n true Whole) (record { ok = true; next = next; found = found; gone = gone; end = end }) out₃
+  parts-done e m out₂ out₃ found gone end low t h =
+      let u = left-by row pos e m out out₂ out₃ found gone next end low (offerParts n (parts (x .left) (x .other))) (offer-neat n (parts (x .left) (x .other))) (rw (parts-are row at right next x) at t) h in
+      let a = offer-less n (parts (x .left) (x .other)) in
+      let b = parts-short (x .left) (x .other) in
+      let c = equal-length (x .left) (x .other) in
+      let s : end ≤ pos + 2 * length (encode Whole) = omega (arith, u .1) in
+      record { next = sides-end row at right next x; left = rw (scan-equal n (x .left) (x .other)) (u .0); short = s }
+
+  -- one part: it is taken, or passed
+  module _ (one : bothPairs row (at + 1) right ≡ false) (short : length row ≤ 8192) (r : Replacement) (is : r ≡ acceptWords n (record { left = at + 1; middle = right; right = right; end = next }) row) where
+    part-scan : (t : Taken) → accept n (x .left) (x .other) ≡ t → scan n true Whole ≡ with (λ gs. joined 351 (present gs)) (offerPart (x .left) (x .other) t [] (scans nothing []))
+    unfolding offerParts
+    part-scan t e = scan-equal n (x .left) (x .other) ∙ rw (one-part row at right next x one, e)
+
+    offered : TookIs row (accept n (x .left) (x .other)) r
+    offered = rw is (part-took row at right next x short n)
+
+    pub part-taken : isTaken r ≡ true → Became row at Whole pos out (scan n true Whole) (record { ok = true; next = next; found = r; gone = true; end = pos }) out
+    unfolding Left TookIs
+    part-taken k = go (accept n (x .left) (x .other)) refl offered
+      where
+        go : (t : Taken) → accept n (x .left) (x .other) ≡ t → TookIs row t r → Became row at Whole pos out (scan n true Whole) (record { ok = true; next = next; found = r; gone = true; end = pos }) out
+        go (taken i e) q h = rw (part-scan (taken i e) q) (record { next = sides-end row at right next x; left = (h, refl, nothing-written pos out, tt); short = omega arith })
+        go nothing q h = absurd (clash cc)
+
+    pub part-passed : isTaken r ≡ false → (end : ℕ) (out′ : List ℕ) → Wrote pos out (take (next - at) (drop at row)) end out′ → Became row at Whole pos out (scan n true Whole) (record { ok = true; next = next; found = Not; gone = false; end = end }) out′
+    unfolding Left TookIs
+    part-passed k end out′ w =
+        let a = sides-end row at right next x in
+        let v : Wrote pos out (encode Whole) end out′ = rw (part-words row (encode Whole) (drop next row) at next (x .words) a) at w in
+        let l = wrote-end pos end out (encode Whole) out′ v in
+        let z = took-not row (accept n (x .left) (x .other)) (rw (not-taken r k) at offered) in
+        rw (part-scan nothing z) (record { next = a; left = (refl, refl, v, equal-neat (x .left) (x .other)); short = omega arith })
 
 -- where parts that were written end
 module _ (row out out′ : List ℕ) (w k e m : ℕ) (found : Replacement) where

@@ -1,23 +1,26 @@
 -- What stands in the output row once both sides of an implication are scanned. Assumes nothing.
-use mathlib.Core.Path.{_≡_, refl, ap, _∙_}
-use mathlib.Core.Bool.{true, false}
+use mathlib.Core.Path.{_≡_, refl, _∙_}
+use mathlib.Core.Bool.{Bool, true, false}
 use mathlib.Core.Option.{Option, none as absent, some}
 use mathlib.Core.List.{List, [], _∷_, _++_, append-nil}
-use Prim.Native.Nat.{ℕ, suc, _+_, _≤_}
+use Prim.Native.Nat.{ℕ, suc, _+_, _-_, _≤_}
 use native.Mathlib.Omega.{arith}
-use lib.ListN.{length, take, set, length-set}
+use lib.ListN.{length, getD, take, set, length-set}
 use lib.Seq.{take-set-le}
-use Rattle.tree.specs.Form.{Form, encode}
+use Rattle.tree.specs.Form.{Form, pick, encode}
+use Rattle.tree.specs.Tag.{pred}
 use Rattle.form.proofs.DecodeLaws.{clash}
 use Rattle.rules.specs.Replacement.{Taken, taken, nothing}
-use Rattle.rules.specs.Scan.{scanned, negate, implies, scan}
+use Rattle.rules.specs.Scan.{Scan, scanned, negate, implies, scan}
 use Rattle.places.specs.Internal.Wrote.{Wrote}
 use Rattle.one_point.specs.Internal.Writes.{leftWords, Neat, neat-other}
-use Rattle.one_point.specs.Internal.Scans.{Left, Became, nextScan}
+use Rattle.one_point.specs.Internal.Parts.{TookIs}
+use Rattle.one_point.specs.Internal.Scans.{Left, Became, ScanTold, Entered, nextScan}
 use Rattle.one_point.specs.declared.scan.Scanned.{Scanned}
 use Rattle.places.proofs.WroteLaws.{wrote-end, wrote-on, wrote-word, kept, wrote-self, based}
-use Rattle.one_point.proofs.RebuildLaws.{impliesOf, scan-left, scan-both}
-use Rattle.one_point.proofs.BecameLaws.{neat-negate, negate-words, child-of, child-room}
+use Rattle.one_point.proofs.RebuildLaws.{impliesOf, implies-words, scan-left, scan-both}
+use Rattle.one_point.proofs.BecameLaws.{neat-negate, negate-words, Child, child-of, child-room}
+use Rattle.one_point.proofs.ReadLaws.{ScannedAt, told-ok, told-no, tell, tell-no, implies-tag, first-no, two-got, second-no}
 
 pub scan-implies : (n : ℕ) (l r : Form) (x y : Taken) (g h : Option Form) → scan n true l ≡ scanned x g → nextScan x (scan n false r) r ≡ scanned y h → scan n false (impliesOf l r) ≡ scanned y (implies g h)
 unfolding nextScan
@@ -72,7 +75,7 @@ module _ (row : List ℕ) (at pos : ℕ) (f l r : Form) (words : length (encode 
       left-only : (g h : Option Form) → t .gone ≡ true → Became row (at + 1) l (pos + 1) (set out pos 251) (scanned x g) s out₁
           → Became row (at + 1 + length (encode l)) r (s .end) out₁ (scanned y h) t out₂ → (e : ℕ) (out₃ : List ℕ)
           → ((k : Form) → Neat k → Wrote (pos + 1) out₂ (encode k) (s .end) out₂ → Wrote pos out₂ (encode (negate k)) e out₃)
-          → Now y (implies g h) (record { next = t .next; found = t .found; gone = false; end = e }) out₃
+          → Now y (implies g h) (record { ok = true; next = t .next; found = t .found; gone = false; end = e }) out₃
       unfolding Left
       left-only absent h p a b e out₃ fin = let z = a .left .1 in absurd (clash cc)
       left-only (some g) (some h) p a b e out₃ fin = let z = b .left .1 in absurd (clash cc)
@@ -90,28 +93,80 @@ module _ (row : List ℕ) (at pos : ℕ) (f l r : Form) (words : length (encode 
           let n″ = negate-words (a .left .3) in
           record { next = omega arith; left = (b .left .0, refl, o, neat-negate (a .left .3)); short = omega arith }
 
-module _ (row : List ℕ) (at n pos : ℕ) (f l r : Form) (is : f ≡ impliesOf l r) (words : length (encode f) ≡ suc (length (encode l) + length (encode r))) (out out₁ out₂ : List ℕ) (low : pos + 1 ≤ length out) (s t : Scanned)
-    (a : Became row (at + 1) l (pos + 1) (set out pos 251) (scan n true l) s out₁) where
-  module _ (start : ℕ) (b : (x : Taken) (g : Option Form) → scan n true l ≡ scanned x g → Became row (at + 1 + length (encode l)) r start out₁ (nextScan x (scan n false r) r) t out₂) where
-    pub right-alone : s .gone ≡ true → start ≡ pos → Became row at f pos out (scan n false f) t out₂
-    right-alone q h =
-        let c = child-of a in
-        let d = child-of (rw h at (b (c .took) (c .left) (c .is))) in
-        rw (ap (scan n false) is ∙ scan-implies n l r (c .took) (d .took) (c .left) (d .left) (c .is) (d .is))
-        (alone row at pos f l r words out out₁ out₂ low s t (c .took) (d .took) (c .left) (d .left) q (c .became) (d .became))
+took-from : (row : List ℕ) (at pos : ℕ) (f : Form) (out out′ : List ℕ) (s : Scanned) (x : Taken) (g : Option Form) → Became row at f pos out (scanned x g) s out′ → TookIs row x (s .found)
+unfolding Left
+took-from row at pos f out out′ s x g b = b .left .0
 
-    pub both-left : s .gone ≡ false → t .gone ≡ false → start ≡ s .end → Became row at f pos out (scan n false f) t out₂
-    both-left q p h =
-        let c = child-of a in
-        let d = child-of (rw h at (b (c .took) (c .left) (c .is))) in
-        rw (ap (scan n false) is ∙ scan-implies n l r (c .took) (d .took) (c .left) (d .left) (c .is) (d .is))
-        (both row at pos f l r words out out₁ out₂ low s t (c .took) (d .took) q (c .left) (d .left) p (c .became) (d .became))
+moved : (z : Form → Scan) (row : List ℕ) (d : ℕ) (out : List ℕ) (r : Scanned) (out′ : List ℕ) (at at′ pos pos′ : ℕ) → at ≡ at′ → pos ≡ pos′ → ScanTold z row d at pos out r out′ → ScanTold z row d at′ pos′ out r out′
+moved z row d out r out′ at at′ pos pos′ e h t = rw (← e, ← h) t
 
-    pub left-alone : s .gone ≡ false → t .gone ≡ true → start ≡ s .end → (e : ℕ) (out₃ : List ℕ)
-        → ((k : Form) → Neat k → Wrote (pos + 1) out₂ (encode k) (s .end) out₂ → Wrote pos out₂ (encode (negate k)) e out₃)
-        → Became row at f pos out (scan n false f) (record { next = t .next; found = t .found; gone = false; end = e }) out₃
-    left-alone q p h e out₃ fin =
-        let c = child-of a in
-        let d = child-of (rw h at (b (c .took) (c .left) (c .is))) in
-        rw (ap (scan n false) is ∙ scan-implies n l r (c .took) (d .took) (c .left) (d .left) (c .is) (d .is))
-        (left-only row at pos f l r words out out₁ out₂ low s t (c .took) (d .took) q (c .left) (d .left) p (c .became) (d .became) e out₃ fin)
+-- from what the scans of both sides tell
+module _ (row : List ℕ) (d at n pos : ℕ) (x : Entered row d at) (tag : getD row at 0 ≡ 251) (out out₁ : List ℕ) (s : Scanned) where
+  pub left-no : ScanTold (scan n true) row (d - 1) (at + 1) (pos + 1) (set out pos 251) s out₁ → s .ok ≡ false → ScanTold (scan n false) row d at pos out s out₁
+  left-no t e =
+      let h = told-no (scan n true) row (d - 1) (at + 1) (pos + 1) (set out pos 251) s out₁ t e in
+      tell-no (scan n false) row d at pos out s out₁ (first-no row at (x .inside) 251 2 0 implies-tag tag d (x .deeper) pred (pred ∷ []) refl h) e
+
+  module _ (a : ScannedAt (scan n true) row (d - 1) (at + 1) (pos + 1) (set out pos 251) s out₁) (start : ℕ) (out₂ : List ℕ) (t : Scanned)
+      (told : (y : Taken) → TookIs row y (s .found) → ScanTold (λ f. nextScan y (scan n false f) f) row (d - 1) (s .next) start out₁ t out₂) where
+    abbrev left : Child row (at + 1) (a .form) (pos + 1) (set out pos 251) (scan n true (a .form)) s out₁
+    left = child-of (a .became)
+
+    right-told : (from : ℕ) → start ≡ from → ScanTold (λ f. nextScan (left .took) (scan n false f) f) row (d - 1) (at + 1 + length (encode (a .form))) from out₁ t out₂
+    right-told from h =
+        moved (λ f. nextScan (left .took) (scan n false f) f) row (d - 1) out₁ t out₂ (s .next) (at + 1 + length (encode (a .form))) start from (a .became .next) h
+        (told (left .took) (took-from row (at + 1) (pos + 1) (a .form) (set out pos 251) out₁ s (left .took) (left .left) (left .became)))
+
+    pub right-no : t .ok ≡ false → ScanTold (scan n false) row d at pos out t out₂
+    right-no e =
+        let h = told-no _ row (d - 1) (at + 1 + length (encode (a .form))) start out₁ t out₂ (right-told start refl) e in
+        tell-no (scan n false) row d at pos out t out₂ (second-no row at (x .inside) 251 2 0 implies-tag tag d (x .deeper) pred refl (a .form) _ (a .is) h) e
+
+    module _ (low : pos + 1 ≤ length out) (ok : t .ok ≡ true) where
+      module _ (from : ℕ) (h : start ≡ from) where
+        right : ScannedAt (λ f. nextScan (left .took) (scan n false f) f) row (d - 1) (at + 1 + length (encode (a .form))) from out₁ t out₂
+        right = told-ok _ row (d - 1) (at + 1 + length (encode (a .form))) from out₁ t out₂ (right-told from h) ok
+
+        abbrev Made : Form
+        Made = impliesOf (a .form) (right .form)
+
+        after : Child row (at + 1 + length (encode (a .form))) (right .form) from out₁ (nextScan (left .took) (scan n false (right .form)) (right .form)) t out₂
+        after = child-of (right .became)
+
+        made-scan : scan n false Made ≡ scanned (after .took) (implies (left .left) (after .left))
+        made-scan = scan-implies n (a .form) (right .form) (left .took) (after .took) (left .left) (after .left) (left .is) (after .is)
+
+        tell-made : (r : Scanned) (out₃ : List ℕ) → r .ok ≡ true → Became row at Made pos out (scanned (after .took) (implies (left .left) (after .left))) r out₃ → ScanTold (scan n false) row d at pos out r out₃
+        tell-made r out₃ k b =
+            tell (scan n false) row d at pos out r out₃ Made _ (two-got row at (x .inside) 251 2 0 implies-tag tag d (x .deeper) pred refl (a .form) _ (a .is) (right .form) _ (right .is)) k (rw made-scan b)
+
+      pub right-alone : s .gone ≡ true → start ≡ pos → ScanTold (scan n false) row d at pos out t out₂
+      right-alone q h =
+          let y = after pos h in
+          let r = right pos h .form in
+          tell-made pos h t out₂ ok (alone row at pos (Made pos h) (a .form) r (implies-words (a .form) r) out out₁ out₂ low s t (left .took) (y .took) (left .left) (y .left) q (left .became) (y .became))
+
+      pub both-left : s .gone ≡ false → t .gone ≡ false → start ≡ s .end → ScanTold (scan n false) row d at pos out t out₂
+      both-left q p h =
+          let y = after (s .end) h in
+          let r = right (s .end) h .form in
+          tell-made (s .end) h t out₂ ok (both row at pos (Made (s .end) h) (a .form) r (implies-words (a .form) r) out out₁ out₂ low s t (left .took) (y .took) q (left .left) (y .left) p (left .became) (y .became))
+
+      pub left-alone : s .gone ≡ false → t .gone ≡ true → start ≡ s .end → (e : ℕ) (out₃ : List ℕ)
+          → ((k : Form) → Neat k → Wrote (pos + 1) out₂ (encode k) (s .end) out₂ → Wrote pos out₂ (encode (negate k)) e out₃)
+          → ScanTold (scan n false) row d at pos out (record { ok = true; next = t .next; found = t .found; gone = false; end = e }) out₃
+      left-alone q p h e out₃ fin =
+          let y = after (s .end) h in
+          let r = right (s .end) h .form in
+          tell-made (s .end) h _ out₃ refl (left-only row at pos (Made (s .end) h) (a .form) r (implies-words (a .form) r) out out₁ out₂ low s t (left .took) (y .took) q (left .left) (y .left) p (left .became) (y .became) e out₃ fin)
+
+-- where the right side is written
+pub start-low : (b : Bool) (r p e m : ℕ) → r ≡ pick b p e → p ≤ m → e ≤ m → r ≤ m
+start-low true r p e m q x y = rw q x
+start-low false r p e m q x y = rw q y
+
+pub start-pos : (b : Bool) (r p e : ℕ) → r ≡ pick b p e → b ≡ true → r ≡ p
+start-pos b r p e q h = rw h at q
+
+pub start-end : (b : Bool) (r p e : ℕ) → r ≡ pick b p e → b ≡ false → r ≡ e
+start-end b r p e q h = rw h at q

@@ -1,25 +1,28 @@
 -- Children searched in order, and what is left of an associative node. Assumes nothing.
-use mathlib.Core.Path.{_≡_, refl, ap}
+use mathlib.Core.Path.{_≡_, refl, ap, sym, _∙_}
 use mathlib.Core.Bool.{Bool, true, false}
 use mathlib.Core.Option.{Option, none as absent, some}
 use mathlib.Core.List.{List, [], _∷_}
-use Prim.Native.Nat.{ℕ, _+_, _-_, _≤_}
+use Prim.Native.Nat.{ℕ, _+_, _-_, _*_, _≤_, _<_}
 use native.Mathlib.Omega.{arith}
-use lib.ListN.{length}
+use lib.ListN.{length, drop}
 use Rattle.tree.specs.Form.{Form, Forms, none, more, count, encode, encodeAll}
+use Rattle.tree.specs.Tag.{pred}
+use Rattle.form.specs.Decode.{no-form, decode}
 use Rattle.form.proofs.DecodeLaws.{clash}
 use Rattle.rules.specs.Replacement.{Taken, taken, nothing}
 use Rattle.rules.specs.Scan.{scanned, Scans, scans, present, copies, before, follow, scan, scanAll}
 use Rattle.places.specs.Internal.Wrote.{Wrote}
 use Rattle.one_point.specs.Internal.Writes.{Neats, no-more, and-more}
 use Rattle.one_point.specs.Internal.Parts.{isTaken, TookIs}
-use Rattle.one_point.specs.Internal.Scans.{Left, Became, kidsAt, Kids, oneMore, KidsTold, KidsCopied}
+use Rattle.one_point.specs.Internal.Scans.{Left, Became, kidsAt, areKids, oneMore, KidsTold, KidsCopied, SearchedKids}
 use Rattle.places.specs.declared.sides.Replacement.{Replacement}
 use Rattle.places.specs.declared.sides.Replacement.the-variants.{Not}
 use Rattle.one_point.specs.declared.scan.Scanned.{Scanned}
 use Rattle.places.proofs.WroteLaws.{wrote-end, wrote-on}
 use Rattle.one_point.proofs.BecameLaws.{child-of}
-use Rattle.one_point.proofs.ChildrenLaws.{KidIs, kid-length}
+use Rattle.one_point.proofs.ChildrenLaws.{kids-same, kids-split, kids-length, kids-no}
+use Rattle.one_point.proofs.ReadLaws.{ScannedAt, none-past}
 
 present-copies : (fs : Forms) → present (copies fs) ≡ fs
 present-copies none = refl
@@ -58,46 +61,67 @@ module _ (row : List ℕ) (at w k : ℕ) (f : Form) (out out₁ : List ℕ) (s :
       let l′ = wrote-end (s .end) e out₁ (encodeAll fs) o (t .0) in
       (b .left .0, u .0, u .1, u .2, omega arith)
 
-module _ {row : List ℕ} {d q n w words : ℕ} (x : KidIs row d q n w words) (c k : ℕ) (b : Bool) (out out₁ : List ℕ) (s : Scanned) (became : Became row q (x .form) w out (scan c b (x .form)) s out₁) where
+module _ (row : List ℕ) (d q n : ℕ) (some-left : 0 < n) (w c k : ℕ) (b : Bool) (out out₁ : List ℕ) (s : Scanned) (x : ScannedAt (scan c b) row d q w out s out₁) where
   next-is : s .next ≡ q + length (encode (x .form))
-  next-is = became .next
+  next-is = x .became .next
 
-  abbrev Rest : Forms
-  Rest = kidsAt row d (q + length (encode (x .form))) (n - 1)
+  pub child-same : areKids row d q n ≡ areKids row d (s .next) (n - 1)
+  child-same = rw next-is (kids-same row d q (x .form) (x .is) n some-left)
 
-  pass-by : (y : Taken) (g : Option Form) → scan c b (x .form) ≡ scanned y g → Became row q (x .form) w out (scanned y g) s out₁ → isTaken (s .found) ≡ false → (r : Replacement) (e m : ℕ) (o : List ℕ)
-      → KidsTold row Rest (s .end) out₁ (oneMore k (s .gone)) (scanAll c b b Rest) r e m o → KidsTold row (kidsAt row d q n) w out k (follow (scanned y g) Rest (scanAll c b b Rest)) r e m o
-  unfolding Left TookIs
-  pass-by (taken i e′) g h a p r e m o t = let z = a .left .0 .2 in absurd (clash cc)
-  pass-by nothing g h a p r e m o t = passed row q w k (x .form) out out₁ s Rest (kidsAt row d q n) (kid-length x) g a (scanAll c b b Rest) r e m o t
+  module _ (are : areKids row d (s .next) (n - 1) ≡ true) where
+    abbrev Rest : Forms
+    Rest = kidsAt row d (q + length (encode (x .form))) (n - 1)
 
-  take-by : (y : Taken) (g : Option Form) → scan c b (x .form) ≡ scanned y g → Became row q (x .form) w out (scanned y g) s out₁ → isTaken (s .found) ≡ true → (e m : ℕ) (o : List ℕ)
-      → KidsCopied Rest (s .end) out₁ (oneMore k (s .gone)) e m o → KidsTold row (kidsAt row d q n) w out k (follow (scanned y g) Rest (scanAll c b b Rest)) (s .found) e m o
-  unfolding Left TookIs
-  take-by (taken i e′) g h a p e m o t = stopped row q w k (x .form) out out₁ s Rest (kidsAt row d q n) (kid-length x) i e′ g a e m o t
-  take-by nothing g h a p e m o t = let z = a .left .0 in absurd (clash cc)
+    rest-are : areKids row d (q + length (encode (x .form))) (n - 1) ≡ true
+    rest-are = rw next-is at are
 
-  all-is : (y : Taken) (g : Option Form) → scan c b (x .form) ≡ scanned y g → scanAll c b b (kidsAt row d q n) ≡ follow (scanned y g) Rest (scanAll c b b Rest)
-  unfolding scan
-  all-is y g e = rw (x .split, e)
+    long : length (encodeAll (kidsAt row d q n)) ≡ length (encode (x .form)) + length (encodeAll Rest)
+    long = kids-length row d q (x .form) (x .is) n some-left rest-are
 
-  pub child-passed : isTaken (s .found) ≡ false → (r : Replacement) (e m : ℕ) (o : List ℕ) → KidsTold row (kidsAt row d (s .next) (n - 1)) (s .end) out₁ (oneMore k (s .gone)) (scanAll c b b (kidsAt row d (s .next) (n - 1))) r e m o
-      → KidsTold row (kidsAt row d q n) w out k (scanAll c b b (kidsAt row d q n)) r e m o
-  child-passed p r e m o t =
-      let y = child-of became in
-      rw (all-is (y .took) (y .left) (y .is)) (pass-by (y .took) (y .left) (y .is) (y .became) p r e m o (rw next-is at t))
+    pass-by : (y : Taken) (g : Option Form) → Became row q (x .form) w out (scanned y g) s out₁ → isTaken (s .found) ≡ false → (r : Replacement) (e m : ℕ) (o : List ℕ)
+        → KidsTold row Rest (s .end) out₁ (oneMore k (s .gone)) (scanAll c b b Rest) r e m o → KidsTold row (kidsAt row d q n) w out k (follow (scanned y g) Rest (scanAll c b b Rest)) r e m o
+    unfolding Left TookIs
+    pass-by (taken i e′) g a p r e m o t = let z = a .left .0 .2 in absurd (clash cc)
+    pass-by nothing g a p r e m o t = passed row q w k (x .form) out out₁ s Rest (kidsAt row d q n) long g a (scanAll c b b Rest) r e m o t
 
-  pub child-taken : isTaken (s .found) ≡ true → (e m : ℕ) (o : List ℕ) → KidsCopied (kidsAt row d (s .next) (n - 1)) (s .end) out₁ (oneMore k (s .gone)) e m o
-      → KidsTold row (kidsAt row d q n) w out k (scanAll c b b (kidsAt row d q n)) (s .found) e m o
-  child-taken p e m o t =
-      let y = child-of became in
-      rw (all-is (y .took) (y .left) (y .is)) (take-by (y .took) (y .left) (y .is) (y .became) p e m o (rw next-is at t))
+    take-by : (y : Taken) (g : Option Form) → Became row q (x .form) w out (scanned y g) s out₁ → isTaken (s .found) ≡ true → (e m : ℕ) (o : List ℕ)
+        → KidsCopied Rest (s .end) out₁ (oneMore k (s .gone)) e m o → KidsTold row (kidsAt row d q n) w out k (follow (scanned y g) Rest (scanAll c b b Rest)) (s .found) e m o
+    unfolding Left TookIs
+    take-by (taken i e′) g a p e m o t = stopped row q w k (x .form) out out₁ s Rest (kidsAt row d q n) long i e′ g a e m o t
+    take-by nothing g a p e m o t = let z = a .left .0 in absurd (clash cc)
 
-  pub child-next : Kids row d (s .next) (n - 1) (s .end) words
-  child-next = let a = became .short in rw next-is (x .next (s .end) (omega arith))
+    all-is : (y : Taken) (g : Option Form) → scan c b (x .form) ≡ scanned y g → scanAll c b b (kidsAt row d q n) ≡ follow (scanned y g) Rest (scanAll c b b Rest)
+    unfolding scan
+    all-is y g e = rw (kids-split row d q (x .form) (x .is) n some-left rest-are, e)
 
-  pub child-ends : s .next + length (encodeAll (kidsAt row d (s .next) (n - 1))) ≡ q + length (encodeAll (kidsAt row d q n))
-  child-ends = let a = kid-length x in rw next-is (omega arith)
+    pub child-passed : isTaken (s .found) ≡ false → (r : Replacement) (e m : ℕ) (o : List ℕ) → KidsTold row (kidsAt row d (s .next) (n - 1)) (s .end) out₁ (oneMore k (s .gone)) (scanAll c b b (kidsAt row d (s .next) (n - 1))) r e m o
+        → KidsTold row (kidsAt row d q n) w out k (scanAll c b b (kidsAt row d q n)) r e m o
+    child-passed p r e m o t =
+        let y = child-of (x .became) in
+        rw (all-is (y .took) (y .left) (y .is)) (pass-by (y .took) (y .left) (y .became) p r e m o (rw next-is at t))
+
+    pub child-taken : isTaken (s .found) ≡ true → (e m : ℕ) (o : List ℕ) → KidsCopied (kidsAt row d (s .next) (n - 1)) (s .end) out₁ (oneMore k (s .gone)) e m o
+        → KidsTold row (kidsAt row d q n) w out k (scanAll c b b (kidsAt row d q n)) (s .found) e m o
+    child-taken p e m o t =
+        let y = child-of (x .became) in
+        rw (all-is (y .took) (y .left) (y .is)) (take-by (y .took) (y .left) (y .became) p e m o (rw next-is at t))
+
+    pub child-ends : s .next + length (encodeAll (kidsAt row d (s .next) (n - 1))) ≡ q + length (encodeAll (kidsAt row d q n))
+    child-ends = let a = long in rw next-is (omega arith)
+
+-- a child that is no predicate: the search goes to the end of the row
+pub search-lost : (row : List ℕ) (d n : ℕ) (b : Bool) (at c pos q left w k : ℕ) (out out′ : List ℕ) → 0 < left → decode d pred (drop q row) ≡ no-form → areKids row d at c ≡ areKids row d q left → k + left ≤ c → w + 2 * (length row - q) ≤ pos + 2 * (length row - at) → (found : Replacement)
+    → SearchedKids row d n b at c pos out (record { found = found; next = length row; left = left; end = w; count = k }) out′
+search-lost row d n b at c pos q left w k out out′ h lost same few room found =
+    let z = kids-no row d (length row) (none-past row d (length row) (omega arith)) left h in
+    record {
+      same = same ∙ (kids-no row d q lost left h ∙ sym z);
+      whole = λ a. absurd (clash cc);
+      ends = λ a. absurd (clash cc);
+      few = few;
+      inside = omega arith;
+      room = omega arith;
+    }
 
 pub search-over : (row : List ℕ) (c : ℕ) (b : Bool) (fs : Forms) (w k : ℕ) (out : List ℕ) (r : Replacement) → r ≡ Not → fs ≡ none → (e m : ℕ) (o : List ℕ) → KidsCopied fs w out k e m o → KidsTold row fs w out k (scanAll c b b fs) r e m o
 unfolding KidsTold KidsCopied TookIs scan encode

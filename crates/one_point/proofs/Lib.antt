@@ -2,6 +2,7 @@ pub mod WriteLaws
 pub mod AcceptLaws
 pub mod PartsStepLaws
 pub mod ScanLaws
+pub mod ReadLaws
 pub mod EqualityLaws
 pub mod RebuildLaws
 pub mod BecameLaws

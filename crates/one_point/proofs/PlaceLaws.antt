@@ -10,8 +10,11 @@ use lib.Dec.{ltb}
 use lib.ListN.{length, getD, take, drop, set, replicate, length-replicate, getD-replicate}
 use lib.Seq.{drop-length}
 use Rattle.tree.specs.Form.{Form, encode}
-use Rattle.tree.specs.Tag.{expr, pred}
-use Rattle.form.specs.Decode.{Got, got, decode}
+use Rattle.tree.specs.Tag.{expr, pred, own}
+use Rattle.form.specs.Decode.{read, Got, got, decode}
+use Rattle.form.specs.Internal.Heads.{headAt}
+use Rattle.form.specs.declared.head.Head.{Head}
+use Rattle.form.specs.declared.head.Head.the-variants.{Kids, None as NoHead}
 use Rattle.form.specs.Answer.{finish}
 use Rattle.reader.specs.Internal.Reads.{mark, Told, decodeIn}
 use Rattle.form.specs.declared.head.Step.{Step}
@@ -41,9 +44,14 @@ module _ (row : List ℕ) (n : ℕ) (is : n ≡ declaredIn row) where
   unfolding quantifierIn
   head-none z = rw (eq-eqb (declaredIn row) 0 (sym is ∙ z))
 
-  pub head-of : (n ≡ 0 → ⊥) → Of (getD row 0 0) n ≡ quantifierIn row
-  unfolding quantifierIn
-  head-of z = rw (is, ne-eqb (declaredIn row) 0 (λ e. z (is ∙ e)))
+  module _ (z : n ≡ 0 → ⊥) (h : Head) (e : h ≡ headAt 1 (read (own pred (getD row 0 0)) (drop 1 row))) where
+    pub head-bad : h ≡ NoHead → None ≡ quantifierIn row
+    unfolding quantifierIn
+    head-bad q = rw (ne-eqb (declaredIn row) 0 (λ y. z (is ∙ y)), ← e, q)
+
+    pub head-of : (p x y w : ℕ) → h ≡ Kids p x y w → Of (getD row 0 0) p ≡ quantifierIn row
+    unfolding quantifierIn
+    head-of p x y w q = rw (ne-eqb (declaredIn row) 0 (λ y. z (is ∙ y)), ← e, q)
 
   pub head-word : (n ≡ 0 → ⊥) → 0 < length row
   unfolding declaredIn

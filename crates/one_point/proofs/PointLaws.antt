@@ -1,36 +1,39 @@
 -- One point: the scan of the body, the place it fills, and the whole call. Assumes nothing.
 use mathlib.Core.Path.{_≡_, refl, ap, sym, _∙_}
-use mathlib.Core.Bool.{Bool, true, false}
+use mathlib.Core.Bool.{Bool, true, false, _||_}
 use mathlib.Core.Option.{Option, none as absent, some}
 use mathlib.Core.List.{List, [], _∷_, _++_, append-nil}
 use Prim.Native.Nat.{ℕ, _+_, _-_, _≤_, _<_}
 use native.Mathlib.Omega.{arith}
-use borrow.Author.Tests.{le-leb, lt-leb, eqb-true, eqb-false}
-use lib.Dec.{eqb}
-use lib.ListN.{length, getD, take, drop, length-take}
-use lib.Seq.{take-at, drop-at, drop-drop}
-use Rattle.tree.specs.Form.{Form, none as no-more, more, pick, encode}
-use Rattle.tree.specs.Tag.{Sort, expr, pred}
-use Rattle.form.specs.Decode.{got, decode}
-use Rattle.form.specs.Answer.{Outcome, refusal, told, checkOutcome}
+use borrow.Author.Tests.{le-leb, lt-leb, ltb-false, eqb-true, eqb-false}
+use lib.Dec.{ltb, eqb}
+use lib.ListN.{length, getD, take, drop, length-append, length-take, length-drop}
+use lib.Seq.{take-at, drop-drop}
+use Rattle.tree.specs.Form.{Form, node, none as no-more, more, pick, encode}
+use Rattle.tree.specs.Tag.{Sort, expr, pred, own}
+use Rattle.form.specs.Decode.{Head, head, bad, read, Got, got, no-form, close, decode, decodeAll, Whole, one, not-one, whole as whole-of, rowForm, asSort, formOf}
+use Rattle.form.specs.Answer.{Outcome, refusal, told, ofFound, checkOutcome}
+use Rattle.form.specs.Internal.Heads.{headAt}
 use Rattle.form.specs.declared.answer.Kind.the-variants.{Predicate}
 use Rattle.form.specs.declared.answer.Answer.{Answer}
 use Rattle.form.specs.declared.answer.Answer.the-variants.{No}
-use Rattle.form.proofs.DecodeLaws.{clash, Ok, decode-encode, decode-at}
+use Rattle.form.proofs.DecodeLaws.{clash, Ok, ok-node, ok-none, ok-more, read-exact, read-at, decode-encode}
+use Rattle.form.proofs.HeadLaws.{gone}
+use Rattle.reader.proofs.ReaderLaws.{node-here}
 use Rattle.shift.proofs.CheckedLaws.{is-missing, too-long, no-form-there, form-there}
-use Rattle.rules.specs.Fill.{quantified, quantifier}
-use Rattle.replace.specs.Internal.Pieces.{declaredIn}
+use Rattle.rules.specs.Fill.{quantified}
+use Rattle.replace.specs.Internal.Pieces.{declaredIn, areNames}
 use Rattle.replace.proofs.BuildLaws.{rest-part}
-use Rattle.replace.proofs.QuantLaws.{Quant, is-quant, not-quant, quant-count, quant-tag, quant-names, quant-long}
+use Rattle.replace.proofs.QuantLaws.{not-quant, tag-node, tag-heading}
 use Rattle.replace.proofs.PruneTree.{node-names}
 use Rattle.rules.specs.Replacement.{Taken, taken, nothing}
 use Rattle.rules.specs.Scan.{Scan, scanned, scan}
-use Rattle.rules.specs.Point.{polarity, restOf, reduce, reduceQuantified, onePoint, ofResult, pointOutcome}
+use Rattle.rules.specs.Point.{polarity, restOf, reduce, onePoint, ofResult, pointOutcome}
 use Rattle.places.specs.Internal.Wrote.{Wrote}
 use Rattle.one_point.specs.Internal.Writes.{leftWords, isGone}
 use Rattle.one_point.specs.Internal.Parts.{TookIs}
-use Rattle.one_point.specs.Internal.Scans.{Left, Became, Room, ScanTold}
-use Rattle.one_point.specs.Internal.Reduce.{quantifierIn, placedOutcome, Placing, emptyWord, bodyOutcome, Reducing}
+use Rattle.one_point.specs.Internal.Scans.{Left, Became, ScanTold}
+use Rattle.one_point.specs.Internal.Reduce.{isQuantifier, headed, quantifierIn, placedOutcome, Placing, emptyWord, reducedIn, bodyOutcome, Reducing}
 use Rattle.places.specs.declared.sides.Replacement.{Replacement}
 use Rattle.places.specs.declared.sides.Replacement.the-variants.{Is, Not}
 use Rattle.one_point.specs.declared.scan.Scanned.{Scanned}
@@ -39,6 +42,7 @@ use Rattle.one_point.specs.declared.one_point_inference.Quantifier.the-v
 use Rattle.places.proofs.SidesLaws.{part-words}
 use Rattle.places.proofs.PlacesLaws.{PredRow}
 use Rattle.places.proofs.PartsLaws.{some-words, in-row}
+use Rattle.one_point.proofs.ReadLaws.{ScannedAt, told-ok, told-no}
 use Rattle.one_point.proofs.ScanLimits.{OkScan, rest-ok, scan-ok}
 use Rattle.one_point.proofs.PlaceLaws.{whole-pred}
 
@@ -84,155 +88,241 @@ module _ (row : List ℕ) (pos : ℕ) (out : List ℕ) (s : Scanned) (out′ : L
   unfolding Left
   left-written x g l = (l .1, l .2)
 
-module _ (t : ℕ) (ns body : List ℕ) (wl : ℕ) (h : Reducing t ns body wl) where
-  body-is : (body ≡ encode (h .form)) × Ok 63 pred (h .form)
-  body-is = whole-pred body (h .form) (h .is)
-
-  body-long : length body ≡ length (encode (h .form))
-  body-long = ap length (body-is .0)
-
-  stands : decode 63 pred (drop 0 body) ≡ got (h .form) (drop (0 + length (encode (h .form))) body)
-  stands = h .is ∙ ap (λ (z : List ℕ). got (h .form) z) (decode-at 63 pred body 0 (h .form) [] (h .is))
-
-  pub scan-room : Room body 63 0 0 wl
-  scan-room = let s = h .short in let e = h .enough in let l = body-long in record { form = h .form; is = stands; room = omega arith; short = omega arith; deep = omega arith }
-
-  abbrev scanOf : Scan
-  scanOf = scan (length ns) (polarity t) (h .form)
-
-  outcome-is : (room : ℕ) (z : Scan) → scanOf ≡ z → bodyOutcome t ns body room ≡ ofResult room (reduce t ns z)
+module _ (t : ℕ) (ns body : List ℕ) (wl : ℕ) (h : Reducing t ns body wl) (work work′ : List ℕ) (s : Scanned) (scans : ScanTold (scan (length ns) (polarity t)) body 63 0 0 work s work′) where
+  -- the body is no predicate
+  pub body-lost : s .ok ≡ false → (room : ℕ) → bodyOutcome t ns body room ≡ refusal 2
   unfolding bodyOutcome
-  outcome-is room z e = rw (h .is, e)
+  body-lost e room = rw (told-no (scan (length ns) (polarity t)) body 63 0 0 work s work′ scans e)
 
-  module _ (work work′ : List ℕ) (s : Scanned) (scans : ScanTold (length ns) (polarity t) body 63 0 0 work s work′) where
-    became : Became body 0 (h .form) 0 work scanOf s work′
-    became = scans (h .form) stands
+  module _ (ok : s .ok ≡ true) where
+    pub read-body : ScannedAt (scan (length ns) (polarity t)) body 63 0 0 work s work′
+    read-body = told-ok (scan (length ns) (polarity t)) body 63 0 0 work s work′ scans ok
 
-    -- no equality is taken
-    pub none-taken : s .found ≡ Not → (room : ℕ) → bodyOutcome t ns body room ≡ refusal 9
-    none-taken e room = go scanOf refl (became .left)
+    abbrev pub form : Form
+    form = read-body .form
+
+    -- words follow the predicate
+    pub body-longer : (s .next ≡ length body → ⊥) → (room : ℕ) → bodyOutcome t ns body room ≡ refusal 2
+    unfolding bodyOutcome
+    body-longer n room = go (drop (0 + length (encode form)) body) (read-body .is)
       where
-        go : (z : Scan) → scanOf ≡ z → Left body 0 work z s work′ → bodyOutcome t ns body room ≡ refusal 9
-        go (scanned (taken i x) g) q l = absurd (found-none body 0 work s work′ i x g l e)
-        go (scanned nothing g) q l = outcome-is room (scanned nothing g) q
+        go : (x : List ℕ) → decode 63 pred body ≡ got form x → reducedIn t ns room (whole-of (decode 63 pred body)) ≡ refusal 2
+        go [] e =
+            let w = ap length (whole-pred body form e .0) in
+            let a = read-body .became .next in
+            absurd (n (omega arith))
+        go (w ∷ x) e = rw e
 
-    -- the equality that is taken, and where its replacement stands
-    pub record Took (i a b : ℕ) : Type 0 where
-      pub by : Form
-      pub left : Option Form
-      pub is : scanOf ≡ scanned (taken i by) left
-      pub long : b ≡ a + length (encode by)
-      pub there : drop a body ≡ encode by ++ drop b body
-      pub gone : s .gone ≡ isGone left
-      pub wrote : Wrote 0 work (leftWords left) (s .end) work′
+    module _ (all : s .next ≡ length body) where
+      is-body : decode 63 pred body ≡ got form []
+      is-body = let a = read-body .became .next in read-body .is ∙ ap (λ (z : List ℕ). got form z) (gone body (0 + length (encode form)) (omega arith))
 
-    pub took : (i a b : ℕ) → s .found ≡ Is i a b → Took i a b
-    took i a b e = go scanOf refl (became .left)
-      where
-        go : (z : Scan) → scanOf ≡ z → Left body 0 work z s work′ → Took i a b
-        go (scanned (taken j x) g) q l =
-            let (k, m, d) = found-taken body 0 work s work′ j x g l i a b e in
-            let w = left-written body 0 work s work′ (taken j x) g l in
-            record { by = x; left = g; is = q ∙ ap (λ n. scanned (taken n x) g) k; long = m; there = d; gone = w .0; wrote = w .1 }
-        go (scanned nothing g) q l = absurd (found-nothing body 0 work s work′ g l i a b e)
+      body-is : (body ≡ encode form) × Ok 63 pred form
+      body-is = whole-pred body form is-body
 
-    module _ (i a b : ℕ) (k : Took i a b) where
-      pub part-in : (a ≤ b) × (b ≤ length body)
-      part-in =
-          let w = in-row body (encode (k .by)) (drop b body) a (k .there) (some-words (k .by)) in
-          let l = k .long in
-          (omega arith, omega arith)
+      body-long : length body ≡ length (encode form)
+      body-long = ap length (body-is .0)
 
-      short-form : length (encode (h .form)) ≤ 8192
-      short-form = let s = h .short in let l = body-long in omega arith
+      abbrev scanOf : Scan
+      scanOf = scan (length ns) (polarity t) form
 
-      -- what is left of the body, in the work row
-      module _ (stop : ℕ) (work″ : List ℕ) (end-is : stop ≡ pick (s .gone) 1 (s .end)) (words-are : take stop work″ ≡ pick (s .gone) (emptyWord t ∷ []) (take (s .end) work′)) where
-        left-over : take stop work″ ≡ encode (restOf (polarity t) (k .left))
-        unfolding Wrote
-        left-over = words-are ∙ go (k .left) (k .gone) (k .wrote)
-          where
-            go : (g : Option Form) → s .gone ≡ isGone g → Wrote 0 work (leftWords g) (s .end) work′ → pick (s .gone) (emptyWord t ∷ []) (take (s .end) work′) ≡ encode (restOf (polarity t) g)
-            go (some f) e w = rw e (w .1)
-            go absent e w = rw e (empty-words t)
+      outcome-is : (room : ℕ) (z : Scan) → scanOf ≡ z → bodyOutcome t ns body room ≡ ofResult room (reduce t ns z)
+      unfolding bodyOutcome
+      outcome-is room z e = rw (is-body, e)
 
-        pub stop-low : stop ≤ 16384
-        stop-low =
-            let c = became .short in
-            let m = short-form in
-            end-is-low (s .gone) end-is (omega arith)
-          where
-            end-is-low : (g : Bool) → stop ≡ pick g 1 (s .end) → s .end ≤ 16384 → stop ≤ 16384
-            end-is-low true e l = omega arith
-            end-is-low false e l = rw e l
+      became : Became body 0 form 0 work scanOf s work′
+      became = read-body .became
 
-        took-ok : OkScan (length ns) 63 (scanned (taken i (k .by)) (k .left))
-        took-ok = let m = short-form in rw (k .is) at (scan-ok (body-is .1) (omega arith) (length ns) (polarity t))
+      -- no equality is taken
+      pub none-taken : s .found ≡ Not → (room : ℕ) → bodyOutcome t ns body room ≡ refusal 9
+      none-taken e room = go scanOf refl (became .left)
+        where
+          go : (z : Scan) → scanOf ≡ z → Left body 0 work z s work′ → bodyOutcome t ns body room ≡ refusal 9
+          go (scanned (taken i x) g) q l = absurd (found-none body 0 work s work′ i x g l e)
+          go (scanned nothing g) q l = outcome-is room (scanned nothing g) q
 
-        part-is : decode 63 expr (take (b - a) (drop a body)) ≡ got (k .by) []
-        part-is = whole (take (b - a) (drop a body)) (k .by) (part-words body (encode (k .by)) (drop b body) a b (k .there) (k .long)) (took-ok .0 .0)
+      -- the equality that is taken, and where its replacement stands
+      pub record Took (i a b : ℕ) : Type 0 where
+        pub by : Form
+        pub left : Option Form
+        pub is : scanOf ≡ scanned (taken i by) left
+        pub long : b ≡ a + length (encode by)
+        pub there : drop a body ≡ encode by ++ drop b body
+        pub gone : s .gone ≡ isGone left
+        pub wrote : Wrote 0 work (leftWords left) (s .end) work′
 
-        rest-is : decode 63 pred (take stop work″) ≡ got (restOf (polarity t) (k .left)) []
-        rest-is = whole (take stop work″) (restOf (polarity t) (k .left)) left-over (rest-ok {d = 62} (polarity t) (k .left) (took-ok .1))
+      pub took : (i a b : ℕ) → s .found ≡ Is i a b → Took i a b
+      took i a b e = go scanOf refl (became .left)
+        where
+          go : (z : Scan) → scanOf ≡ z → Left body 0 work z s work′ → Took i a b
+          go (scanned (taken j x) g) q l =
+              let (k, m, d) = found-taken body 0 work s work′ j x g l i a b e in
+              let w = left-written body 0 work s work′ (taken j x) g l in
+              record { by = x; left = g; is = q ∙ ap (λ n. scanned (taken n x) g) k; long = m; there = d; gone = w .0; wrote = w .1 }
+          go (scanned nothing g) q l = absurd (found-nothing body 0 work s work′ g l i a b e)
 
-        pub placing : Placing t ns i (take (b - a) (drop a body)) (take stop work″)
-        placing =
-            let l = length-take (b - a) (drop a body) in
-            let m = length-take stop work″ in
-            let x = part-in .1 in
-            let y = h .short in
-            let z = stop-low in
-            record {
-              which = h .which;
-              target = took-ok .0 .1;
-              few = h .few;
-              names = h .names;
-              by = k .by;
-              is-part = part-is;
-              up = took-ok .0 .2;
-              short = omega arith;
-              form = restOf (polarity t) (k .left);
-              is-rest = rest-is;
-              long = omega arith;
-            }
+      module _ (i a b : ℕ) (k : Took i a b) where
+        pub part-in : (a ≤ b) × (b ≤ length body)
+        part-in =
+            let w = in-row body (encode (k .by)) (drop b body) a (k .there) (some-words (k .by)) in
+            let l = k .long in
+            (omega arith, omega arith)
 
-        pub placed-is : (room : ℕ) → placedOutcome t ns i (take (b - a) (drop a body)) (take stop work″) room ≡ bodyOutcome t ns body room
-        unfolding placedOutcome
-        placed-is room = rw (part-is, rest-is) (sym (outcome-is room (scanned (taken i (k .by)) (k .left)) (k .is)))
+        short-form : length (encode (form)) ≤ 8192
+        short-form = let s = h .short in let l = body-long in omega arith
 
--- the head of a row, taken apart
+        -- what is left of the body, in the work row
+        module _ (stop : ℕ) (work″ : List ℕ) (end-is : stop ≡ pick (s .gone) 1 (s .end)) (words-are : take stop work″ ≡ pick (s .gone) (emptyWord t ∷ []) (take (s .end) work′)) where
+          left-over : take stop work″ ≡ encode (restOf (polarity t) (k .left))
+          unfolding Wrote
+          left-over = words-are ∙ go (k .left) (k .gone) (k .wrote)
+            where
+              go : (g : Option Form) → s .gone ≡ isGone g → Wrote 0 work (leftWords g) (s .end) work′ → pick (s .gone) (emptyWord t ∷ []) (take (s .end) work′) ≡ encode (restOf (polarity t) g)
+              go (some f) e w = rw e (w .1)
+              go absent e w = rw e (empty-words t)
+
+          pub stop-low : stop ≤ 16384
+          stop-low =
+              let c = became .short in
+              let m = short-form in
+              end-is-low (s .gone) end-is (omega arith)
+            where
+              end-is-low : (g : Bool) → stop ≡ pick g 1 (s .end) → s .end ≤ 16384 → stop ≤ 16384
+              end-is-low true e l = omega arith
+              end-is-low false e l = rw e l
+
+          took-ok : OkScan (length ns) 63 (scanned (taken i (k .by)) (k .left))
+          took-ok = let m = short-form in rw (k .is) at (scan-ok (body-is .1) (omega arith) (length ns) (polarity t))
+
+          part-is : decode 63 expr (take (b - a) (drop a body)) ≡ got (k .by) []
+          part-is = whole (take (b - a) (drop a body)) (k .by) (part-words body (encode (k .by)) (drop b body) a b (k .there) (k .long)) (took-ok .0 .0)
+
+          rest-is : decode 63 pred (take stop work″) ≡ got (restOf (polarity t) (k .left)) []
+          rest-is = whole (take stop work″) (restOf (polarity t) (k .left)) left-over (rest-ok {d = 62} (polarity t) (k .left) (took-ok .1))
+
+          pub placing : Placing t ns i (take (b - a) (drop a body)) (take stop work″)
+          placing =
+              let l = length-take (b - a) (drop a body) in
+              let m = length-take stop work″ in
+              let x = part-in .1 in
+              let y = h .short in
+              let z = stop-low in
+              record {
+                which = h .which;
+                target = took-ok .0 .1;
+                few = h .few;
+                names = h .names;
+                by = k .by;
+                is-part = part-is;
+                up = took-ok .0 .2;
+                short = omega arith;
+                form = restOf (polarity t) (k .left);
+                is-rest = rest-is;
+                long = omega arith;
+              }
+
+          pub placed-is : (room : ℕ) → placedOutcome t ns i (take (b - a) (drop a body)) (take stop work″) room ≡ bodyOutcome t ns body room
+          unfolding placedOutcome
+          placed-is room = rw (part-is, rest-is) (sym (outcome-is room (scanned (taken i (k .by)) (k .left)) (k .is)))
+
+-- the head of a quantified predicate that a row begins with
+pub record HeadRead (row : List ℕ) (t p : ℕ) : Type 0 where
+  pub low : 0 < length row
+  pub tag : getD row 0 0 ≡ t
+  pub which : isQuantifier t ≡ true
+  pub names : List ℕ
+  pub is : read (own pred t) (drop 1 row) ≡ head (length names ∷ []) names 1 0 (drop p row)
+  pub start : p ≡ 2 + length names
+  pub are : take (p - 2) (drop 2 row) ≡ names
+  pub fits : p ≤ length row
+  pub few : length names ≤ 32
+  pub good : areNames names ≡ true
+
 module _ (row : List ℕ) where
-  no-head : quantifierIn row ≡ None → declaredIn row ≡ 0
-  unfolding quantifierIn
-  no-head e = go (eqb (declaredIn row) 0) refl e
+  declared-tag : (declaredIn row ≡ 0 → ⊥) → (0 < length row) × (isQuantifier (getD row 0 0) ≡ true)
+  unfolding declaredIn
+  declared-tag n = go (ltb (length row) 2) (eqb (getD row 0 0) 851) (eqb (getD row 0 0) 852) refl n
     where
-      go : (b : Bool) → eqb (declaredIn row) 0 ≡ b → pick b None (Of (getD row 0 0) (declaredIn row)) ≡ None → declaredIn row ≡ 0
-      go true q k = eqb-true (declaredIn row) 0 q
-      go false q k = absurd (clash cc)
+      go : (a b c : Bool) → ltb (length row) 2 ≡ a → (pick a 0 (pick b (getD row 1 0) (pick c (getD row 1 0) 0)) ≡ 0 → ⊥) → (0 < length row) × ((b || c) ≡ true)
+      go true b c e n = absurd (n refl)
+      go false true c e n = (omega (arith, ltb-false (length row) 2 e), refl)
+      go false false true e n = (omega (arith, ltb-false (length row) 2 e), refl)
+      go false false false e n = absurd (n refl)
 
-  a-head : (t n : ℕ) → quantifierIn row ≡ Of t n → (t ≡ getD row 0 0) × (n ≡ declaredIn row) × (0 < declaredIn row)
+  module _ (low : 0 < length row) (t : ℕ) (tag : getD row 0 0 ≡ t) (which : isQuantifier t ≡ true) (ds : List ℕ) where
+    good-names : ((x : List ℕ) → read (own pred t) ((length ds ∷ []) ++ (ds ++ x)) ≡ head (length ds ∷ []) ds 1 0 x) → areNames ds ≡ true
+    good-names h = node-names {d = 2} t ds (more (restOf true absent) no-more) which (ok-node {p = 1} {e = 0} (tag-node t which) h (ok-more (rest-ok {d = 0} true absent tt) ok-none))
+
+    made-head : (p : ℕ) → p ≡ 2 + length ds → length ds ≤ 32 → read (own pred t) (drop 1 row) ≡ head (length ds ∷ []) ds 1 0 (drop p row) → HeadRead row t p
+    made-head p e few q =
+        let (w, x) = read-exact (own pred t) (drop 1 row) (length ds ∷ []) ds 1 0 (drop p row) q in
+        let two : drop 2 row ≡ ds ++ drop p row = sym (drop-drop 1 1 row) ∙ ap (drop 1) w in
+        let m : p - 2 ≡ length ds = omega arith in
+        let l = ap length w in
+        let l′ = length-append ds (drop p row) in
+        let l″ = length-drop 1 row in
+        record { low = low; tag = tag; which = which; names = ds; is = q; start = e; are = rw (m, two) (take-at ds (drop p row) (length ds) refl); fits = omega arith; few = few; good = good-names x }
+
+  head-by : (z : Head) (t p : ℕ) → (0 < length row) × (isQuantifier (getD row 0 0) ≡ true) → read (own pred (getD row 0 0)) (drop 1 row) ≡ z → headed (getD row 0 0) (headAt 1 z) ≡ Of t p → HeadRead row t p
+  unfolding headAt
+  head-by bad t p h q e = absurd (clash cc)
+  head-by (head o ds x y r) t p h q e =
+      let g = tag-heading (getD row 0 0) (drop 1 row) o ds x y r (h .1) q in
+      let a : getD row 0 0 ≡ t = cc in
+      let b : p ≡ 1 + (length o + length ds) = cc in
+      let l : length o ≡ 1 = ap length (g .words) in
+      let k : r ≡ drop p row = read-at (own pred (getD row 0 0)) row 1 o ds x y r q ∙ ap (λ (n : ℕ). drop n row) (sym b) in
+      made-head (h .0) t a (rw a at (h .1)) ds p (omega arith) (g .most) (rw (a, g .words, g .preds, g .exprs, k) at q)
+
+  pub head-read : (q : Quantifier) → q ≡ quantifierIn row → (t p : ℕ) → q ≡ Of t p → HeadRead row t p
   unfolding quantifierIn
-  a-head t n e = go (eqb (declaredIn row) 0) refl e
+  head-read q e t p is = go (eqb (declaredIn row) 0) refl (sym e ∙ is)
     where
-      go : (b : Bool) → eqb (declaredIn row) 0 ≡ b → pick b None (Of (getD row 0 0) (declaredIn row)) ≡ Of t n → (t ≡ getD row 0 0) × (n ≡ declaredIn row) × (0 < declaredIn row)
-      go true q k = absurd (clash cc)
-      go false q k =
-          let x : t ≡ getD row 0 0 = cc in
-          let y : n ≡ declaredIn row = cc in
-          let z = eqb-false (declaredIn row) 0 q in
-          (x, y, omega (arith, z))
+      go : (b : Bool) → eqb (declaredIn row) 0 ≡ b → pick b None (headed (getD row 0 0) (headAt 1 (read (own pred (getD row 0 0)) (drop 1 row)))) ≡ Of t p → HeadRead row t p
+      go true k z = absurd (clash cc)
+      go false k z = head-by (read (own pred (getD row 0 0)) (drop 1 row)) t p (declared-tag (eqb-false (declaredIn row) 0 k)) refl z
+
+  -- a row with no such head is no quantified predicate
+  bad-head : 0 < length row → (z : Head) → read (own pred (getD row 0 0)) (drop 1 row) ≡ z → headed (getD row 0 0) (headAt 1 z) ≡ None → decode 64 pred row ≡ no-form
+  unfolding headAt
+  bad-head h bad q e = node-here 63 pred row 0 h ∙ rw q
+  bad-head h (head o ds x y r) q e = absurd (clash cc)
+
+  no-head : (f : Form) → decode 64 pred row ≡ got f [] → quantifierIn row ≡ None → declaredIn row ≡ 0
+  unfolding quantifierIn
+  no-head f r e = go (eqb (declaredIn row) 0) refl e
+    where
+      go : (b : Bool) → eqb (declaredIn row) 0 ≡ b → pick b None (headed (getD row 0 0) (headAt 1 (read (own pred (getD row 0 0)) (drop 1 row)))) ≡ None → declaredIn row ≡ 0
+      go true k z = eqb-true (declaredIn row) 0 k
+      go false k z =
+          let m = bad-head (declared-tag (eqb-false (declaredIn row) 0 k) .0) (read (own pred (getD row 0 0)) (drop 1 row)) refl z in
+          absurd (clash cc)
+
+-- a row with such a head is one predicate where its body is
+module _ (row : List ℕ) (t p : ℕ) (h : HeadRead row t p) where
+  abbrev around : Form → Form
+  around f = node t (length (h .names) ∷ []) (h .names) (more f no-more)
+
+  abbrev aroundWhole : Whole → Whole
+  aroundWhole (one f) = one (around f)
+  aroundWhole not-one = not-one
+
+  row-whole : whole-of (decode 64 pred row) ≡ aroundWhole (whole-of (decode 63 pred (drop p row)))
+  unfolding decodeAll
+  row-whole = ap whole-of (node-here 63 pred row 0 (h .low)) ∙ rw (h .tag, h .is) (go (decode 63 pred (drop p row)) refl)
+    where
+      go : (g : Got) → decode 63 pred (drop p row) ≡ g → whole-of (close t (length (h .names) ∷ []) (h .names) (decodeAll (λ s l. decode 63 s l) (pred ∷ []) (drop p row))) ≡ aroundWhole (whole-of (decode 63 pred (drop p row)))
+      go (got f []) e = rw (e, tag-node t (h .which))
+      go (got f (w ∷ x)) e = rw e
+      go no-form e = rw e
+
+  around-point : (f : Form) → onePoint (around f) ≡ reduce t (h .names) (scan (length (h .names)) (polarity t) f)
+  unfolding onePoint quantified
+  around-point f = rw (h .which)
 
 -- the whole call
 abbrev pointGo : ℕ → Sort → Form → Outcome
 pointGo room s f = ofResult room (onePoint f)
-
-body-outcome : (t : ℕ) (ns body : List ℕ) (f : Form) (room : ℕ) → decode 63 pred body ≡ got f [] → bodyOutcome t ns body room ≡ ofResult room (reduceQuantified (quantifier t ns f))
-unfolding bodyOutcome
-body-outcome t ns body f room e = rw e
-
-quant-point : (g : Form) (t : ℕ) (ns : List ℕ) (f : Form) (room : ℕ) → quantified g ≡ quantifier t ns f → ofResult room (onePoint g) ≡ ofResult room (reduceQuantified (quantifier t ns f))
-unfolding onePoint
-quant-point g t ns f room e = rw e
 
 module _ (row : List ℕ) (wl room : ℕ) where
   pub point-small : wl < 16384 → pointOutcome row wl room ≡ refusal 15
@@ -249,68 +339,23 @@ module _ (row : List ℕ) (wl room : ℕ) where
       unfolding pointOutcome
       point-missing a k e n = rw (le-leb 16384 wl enough) (no-form-there Predicate row (pointGo room) short (is-missing Predicate row a k short e n))
 
-      module _ (x : PredRow row) where
-        point-read : pointOutcome row wl room ≡ ofResult room (onePoint (x .form))
-        unfolding pointOutcome
-        point-read = rw (le-leb 16384 wl enough) (form-there Predicate row (pointGo room) pred (x .form) short (x .is-found))
+      pub point-other : PredRow row → (q : Quantifier) → q ≡ quantifierIn row → q ≡ None → pointOutcome row wl room ≡ refusal 9
+      unfolding pointOutcome onePoint
+      point-other x q e n =
+          let d : decode 64 pred row ≡ got (x .form) [] = rw (x .words, ← append-nil (encode (x .form))) (decode-encode (x .ok) []) in
+          let z = not-quant (x .ok) (ap declaredIn (sym (x .words)) ∙ no-head row (x .form) d (sym e ∙ n)) in
+          rw (le-leb 16384 wl enough) (form-there Predicate row (pointGo room) pred (x .form) short (x .is-found) ∙ rw z)
 
-        pub point-other : (q : Quantifier) → q ≡ quantifierIn row → q ≡ None → pointOutcome row wl room ≡ refusal 9
-        unfolding onePoint
-        point-other q e n = point-read ∙ rw (not-quant (x .ok) (ap declaredIn (sym (x .words)) ∙ no-head row (sym e ∙ n)))
+      module _ (t p : ℕ) (h : HeadRead row t p) where
+        pub reducing : Reducing t (take (p - 2) (drop 2 row)) (take (length row - p) (drop p row)) wl
+        reducing =
+            let l = length-take (length row - p) (drop p row) in
+            record { which = h .which; few = rw (h .are) (h .few); names = rw (h .are) (h .good); short = omega arith; enough = enough }
 
-        module _ (q : Quantifier) (e : q ≡ quantifierIn row) (t n : ℕ) (is : q ≡ Of t n) where
-          headed : (t ≡ getD row 0 0) × (n ≡ declaredIn row) × (0 < declaredIn row)
-          headed = a-head row t n (sym e ∙ is)
-
-          quant : Quant (x .form)
-          quant = is-quant (x .ok) (rw (← x .words) (headed .2))
-
-          tag-is : t ≡ quant .tag
-          tag-is = headed .0 ∙ (ap (λ (l : List ℕ). getD l 0 0) (x .words) ∙ quant-tag (x .form) quant)
-
-          count-is : n ≡ length (quant .decls)
-          count-is = headed .1 ∙ (ap declaredIn (x .words) ∙ quant-count (x .form) quant)
-
-          pub point-fits : 2 + n ≤ length row
-          point-fits =
-              let c = count-is in
-              let l = quant-long (x .form) quant in
-              let w = ap length (x .words) in
-              omega arith
-
-          after-head : drop 2 row ≡ quant .decls ++ encode (quant .body)
-          after-head = ap (drop 2) (x .words) ∙ quant-names (x .form) quant
-
-          names-are : take (2 + n - 2) (drop 2 row) ≡ quant .decls
-          names-are = let m : 2 + n - 2 ≡ length (quant .decls) = let c = count-is in omega arith in rw (m, after-head) (take-at (quant .decls) (encode (quant .body)) (length (quant .decls)) refl)
-
-          body-is-row : take (length row - (2 + n)) (drop (2 + n) row) ≡ encode (quant .body)
-          body-is-row =
-              let d : drop (2 + n) row ≡ drop n (drop 2 row) = sym (drop-drop n 2 row) in
-              rest-part row (2 + n) ∙ (d ∙ rw after-head (drop-at (quant .decls) (encode (quant .body)) n (sym count-is)))
-
-          pub reducing : Reducing t (take (2 + n - 2) (drop 2 row)) (take (length row - (2 + n)) (drop (2 + n) row)) wl
-          reducing =
-              let m = quant .most in
-              let l = length-take (length row - (2 + n)) (drop (2 + n) row) in
-              record {
-                which = rw tag-is (quant .which);
-                few = rw names-are m;
-                names = rw names-are (node-names (quant .tag) (quant .decls) (more (quant .body) no-more) (quant .which) (rw (quant .form) at (x .ok)));
-                form = quant .body;
-                is = whole (take (length row - (2 + n)) (drop (2 + n) row)) (quant .body) body-is-row (quant .ok);
-                short = omega arith;
-                enough = enough;
-              }
-
-          pub point-body : bodyOutcome t (take (2 + n - 2) (drop 2 row)) (take (length row - (2 + n)) (drop (2 + n) row)) room ≡ pointOutcome row wl room
-          point-body =
-              let body = take (length row - (2 + n)) (drop (2 + n) row) in
-              ap (λ (u : ℕ). bodyOutcome u (take (2 + n - 2) (drop 2 row)) body room) tag-is
-              ∙ (
-              ap (λ (ds : List ℕ). bodyOutcome (quant .tag) ds body room) names-are
-              ∙ (
-              body-outcome (quant .tag) (quant .decls) body (quant .body) room (whole body (quant .body) body-is-row (quant .ok))
-              ∙ sym (point-read ∙ quant-point (x .form) (quant .tag) (quant .decls) (quant .body) room (quant .is))
-              )
-              )
+        pub point-body : bodyOutcome t (take (p - 2) (drop 2 row)) (take (length row - p) (drop p row)) room ≡ pointOutcome row wl room
+        unfolding bodyOutcome pointOutcome formOf rowForm
+        point-body = rw (h .are, rest-part row p, le-leb 16384 wl enough, le-leb (length row) 8192 short, row-whole row t p h) (go (whole-of (decode 63 pred (drop p row))))
+          where
+            go : (w : Whole) → reducedIn t (h .names) room w ≡ ofFound (pointGo room) (asSort pred (aroundWhole row t p h w))
+            go (one f) = ap (ofResult room) (sym (around-point row t p h f))
+            go not-one = refl

@@ -1,35 +1,35 @@
--- The scan at a predicate that is copied, and at an equality. Assumes nothing.
-use mathlib.Core.Path.{_≡_, refl, sym, _∙_}
+-- The scan at a predicate that is copied, and at the sides of an equality. Assumes nothing.
+use mathlib.Core.Path.{_≡_, refl, ap, _∙_}
 use mathlib.Core.Bool.{Bool, true, false}
 use mathlib.Core.Option.{some}
-use mathlib.Core.List.{List, [], _∷_, _++_, append-assoc, append-nil}
-use Prim.Native.Nat.{ℕ, suc, _+_, _-_, _*_, _≤_}
+use mathlib.Core.List.{List, [], _∷_, _++_, append-nil}
+use Prim.Native.Nat.{ℕ, suc, _+_, _-_, _*_, _≤_, _<_}
 use native.Mathlib.Omega.{arith}
 use borrow.Author.Tests.{eqb-true, eqb-false}
 use lib.Dec.{eqb}
-use lib.ListN.{length, getD, take, drop}
-use lib.Seq.{drop-drop, drop-append-seam}
+use lib.ListN.{length, take, drop}
 use Rattle.tree.specs.Form.{Form, node, Forms, none, more, encode, encodeAll}
 use Rattle.tree.specs.Tag.{Sort, expr, pred, shapeOf, predTags}
-use Rattle.form.specs.Decode.{got, gots, decode}
+use Rattle.form.specs.Decode.{Got, got, no-form, gots, decode}
 use Rattle.form.specs.declared.head.Step.{Step}
 use Rattle.form.specs.declared.head.Step.the-variants.{End, Bad}
-use Rattle.form.proofs.DecodeLaws.{clash, Ok, ok-node, OkAll, ok-none, ok-more, decode-encode, decodeAll-encode, decode-sound}
-use Rattle.rules.proofs.OkLaws.{ok-deep}
-use Rattle.rules.specs.Replacement.{nothing}
+use Rattle.form.proofs.DecodeLaws.{clash, Ok, ok-node, OkAll, ok-none, ok-more, decodeAll-encode, decode-sound, decode-at}
+use Rattle.reader.specs.Internal.Reads.{decodeIn}
+use Rattle.rules.specs.Replacement.{nothing, accept}
 use Rattle.rules.specs.Split.{parts, equal}
 use Rattle.rules.specs.Scan.{scanned}
-use Rattle.places.specs.Internal.Positions.{endAt, readAll, Beside, partsAt, partWords}
+use Rattle.places.specs.Internal.Positions.{endAt, readAll, Beside, Within, bothPairs, partsAt}
 use Rattle.places.specs.Internal.Wrote.{Wrote}
 use Rattle.one_point.specs.Internal.Writes.{Neat, neat-not, neat-other}
-use Rattle.one_point.specs.Internal.Parts.{TookIs}
-use Rattle.one_point.specs.Internal.Scans.{Left, Became}
+use Rattle.one_point.specs.Internal.Parts.{acceptWords, TookIs}
+use Rattle.one_point.specs.Internal.Scans.{Left, Became, Sided}
 use Rattle.places.specs.declared.sides.Replacement.the-variants.{Not}
-use Rattle.places.proofs.ViewLaws.{plain-node, Equal, equal-node}
-use Rattle.places.proofs.SidesLaws.{part-words}
+use Rattle.places.proofs.ViewLaws.{plain-node}
+use Rattle.places.proofs.SidesLaws.{skip-is, part-words}
 use Rattle.places.proofs.WroteLaws.{wrote-end}
-use Rattle.places.proofs.PartsLaws.{tagOf, tag-at, some-words, in-row}
+use Rattle.places.proofs.PartsLaws.{tag-at, some-words, in-row, parts-single}
 use Rattle.places.proofs.StepLaws.{equal-length}
+use Rattle.one_point.proofs.AcceptLaws.{took}
 
 -- a well-formed predicate that is a not has one child
 pub one-more : {d : ℕ} {s : Sort} {ks : Forms} → OkAll d (s ∷ []) ks → (g : Form) × (ks ≡ more g none) × Ok d s g
@@ -58,21 +58,11 @@ module _ (row : List ℕ) (d at : ℕ) (f : Form) (is : decode d pred (drop at r
   pub stands-ok : Ok d pred f
   stands-ok = decode-sound d pred (drop at row) f (drop (at + length (encode f)) row) is .1
 
-  pub ends : (r : Step) → r ≡ endAt at (decode d pred (drop at row)) → r ≡ End (at + length (encode f))
-  unfolding endAt
-  ends r e = e ∙ rw is refl
-
-  pub not-bad : (r : Step) → r ≡ endAt at (decode d pred (drop at row)) → r ≡ Bad → ⊥
-  not-bad r e b = let z = ends r e in clash cc
-
-  pub next-at : (r : Step) (n : ℕ) → r ≡ endAt at (decode d pred (drop at row)) → r ≡ End n → n ≡ at + length (encode f)
-  next-at r n e b = let z = ends r e in cc
-
   pub fits : at + length (encode f) ≤ length row
   fits = in-row row (encode f) (drop (at + length (encode f)) row) at stands-words (some-words f)
 
   pub copied-form : (n pos end : ℕ) (out out′ : List ℕ) → n ≡ at + length (encode f) → Wrote pos out (take (n - at) (drop at row)) end out′
-      → Became row at f pos out (scanned nothing (some f)) (record { next = n; found = Not; gone = false; end = end }) out′
+      → Became row at f pos out (scanned nothing (some f)) (record { ok = true; next = n; found = Not; gone = false; end = end }) out′
   unfolding Left TookIs
   copied-form n pos end out out′ e w =
       let a : take (n - at) (drop at row) ≡ encode f = part-words row (encode f) (drop (at + length (encode f)) row) at n stands-words e in
@@ -80,91 +70,99 @@ module _ (row : List ℕ) (d at : ℕ) (f : Form) (is : decode d pred (drop at r
       let l = wrote-end pos end out (encode f) out′ v in
       record { next = e; left = (refl, refl, v, pred-neat d f stands-ok); short = omega arith }
 
--- an equality
-equal-from : {d : ℕ} {f : Form} → Equal d f → d ≤ 64 → Equal 64 f
-equal-from x h = record { left = x .left; right = x .right; is = x .is; ok-left = ok-deep (x .ok-left) 64 h; ok-right = ok-deep (x .ok-right) 64 h }
+-- where a form ends that is read at a position, and that none is
+pub record EndsAt (row : List ℕ) (d : ℕ) (s : Sort) (at n : ℕ) : Type 0 where
+  pub form : Form
+  pub is : decode d s (drop at row) ≡ got form (drop (at + length (encode form)) row)
+  pub end : n ≡ at + length (encode form)
 
-pub equal-view : {d : ℕ} {f : Form} → Ok d pred f → d ≤ 64 → tagOf f ≡ 101 → Equal 64 f
-equal-view (ok-node {t = t} a b k) h e = rw e (equal-from (equal-node (rw e at (ok-node a b k))) (omega arith))
+module _ (row : List ℕ) (d : ℕ) (s : Sort) (at : ℕ) (deep : d ≤ 64) (r : Step) (e : r ≡ endAt at (decodeIn d 0 s (drop at row))) where
+  pub ends-at : (n : ℕ) → r ≡ End n → EndsAt row d s at n
+  unfolding endAt
+  ends-at n q = go (decode d s (drop at row)) refl (skip-is at d s (drop at row) r deep e)
+    where
+      go : (g : Got) → decode d s (drop at row) ≡ g → r ≡ endAt at g → EndsAt row d s at n
+      go (got f x) p e = record { form = f; is = p ∙ ap (λ (z : List ℕ). got f z) (decode-at d s row at f x p); end = cc }
+      go no-form p e = absurd (clash cc)
 
-module _ (row : List ℕ) (at : ℕ) (l r : Form) (x : List ℕ) (ok-l : Ok 64 expr l) (ok-r : Ok 64 expr r) (words : drop at row ≡ encode (equal l r) ++ x) where
-  left-words : drop (at + 1) row ≡ encode l ++ (encode r ++ x)
+  pub ends-not : r ≡ Bad → decode d s (drop at row) ≡ no-form
+  unfolding endAt
+  ends-not q = go (decode d s (drop at row)) (skip-is at d s (drop at row) r deep e)
+    where
+      go : (g : Got) → r ≡ endAt at g → g ≡ no-form
+      go (got f x) e = absurd (clash cc)
+      go no-form e = refl
+
+-- the sides of an equality
+module _ (row : List ℕ) (at right next : ℕ) (x : Sided row at right next) where
+  left-sound : (drop (at + 1) row ≡ encode (x .left) ++ drop right row) × Ok 64 expr (x .left)
+  left-sound = decode-sound 64 expr (drop (at + 1) row) (x .left) (drop right row) (x .is-left)
+
+  other-sound : (drop right row ≡ encode (x .other) ++ drop next row) × Ok 64 expr (x .other)
+  other-sound = decode-sound 64 expr (drop right row) (x .other) (drop next row) (x .is-other)
+
+  pub sides-end : next ≡ at + length (encode (equal (x .left) (x .other)))
+  sides-end = let s = equal-length (x .left) (x .other) in let a = x .left-end in let b = x .other-end in omega arith
+
+  pub sides-in : (at < next) × (next ≤ length row)
+  sides-in =
+      let e = sides-end in
+      let s = some-words (equal (x .left) (x .other)) in
+      let i = in-row row (encode (equal (x .left) (x .other))) (drop next row) at (x .words) s in
+      (omega arith, omega arith)
+
+  pub sides-within : Within row (record { left = at + 1; middle = right; right = right; end = next })
+  sides-within =
+      let i = sides-in .1 in
+      let a = x .left-end in
+      let b = x .other-end in
+      record { left-up = omega arith; left-in = omega arith; right-up = omega arith; right-in = omega arith }
+
+  one-left : readAll 1 (drop (at + 1) row) ≡ gots (more (x .left) none) (drop right row)
   unfolding encode
-  left-words = rw (← drop-drop 1 at row, words) (simp (append-nil, append-assoc))
+  one-left = rw (left-sound .0, ← append-nil (encode (x .left))) (decodeAll-encode (ok-more (left-sound .1) ok-none) (drop right row))
 
-  right-words : drop (at + 1 + length (encode l)) row ≡ encode r ++ x
-  right-words = rw (← drop-drop (length (encode l)) (at + 1) row, left-words) (drop-append-seam (encode l) (encode r ++ x))
-
-  pub right-at : (m : ℕ) → m ≡ partWords row (at + 1) (at + 1) .middle → m ≡ at + 1 + length (encode l)
-  unfolding partWords endAt
-  right-at m e = e ∙ rw (left-words, decode-encode ok-l (encode r ++ x)) refl
-
-  pub next-from : (m n : ℕ) → m ≡ at + 1 + length (encode l) → n ≡ partWords row m m .middle → n ≡ at + length (encode (equal l r))
-  unfolding partWords endAt
-  next-from m n h e =
-      let s = equal-length l r in
-      let a : n ≡ at + 1 + length (encode l) + length (encode r) = e ∙ rw (h, right-words, decode-encode ok-r x) refl in
-      omega arith
-
-  one-left : readAll 1 (drop (at + 1) row) ≡ gots (more l none) (encode r ++ x)
+  one-right : readAll 1 (drop right row) ≡ gots (more (x .other) none) (drop next row)
   unfolding encode
-  one-left = rw (left-words, ← append-nil (encode l)) (decodeAll-encode (ok-more ok-l ok-none) (encode r ++ x))
-
-  one-right : readAll 1 (drop (at + 1 + length (encode l)) row) ≡ gots (more r none) x
-  unfolding encode
-  one-right = rw (right-words, ← append-nil (encode r)) (decodeAll-encode (ok-more ok-r ok-none) x)
+  one-right = rw (other-sound .0, ← append-nil (encode (x .other))) (decodeAll-encode (ok-more (other-sound .1) ok-none) (drop next row))
 
   one-length : (f : Form) → length (encodeAll (more f none)) ≡ length (encode f)
   unfolding encode
   one-length f = rw append-nil refl
 
-  pub sides-beside : (m pos room : ℕ) → m ≡ at + 1 + length (encode l) → pos + 2 * length (encode (equal l r)) ≤ room → length row ≤ 8192 → Beside row (at + 1) m 1 (pos + 2) 0 room
-  sides-beside m pos room h k short =
-      let s = equal-length l r in
-      let a = one-length l in
-      let b = one-length r in
-      let i = in-row row (encode (equal l r)) x at words (some-words (equal l r)) in
+  pub sides-beside : (pos room : ℕ) → pos + 2 * (next - at) ≤ room → length row ≤ 8192 → Beside row (at + 1) right 1 (pos + 2) 0 room
+  sides-beside pos room k short =
+      let s = equal-length (x .left) (x .other) in
+      let e = sides-end in
+      let a = one-length (x .left) in
+      let b = one-length (x .other) in
+      let i = sides-in .1 in
       record {
-        lefts = more l none;
-        rights = more r none;
-        left-rest = encode r ++ x;
-        right-rest = x;
+        lefts = more (x .left) none;
+        rights = more (x .other) none;
+        left-rest = drop right row;
+        right-rest = drop next row;
         is-left = one-left;
-        is-right = rw h one-right;
+        is-right = one-right;
         room = omega arith;
         few = omega arith;
       }
 
-  pub parts-are : (m : ℕ) → m ≡ at + 1 + length (encode l) → partsAt row (at + 1) m 1 ≡ parts l r
+  pub parts-are : partsAt row (at + 1) right 1 ≡ parts (x .left) (x .other)
   unfolding partsAt parts
-  parts-are m h = rw (h, one-left, one-right) (append-nil (parts l r))
+  parts-are = rw (one-left, one-right) (append-nil (parts (x .left) (x .other)))
 
--- an equality that stands at a position, with its sides
-pub record EqualAt (row : List ℕ) (at : ℕ) (f : Form) : Type 0 where
-  pub left : Form
-  pub right : Form
-  pub is : f ≡ equal left right
-  pub inside : at + length (encode (equal left right)) ≤ length row
-  pub right-is : (m : ℕ) → m ≡ partWords row (at + 1) (at + 1) .middle → m ≡ at + 1 + length (encode left)
-  pub next-is : (m n : ℕ) → m ≡ at + 1 + length (encode left) → n ≡ partWords row m m .middle → n ≡ at + length (encode (equal left right))
-  pub beside : (m pos room : ℕ) → m ≡ at + 1 + length (encode left) → pos + 2 * length (encode (equal left right)) ≤ room → length row ≤ 8192 → Beside row (at + 1) m 1 (pos + 2) 0 room
-  pub parts-from : (m : ℕ) → m ≡ at + 1 + length (encode left) → partsAt row (at + 1) m 1 ≡ parts left right
+  -- they are one part where they are not both pairs
+  pub one-part : bothPairs row (at + 1) right ≡ false → parts (x .left) (x .other) ≡ (x .left, x .other) ∷ []
+  unfolding bothPairs
+  one-part e =
+      let a = tag-at row (at + 1) (x .left) (drop right row) (left-sound .0) in
+      let b = tag-at row right (x .other) (drop next row) (other-sound .0) in
+      parts-single (x .left) (x .other) (rw (a, b) at e)
 
-pub equal-at : (row : List ℕ) (d at : ℕ) (f : Form) → decode d pred (drop at row) ≡ got f (drop (at + length (encode f)) row) → d ≤ 64 → getD row at 0 ≡ 101 → EqualAt row at f
-equal-at row d at f e deep tag =
-    let w = stands-words row d at f e in
-    made (drop (at + length (encode f)) row) w (equal-view (stands-ok row d at f e) deep (sym (tag-at row at f (drop (at + length (encode f)) row) w) ∙ tag))
-  where
-    made : (y : List ℕ) → drop at row ≡ encode f ++ y → Equal 64 f → EqualAt row at f
-    made y w x =
-        let v : drop at row ≡ encode (equal (x .left) (x .right)) ++ y = rw (x .is) at w in
-        record {
-          left = x .left;
-          right = x .right;
-          is = x .is;
-          inside = in-row row (encode (equal (x .left) (x .right))) y at v (some-words (equal (x .left) (x .right)));
-          right-is = right-at row at (x .left) (x .right) y (x .ok-left) (x .ok-right) v;
-          next-is = next-from row at (x .left) (x .right) y (x .ok-left) (x .ok-right) v;
-          beside = sides-beside row at (x .left) (x .right) y (x .ok-left) (x .ok-right) v;
-          parts-from = parts-are row at (x .left) (x .right) y (x .ok-left) (x .ok-right) v;
-        }
+  pub part-took : length row ≤ 8192 → (n : ℕ) → TookIs row (accept n (x .left) (x .other)) (acceptWords n (record { left = at + 1; middle = right; right = right; end = next }) row)
+  part-took short n =
+      let i = sides-in .1 in
+      let a = x .left-end in
+      let b = x .other-end in
+      took row n (record { left = at + 1; middle = right; right = right; end = next }) (x .left) (x .other) (left-sound .1) (other-sound .1) (omega arith) (omega arith) (x .left-end) (x .other-end) (left-sound .0) (other-sound .0)

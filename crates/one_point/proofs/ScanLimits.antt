@@ -3,7 +3,7 @@
 use mathlib.Core.Path.{_≡_, refl, ap, _∙_}
 use mathlib.Core.Bool.{Bool, true, false, not, _&&_, _||_}
 use mathlib.Core.Option.{Option, none as absent, some, Option·map}
-use mathlib.Core.List.{List, [], _∷_, _++_, append-nil}
+use mathlib.Core.List.{List, [], _∷_, _++_}
 use Prim.Native.Nat.{ℕ, suc, _+_, _≤_, _<_}
 use native.Mathlib.Omega.{arith}
 use borrow.Author.Tests.{eqb-true, eqb-false, ltb-true}
@@ -17,7 +17,7 @@ use Rattle.form.proofs.DecodeLaws.{clash, Ok, ok-node, OkAll, ok-none, ok-more}
 use Rattle.rules.proofs.WalkLaws.{and-left}
 use Rattle.rules.proofs.OkLaws.{ok-deep}
 use Rattle.rules.specs.Replacement.{left, right, Offer, offer, no-offer, offered, Taken, taken, nothing, above, allowed, ofOffer, accept}
-use Rattle.rules.specs.Split.{ofTwo, isTwo, isNil, isPair, parts, partsAll}
+use Rattle.rules.specs.Split.{ofTwo, isNil, isPair, parts, partsAll}
 use Rattle.rules.specs.Scan as S
 use Rattle.rules.specs.Scan.{Scan, scanned, Scans, scans, negate, present, joined, implies, Role, roleOf, suits, role, firstPolarity, copied, offerPart, offerParts, copies, follow, with, rebuild, scan, scanAll}
 use Rattle.rules.specs.Point.{restOf}

@@ -3,10 +3,8 @@ use form::head::Step;
 use places::positions::skip_pred;
 use places::sides::Replacement;
 ghost use mathlib.Core.Path.{_≡_};
-ghost use Prim.Native.Nat.{_+_, _*_, _≤_, _<_};
-ghost use lib.ListN.{length};
-ghost use Rattle.one_point.specs.Internal.Scans.{Kids, kidsAt, oneMore};
-ghost use Rattle.tree.specs.Form.{encodeAll};
+ghost use Prim.Native.Nat.{_≤_, _<_};
+ghost use Rattle.one_point.specs.Internal.Scans.{readKids, endOfAll, oneMore};
 
 // What a search took, where it stopped in the row and how many children are left there, and what was written.
 pub struct Stopped {
@@ -29,18 +27,18 @@ pub(crate) fn one_more(k: u32, gone: bool) -> u32
 }
 
 // Where n predicates end.
-pub(crate) fn skip_preds(row: &[u32], at: usize, n: u32, depth: u32) -> usize
-    requires { ⌜ Kids (now row) depth at n 0 (2 * length (now row)) × (depth ≤ 64) ⌝ }
-    ensures { λ r. ⌜ r ≡ at + length (encodeAll (kidsAt (now (row .entry)) depth at n)) ⌝ }
+pub(crate) fn skip_preds(row: &[u32], at: usize, n: u32, depth: u32) -> Step
+    requires { ⌜ depth ≤ 64 ⌝ }
+    ensures { λ r. ⌜ r ≡ endOfAll at (readKids (now (row .entry)) depth at n) ⌝ }
 {
     let mut p = at;
     let mut left = n;
     while 0 < left {
         let Step::End(q) = skip_pred(row, p, depth) else {
-            return p;
+            return Step::Bad;
         };
         p = q;
         left -= 1;
     }
-    p
+    Step::End(p)
 }

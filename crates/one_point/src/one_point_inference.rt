@@ -3,6 +3,8 @@ use crate::reduce::reduce;
 use form::answer::Answer;
 use form::answer::Kind;
 use form::answer::Limit;
+use form::head::Head;
+use form::head::pred_head;
 use replace::fill::declared;
 ghost use mathlib.Core.Path.{_≡_};
 ghost use lib.ListN.{length};
@@ -10,21 +12,24 @@ ghost use Rattle.form.specs.Answer.{told, written};
 ghost use Rattle.rules.specs.Point.{pointOutcome};
 ghost use Rattle.one_point.specs.Internal.Reduce.{quantifierIn};
 
-// The head of a quantified predicate: its tag, and the number of its declarations.
+// The head of a quantified predicate: its tag, and where its body begins.
 pub enum Quantifier {
-    Of(u32, u32),
+    Of(u32, usize),
     None,
 }
 
-// The head of a row that is a predicate.
+// The head that a row begins with.
 fn quantifier_of(row: &[u32]) -> Quantifier
     ensures { λ r. ⌜ r ≡ quantifierIn (now (row .entry)) ⌝ }
 {
-    let n = declared(row);
-    if n == 0 {
+    if declared(row) == 0 {
         return Quantifier::None;
     }
-    Quantifier::Of(row[0], n)
+    let tag = row[0];
+    let Head::Kids(start, preds, exprs, n) = pred_head(row, 1, tag) else {
+        return Quantifier::None;
+    };
+    Quantifier::Of(tag, start)
 }
 
 // The quantified predicate in the row, reduced.
@@ -38,12 +43,11 @@ pub fn one_point_inference(row: &[u32], work: &mut [u32], out: &mut [u32]) -> An
     if Limit::WORDS < row.len() {
         return Answer::No(1);
     }
-    let Answer::Done(k) = reader::check::check(row, Kind::Predicate) else {
-        return Answer::No(2);
-    };
-    let Quantifier::Of(tag, n) = quantifier_of(row) else {
+    let Quantifier::Of(tag, start) = quantifier_of(row) else {
+        let Answer::Done(k) = reader::check::check(row, Kind::Predicate) else {
+            return Answer::No(2);
+        };
         return Answer::No(9);
     };
-    let start = 2 + (n as usize);
     reduce(tag, &row[2..start], &row[start..], work, out)
 }

@@ -31,7 +31,7 @@ pub struct Search {
 }
 
 // The rule of Places for n declarations, with all places free.
-fn accept(row: &[u32], sides: Sides, n: usize) -> Replacement
+pub(crate) fn accept(row: &[u32], sides: Sides, n: usize) -> Replacement
     requires { ⌜ (n ≤ 32) × (length (now row) ≤ 8192) × Within (now row) sides ⌝ }
     ensures { λ r. ⌜ r ≡ acceptWords n sides (now (row .entry)) ⌝ }
 {

@@ -188,6 +188,12 @@ pub(crate) fn reduce(
     ensures { λ _. ⌜ now (out .exit) ≡ written (bodyOutcome tag (now (names .entry)) (now (body .entry)) (length (now (out .entry)))) (now (out .entry)) ⌝ }
 {
     let s = scan_pred(body, 0, 63, names.len(), tag == Tag::EXISTS, work, 0);
+    if !s.ok {
+        return Answer::No(2);
+    }
+    if s.next != body.len() {
+        return Answer::No(2);
+    }
     let found = s.found;
     let Replacement::Is(target, start, end) = found else {
         return Answer::No(9);

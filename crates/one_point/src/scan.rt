@@ -2,6 +2,7 @@
 use crate::children::Stopped;
 use crate::children::one_more;
 use crate::children::skip_preds;
+use crate::parts::accept;
 use crate::parts::copy_parts;
 use crate::parts::is_taken;
 use crate::parts::search_parts;
@@ -9,46 +10,58 @@ use crate::writes::copy_part;
 use crate::writes::finish_junction;
 use crate::writes::finish_not;
 use form::head::Step;
-use places::positions::expr_end;
+use places::positions::both_pairs;
+use places::positions::skip_expr;
 use places::positions::skip_pred;
 use places::sides::Replacement;
+use places::sides::Sides;
 use tree::tag::Tag;
 ghost use mathlib.Core.Path.{_≡_};
 ghost use mathlib.Core.Bool.{true, false};
 ghost use mathlib.Core.Option.{some};
-ghost use Prim.Native.Nat.{_+_, _<_, _≤_};
-ghost use lib.ListN.{length, getD, drop};
-ghost use Rattle.tree.specs.Form.{Form, pick, encode};
-ghost use Rattle.tree.specs.Tag.{pred};
-ghost use Rattle.form.specs.Decode.{got, decode};
+ghost use Prim.Native.Nat.{_+_, _-_, _*_, _≤_};
+ghost use lib.ListN.{length, getD};
+ghost use Rattle.tree.specs.Form.{pick};
 ghost use Rattle.rules.specs.Replacement.{Taken, nothing};
 ghost use Rattle.rules.specs.Scan.{scanned, scan, roleOf, junction};
 ghost use Rattle.one_point.specs.Internal.Parts.{TookIs};
-ghost use Rattle.one_point.specs.Internal.Scans.{Room, Became, ScanTold, nextScan, Kids, SearchedKids};
+ghost use Rattle.one_point.specs.Internal.Scans.{Room, Entered, ScanTold, Sided, SidesTold, nextScan, SearchedKids};
+ghost use Rattle.places.specs.Internal.Positions.{bothPairs};
 
-// Where the node ends in the row, the equality taken, whether the node is gone, and where what is left of it ends in the output.
+// Whether a predicate was read; where it ends in the row, the equality taken, whether the node is gone, and where what is left of it ends in
+// the output.
 pub struct Scanned {
+    pub ok: bool,
     pub next: usize,
     pub found: Replacement,
     pub gone: bool,
     pub end: usize,
 }
 
+// No predicate is read.
+fn no_pred() -> Scanned
+    ensures { λ r. ⌜ r .ok ≡ false ⌝ }
+{
+    Scanned {
+        ok: false,
+        next: 0,
+        found: Replacement::Not,
+        gone: true,
+        end: 0,
+    }
+}
+
 // A predicate that the scan does not enter.
 fn copy_pred(row: &[u32], at: usize, depth: u32, out: &mut [u32], pos: usize) -> Scanned
     requires { ⌜ Room (now row) depth at pos (length (now out)) ⌝ }
-    ensures { λ r. ⌜ ((f : Form) → decode depth pred (drop at (now (row .entry))) ≡ got f (drop (at + length (encode f)) (now (row .entry))) → Became (now (row .entry)) at f pos (now (out .entry)) (scanned nothing (some f)) r (now (out .exit))) ⌝ }
+    ensures { λ r. ⌜ ScanTold (λ f. scanned nothing (some f)) (now (row .entry)) depth at pos (now (out .entry)) r (now (out .exit)) ⌝ }
 {
     let Step::End(next) = skip_pred(row, at, depth) else {
-        return Scanned {
-            next: at,
-            found: Replacement::Not,
-            gone: true,
-            end: pos,
-        };
+        return no_pred();
     };
     let end = copy_part(row, at, next, out, pos);
     Scanned {
+        ok: true,
         next: next,
         found: Replacement::Not,
         gone: false,
@@ -56,7 +69,72 @@ fn copy_pred(row: &[u32], at: usize, depth: u32, out: &mut [u32], pos: usize) ->
     }
 }
 
-// An equality: its parts, offered in order.
+// An equality that is one part: it is gone where it is taken, else copied.
+fn scan_part(
+    row: &[u32],
+    at: usize,
+    right: usize,
+    next: usize,
+    n: usize,
+    out: &mut [u32],
+    pos: usize,
+) -> Scanned
+    requires { ⌜ Sided (now row) at right next × (bothPairs (now row) (at + 1) right ≡ false) × (length (now row) ≤ 8192) × (n ≤ 32) × (pos + 2 * (next - at) ≤ length (now out)) ⌝ }
+    ensures { λ r. ⌜ SidesTold (now (row .entry)) at right next n pos (now (out .entry)) r (now (out .exit)) ⌝ }
+{
+    let sides = Sides {
+        left: at + 1,
+        middle: right,
+        right: right,
+        end: next,
+    };
+    let offered = accept(row, sides, n);
+    if is_taken(offered) {
+        return Scanned {
+            ok: true,
+            next: next,
+            found: offered,
+            gone: true,
+            end: pos,
+        };
+    }
+    let end = copy_part(row, at, next, out, pos);
+    Scanned {
+        ok: true,
+        next: next,
+        found: Replacement::Not,
+        gone: false,
+        end: end,
+    }
+}
+
+// An equality of two pairs: its parts, offered in order.
+fn scan_parts(
+    row: &[u32],
+    at: usize,
+    right: usize,
+    next: usize,
+    n: usize,
+    out: &mut [u32],
+    pos: usize,
+) -> Scanned
+    requires { ⌜ Sided (now row) at right next × (length (now row) ≤ 8192) × (n ≤ 32) × (pos + 2 * (next - at) ≤ length (now out)) ⌝ }
+    ensures { λ r. ⌜ SidesTold (now (row .entry)) at right next n pos (now (out .entry)) r (now (out .exit)) ⌝ }
+{
+    let s = search_parts(row, at + 1, right, n, out, pos + 2);
+    let c = copy_parts(row, s.left, s.right, s.todo, out, s.end, s.count);
+    let l = finish_junction(out, pos, c.end, Tag::AND, c.count);
+    let found = s.found;
+    Scanned {
+        ok: true,
+        next: next,
+        found: found,
+        gone: l.gone,
+        end: l.end,
+    }
+}
+
+// An equality, once both of its sides are read.
 fn scan_equality(
     row: &[u32],
     at: usize,
@@ -65,21 +143,19 @@ fn scan_equality(
     out: &mut [u32],
     pos: usize,
 ) -> Scanned
-    requires { ⌜ Room (now row) depth at pos (length (now out)) × (n ≤ 32) × (getD (now row) at 0 ≡ 101) ⌝ }
-    ensures { λ r. ⌜ ScanTold n true (now (row .entry)) depth at pos (now (out .entry)) r (now (out .exit)) ⌝ }
+    requires { ⌜ Room (now row) depth at pos (length (now out)) × (n ≤ 32) × Entered (now row) depth at × (getD (now row) at 0 ≡ 101) ⌝ }
+    ensures { λ r. ⌜ ScanTold (scan n true) (now (row .entry)) depth at pos (now (out .entry)) r (now (out .exit)) ⌝ }
 {
-    let right = expr_end(row, at + 1);
-    let next = expr_end(row, right);
-    let s = search_parts(row, at + 1, right, n, out, pos + 2);
-    let c = copy_parts(row, s.left, s.right, s.todo, out, s.end, s.count);
-    let l = finish_junction(out, pos, c.end, Tag::AND, c.count);
-    let found = s.found;
-    Scanned {
-        next: next,
-        found: found,
-        gone: l.gone,
-        end: l.end,
+    let Step::End(right) = skip_expr(row, at + 1, depth - 1) else {
+        return no_pred();
+    };
+    let Step::End(next) = skip_expr(row, right, depth - 1) else {
+        return no_pred();
+    };
+    if both_pairs(row, at + 1, right) {
+        return scan_parts(row, at, right, next, n, out, pos);
     }
+    scan_part(row, at, right, next, n, out, pos)
 }
 
 fn start_of(gone: bool, pos: usize, end: usize) -> usize
@@ -102,8 +178,14 @@ pub(crate) fn scan_pred(
     pos: usize,
 ) -> Scanned
     requires { ⌜ Room (now row) depth at pos (length (now out)) × (n ≤ 32) ⌝ }
-    ensures { λ r. ⌜ ScanTold n positive (now (row .entry)) depth at pos (now (out .entry)) r (now (out .exit)) ⌝ }
+    ensures { λ r. ⌜ ScanTold (scan n positive) (now (row .entry)) depth at pos (now (out .entry)) r (now (out .exit)) ⌝ }
 {
+    if depth == 0 {
+        return no_pred();
+    }
+    if row.len() <= at {
+        return no_pred();
+    }
     let tag = row[at];
     if tag == Tag::NOT {
         return scan_not(row, at, depth, n, positive, out, pos);
@@ -136,13 +218,17 @@ fn scan_not(
     out: &mut [u32],
     pos: usize,
 ) -> Scanned
-    requires { ⌜ Room (now row) depth at pos (length (now out)) × (n ≤ 32) × (getD (now row) at 0 ≡ 8) ⌝ }
-    ensures { λ r. ⌜ ScanTold n positive (now (row .entry)) depth at pos (now (out .entry)) r (now (out .exit)) ⌝ }
+    requires { ⌜ Room (now row) depth at pos (length (now out)) × (n ≤ 32) × Entered (now row) depth at × (getD (now row) at 0 ≡ 8) ⌝ }
+    ensures { λ r. ⌜ ScanTold (scan n positive) (now (row .entry)) depth at pos (now (out .entry)) r (now (out .exit)) ⌝ }
 {
     let s = scan_pred(row, at + 1, depth - 1, n, !positive, out, pos + 1);
+    if !s.ok {
+        return s;
+    }
     let found = s.found;
     if s.gone {
         return Scanned {
+            ok: true,
             next: s.next,
             found: found,
             gone: true,
@@ -151,6 +237,7 @@ fn scan_not(
     }
     let end = finish_not(out, pos, s.end);
     Scanned {
+        ok: true,
         next: s.next,
         found: found,
         gone: false,
@@ -169,11 +256,12 @@ fn scan_next(
     pos: usize,
 ) -> Scanned
     requires { ⌜ Room (now row) depth at pos (length (now out)) × (n ≤ 32) ⌝ }
-    ensures { λ r. ⌜ ((x : Taken) → TookIs (now (row .entry)) x found → (f : Form) → decode depth pred (drop at (now (row .entry))) ≡ got f (drop (at + length (encode f)) (now (row .entry))) → Became (now (row .entry)) at f pos (now (out .entry)) (nextScan x (scan n false f) f) r (now (out .exit))) ⌝ }
+    ensures { λ r. ⌜ ((x : Taken) → TookIs (now (row .entry)) x found → ScanTold (λ f. nextScan x (scan n false f) f) (now (row .entry)) depth at pos (now (out .entry)) r (now (out .exit))) ⌝ }
 {
     if is_taken(found) {
         let c = copy_pred(row, at, depth, out, pos);
         return Scanned {
+            ok: c.ok,
             next: c.next,
             found: found,
             gone: c.gone,
@@ -192,14 +280,20 @@ fn scan_implies(
     out: &mut [u32],
     pos: usize,
 ) -> Scanned
-    requires { ⌜ Room (now row) depth at pos (length (now out)) × (n ≤ 32) × (getD (now row) at 0 ≡ 251) ⌝ }
-    ensures { λ r. ⌜ ScanTold n false (now (row .entry)) depth at pos (now (out .entry)) r (now (out .exit)) ⌝ }
+    requires { ⌜ Room (now row) depth at pos (length (now out)) × (n ≤ 32) × Entered (now row) depth at × (getD (now row) at 0 ≡ 251) ⌝ }
+    ensures { λ r. ⌜ ScanTold (scan n false) (now (row .entry)) depth at pos (now (out .entry)) r (now (out .exit)) ⌝ }
 {
     out[pos] = Tag::IMPLIES;
     let l = scan_pred(row, at + 1, depth - 1, n, true, out, pos + 1);
+    if !l.ok {
+        return l;
+    }
     let taken = l.found;
     let start = start_of(l.gone, pos, l.end);
     let r = scan_next(row, l.next, depth - 1, n, taken, out, start);
+    if !r.ok {
+        return r;
+    }
     if l.gone {
         return r;
     }
@@ -207,6 +301,7 @@ fn scan_implies(
         let found = r.found;
         let end = finish_not(out, pos, l.end);
         return Scanned {
+            ok: true,
             next: r.next,
             found: found,
             gone: false,
@@ -216,7 +311,8 @@ fn scan_implies(
     r
 }
 
-// Children in order; the search stops at the first equality taken.
+// Children in order; the search stops at the first equality taken. A child that is no predicate sends it to the end of the row, where none of
+// the children left is read.
 fn search_children(
     row: &[u32],
     at: usize,
@@ -227,7 +323,7 @@ fn search_children(
     out: &mut [u32],
     pos: usize,
 ) -> Stopped
-    requires { ⌜ Kids (now row) depth at count pos (length (now out)) × (length (now row) ≤ 8192) × (depth ≤ 64) × (n ≤ 32) ⌝ }
+    requires { ⌜ Room (now row) depth at pos (length (now out)) × (n ≤ 32) × (at ≤ length (now row)) ⌝ }
     ensures { λ r. ⌜ SearchedKids (now (row .entry)) depth n positive at count pos (now (out .entry)) r (now (out .exit)) ⌝ }
 {
     let mut found = Replacement::Not;
@@ -237,6 +333,10 @@ fn search_children(
     let mut k: u32 = 0;
     'search: while 0 < left {
         let s = scan_pred(row, q, depth, n, positive, out, w);
+        if !s.ok {
+            q = row.len();
+            break 'search;
+        }
         let taken = s.found;
         q = s.next;
         w = s.end;
@@ -266,18 +366,27 @@ fn scan_junction(
     out: &mut [u32],
     pos: usize,
 ) -> Scanned
-    requires { ⌜ Room (now row) depth at pos (length (now out)) × (n ≤ 32) × (roleOf (getD (now row) at 0) positive ≡ junction) ⌝ }
-    ensures { λ r. ⌜ ScanTold n positive (now (row .entry)) depth at pos (now (out .entry)) r (now (out .exit)) ⌝ }
+    requires { ⌜ Room (now row) depth at pos (length (now out)) × (n ≤ 32) × Entered (now row) depth at × (roleOf (getD (now row) at 0) positive ≡ junction) ⌝ }
+    ensures { λ r. ⌜ ScanTold (scan n positive) (now (row .entry)) depth at pos (now (out .entry)) r (now (out .exit)) ⌝ }
 {
+    if row.len() <= at + 1 {
+        return no_pred();
+    }
     let tag = row[at];
     let count = row[at + 1];
+    if count < 2 {
+        return no_pred();
+    }
     let s = search_children(row, at + 2, depth - 1, n, positive, count, out, pos + 2);
     let from = s.next;
-    let next = skip_preds(row, from, s.left, depth - 1);
+    let Step::End(next) = skip_preds(row, from, s.left, depth - 1) else {
+        return no_pred();
+    };
     let end = copy_part(row, from, next, out, s.end);
     let l = finish_junction(out, pos, end, tag, s.count + s.left);
     let found = s.found;
     Scanned {
+        ok: true,
         next: next,
         found: found,
         gone: l.gone,

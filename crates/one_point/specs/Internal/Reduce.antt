@@ -4,10 +4,13 @@ use mathlib.Core.Bool.{Bool, true, _||_}
 use mathlib.Core.List.{List, []}
 use Prim.Native.Nat.{ℕ, _≤_, _<_, _+_}
 use lib.Dec.{eqb}
-use lib.ListN.{length, getD, set, replicate}
+use lib.ListN.{length, getD, drop, set, replicate}
 use Rattle.tree.specs.Form.{Form, pick}
-use Rattle.tree.specs.Tag.{expr, pred}
-use Rattle.form.specs.Decode.{Got, got, no-form, decode}
+use Rattle.tree.specs.Tag.{expr, pred, own}
+use Rattle.form.specs.Decode.{read, Got, got, no-form, decode, Whole, one, not-one, whole}
+use Rattle.form.specs.Internal.Heads.{headAt}
+use Rattle.form.specs.declared.head.Head.{Head}
+use Rattle.form.specs.declared.head.Head.the-variants.{Kids, None as NoHead}
 use Rattle.form.specs.Answer.{Outcome, refusal, finish}
 use Rattle.reader.specs.Internal.Reads.{mark}
 use Rattle.reader.specs.declared.lists.Table.{Table}
@@ -22,9 +25,13 @@ use Rattle.one_point.specs.declared.one_point_inference.Quantifier.the-v
 abbrev pub isQuantifier : ℕ → Bool
 isQuantifier t = eqb t 851 || eqb t 852
 
--- the head of a row that is a quantified predicate
+-- the head of a quantified predicate that a row begins with
+abbrev pub headed : ℕ → Head → Quantifier
+headed t (Kids p x y n) = Of t p
+headed t NoHead = None
+
 unfoldable pub quantifierIn : List ℕ → Quantifier
-quantifierIn row = pick (eqb (declaredIn row) 0) None (Of (getD row 0 0) (declaredIn row))
+quantifierIn row = pick (eqb (declaredIn row) 0) None (headed (getD row 0 0) (headAt 1 (read (own pred (getD row 0 0)) (drop 1 row))))
 
 -- the first of n places is filled by the part that ends at e
 abbrev pub oneTable : ℕ → ℕ → Table
@@ -74,18 +81,16 @@ readingDepth r = pick (eqb r 0) 63 r
 abbrev pub emptyWord : ℕ → ℕ
 emptyWord t = pick (eqb t 852) 610 611
 
-abbrev pub reducedIn : ℕ → List ℕ → ℕ → Got → Outcome
-reducedIn t ns room (got f x) = ofResult room (reduce t ns (scan (length ns) (polarity t) f))
-reducedIn t ns room no-form = refusal 2
+abbrev pub reducedIn : ℕ → List ℕ → ℕ → Whole → Outcome
+reducedIn t ns room (one f) = ofResult room (reduce t ns (scan (length ns) (polarity t) f))
+reducedIn t ns room not-one = refusal 2
 
 unfoldable pub bodyOutcome : ℕ → List ℕ → List ℕ → ℕ → Outcome
-bodyOutcome t ns body room = reducedIn t ns room (decode 63 pred body)
+bodyOutcome t ns body room = reducedIn t ns room (whole (decode 63 pred body))
 
 pub record Reducing (t : ℕ) (ns body : List ℕ) (work : ℕ) : Type 0 where
   pub which : isQuantifier t ≡ true
   pub few : length ns ≤ 32
   pub names : areNames ns ≡ true
-  pub form : Form
-  pub is : decode 63 pred body ≡ got form []
   pub short : length body ≤ 8192
   pub enough : 16384 ≤ work

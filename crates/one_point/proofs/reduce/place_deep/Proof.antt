@@ -9,10 +9,6 @@ use Rattle.shift.proofs.CheckedLaws.{passed}
 use Rattle.one_point.proofs.PlaceLaws.{fresh-cleared, resting, placed-row}
 use Rattle.one_point.proofs.reduce.place_deep.Statement.{statement}
 use Rattle.one_point.proofs.reduce.place_deep.Tie as tie
-use Rattle.one_point.proofs.reduce.place_deep.Reads as reads
-use Rattle.one_point.proofs.reduce.place_deep.Lts as lts
-use Rattle.reader.proofs.reader.pred_at.Reads as pred-at-reads
-use Rattle.one_point.proofs.rest.put_rest.Reads as put-rest-reads
 
 slice-aggregate-pred-at : tie.Need-slice-aggregate-pred-at
 slice-aggregate-pred-at c = search needs

@@ -1,27 +1,26 @@
 -- The proof of the cycle of calls {scan_implies, scan_junction, scan_next, scan_not, scan_pred, search_children}. The measure is four times the words that are left, and a little more for a
 -- function that calls another at the same place. Assumes nothing.
-use mathlib.Core.Path.{_≡_, refl, ap, sym, _∙_}
+use mathlib.Core.Path.{_≡_, refl, sym, _∙_}
+use mathlib.Core.Bool.{true, not}
 use mathlib.Core.List.{List}
-use Prim.Native.Nat.{_+_, _-_, _*_, _≤_}
+use Prim.Native.Nat.{ℕ, _+_, _-_, _*_, _≤_, _<_}
 use native.Mathlib.Omega.{arith}
 use borrow.Author.Needs.{needs}
-use lib.ListN.{length, getD, set, length-set}
-use Rattle.tree.specs.Form.{encode, encodeAll}
-use Rattle.rules.specs.Scan.{scanAll}
-use Rattle.one_point.specs.Internal.Scans.{kidsAt, Kids, KidsTold}
-use Rattle.places.specs.declared.sides.Replacement.{Replacement}
-use Rattle.places.specs.declared.sides.Replacement.the-variants.{Not}
-use Rattle.places.proofs.PartsLaws.{some-words}
-use Rattle.one_point.proofs.ScanLaws.{fits}
-use Rattle.one_point.proofs.RebuildLaws.{not-at, implies-at}
-use Rattle.one_point.proofs.BecameLaws.{child-room, not-gone, not-became}
-use Rattle.one_point.proofs.ImpliesLaws.{right-alone, both-left, left-alone}
-use Rattle.one_point.proofs.ChildrenLaws.{kid-of, kids-none, kids-copied}
-use Rattle.one_point.proofs.JunctionLaws.{child-passed, child-taken, child-next, child-ends, search-over, one-at-most}
-use Rattle.one_point.proofs.NodeLaws.{junction-at, junction-done, kids-end, next-copied, next-scanned, role-and, role-or, other-at, no-entry, no-entry-below, kids-anew, kids-room, start-low, start-pos, start-end, right-told}
-use Prim.Native.Nat.{ℕ, _<_}
+use borrow.Author.Tests.{not-true, not-false}
 use borrow.Fn.Kinds.{In}
 use borrow.Fn.PlainCycle.{Measures, is, falls, and}
+use lib.ListN.{length, getD, set, length-set}
+use Rattle.tree.specs.Form.{encodeAll}
+use Rattle.rules.specs.Scan.{scan, scanAll}
+use Rattle.one_point.specs.Internal.Scans.{kidsAt, areKids, KidsTold}
+use Rattle.places.specs.declared.sides.Replacement.{Replacement}
+use Rattle.places.specs.declared.sides.Replacement.the-variants.{Not}
+use Rattle.one_point.proofs.ReadLaws.{told-ok, told-no, tell-no, bounds, none-past, none-deep, no-count, few-count, junction-got, junction-no}
+use Rattle.one_point.proofs.BecameLaws.{child-room, not-no, not-gone, not-became}
+use Rattle.one_point.proofs.ImpliesLaws.{left-no, right-no, right-alone, both-left, left-alone, start-low, start-pos, start-end}
+use Rattle.one_point.proofs.ChildrenLaws.{kids-none, kids-bad, kids-read, kids-inside, kids-copied}
+use Rattle.one_point.proofs.JunctionLaws.{child-same, child-passed, child-taken, child-ends, search-lost, search-over, one-at-most}
+use Rattle.one_point.proofs.NodeLaws.{junction-tag, junction-told, kids-end, next-copied, next-scanned, role-and, role-or, other-told, no-entry, no-entry-below}
 use Rattle.one_point.proofs.scan.scan_implies.Reads as scan-implies
 use Rattle.one_point.proofs.scan.scan_implies.Kinds as scan-implies-kinds
 use Rattle.one_point.proofs.scan.+scan_implies+scan_junction+scan_next+scan_not+scan_pred+search_children.Lts-scan_implies as scan-implies-lts
@@ -44,6 +43,7 @@ use Rattle.one_point.proofs.children.one_more.Reads as one-more-reads
 use Rattle.one_point.proofs.children.skip_preds.Reads as skip-preds-reads
 use Rattle.one_point.proofs.parts.is_taken.Reads as is-taken-reads
 use Rattle.one_point.proofs.scan.copy_pred.Reads as copy-pred-reads
+use Rattle.one_point.proofs.scan.no_pred.Reads as no-pred-reads
 use Rattle.one_point.proofs.scan.scan_equality.Reads as scan-equality-reads
 use Rattle.one_point.proofs.scan.start_of.Reads as start-of-reads
 use Rattle.one_point.proofs.writes.copy_part.Reads as copy-part-reads
@@ -110,7 +110,7 @@ abbrev scan-implies-calls : ℕ → scan-implies-lts.Claims
 scan-implies-calls t = (scan-pred-below t, scan-pred.Post, start-of-reads.Asked, start-of-reads.Learnt, scan-next-below t, scan-next.Post, finish-not-reads.Asked, finish-not-reads.Learnt)
 
 abbrev scan-junction-calls : ℕ → scan-junction-lts.Claims
-scan-junction-calls t = (search-children-below t, search-children.Post, skip-preds-reads.Asked, skip-preds-reads.Learnt, copy-part-reads.Asked, copy-part-reads.Learnt, finish-junction-reads.Asked, finish-junction-reads.Learnt)
+scan-junction-calls t = (no-pred-reads.Asked, no-pred-reads.Learnt, search-children-below t, search-children.Post, skip-preds-reads.Asked, skip-preds-reads.Learnt, copy-part-reads.Asked, copy-part-reads.Learnt, finish-junction-reads.Asked, finish-junction-reads.Learnt)
 
 abbrev scan-next-calls : ℕ → scan-next-lts.Claims
 scan-next-calls t = (is-taken-reads.Asked, is-taken-reads.Learnt, copy-pred-reads.Asked, copy-pred-reads.Learnt, scan-pred-below t, scan-pred.Post)
@@ -119,7 +119,7 @@ abbrev scan-not-calls : ℕ → scan-not-lts.Claims
 scan-not-calls t = (scan-pred-below t, scan-pred.Post, finish-not-reads.Asked, finish-not-reads.Learnt)
 
 abbrev scan-pred-calls : ℕ → scan-pred-lts.Claims
-scan-pred-calls t = (scan-not-below t, scan-not.Post, scan-equality-reads.Asked, scan-equality-reads.Learnt, scan-junction-below t, scan-junction.Post, copy-pred-reads.Asked, copy-pred-reads.Learnt, scan-implies-below t, scan-implies.Post)
+scan-pred-calls t = (no-pred-reads.Asked, no-pred-reads.Learnt, scan-not-below t, scan-not.Post, scan-equality-reads.Asked, scan-equality-reads.Learnt, scan-junction-below t, scan-junction.Post, copy-pred-reads.Asked, copy-pred-reads.Learnt, scan-implies-below t, scan-implies.Post)
 
 abbrev search-children-calls : ℕ → search-children-lts.Claims
 search-children-calls t = (scan-pred-below t, scan-pred.Post, one-more-reads.Asked, one-more-reads.Learnt, is-taken-reads.Asked, is-taken-reads.Learnt)
@@ -128,232 +128,297 @@ scan-implies-mul-out : (t : ℕ) → scan-implies-lts.Need-mul-out (scan-implies
 scan-implies-mul-out t c = search needs
 
 scan-implies-slice-write-out : (t : ℕ) → scan-implies-lts.Need-slice-write-out (scan-implies-calls t) (scan-implies-at t) scan-implies.Post
-scan-implies-slice-write-out t c = let b2 = c .before .before in let r = b2 .pre .1 .0 in let i = fits (b2 .args .row .now) (b2 .args .depth) (b2 .args .at) (r .form) (r .is) in let s = some-words (r .form) in let m = r .room in let g = r .deep in let x = implies-at (b2 .args .row .now) (b2 .args .at) (b2 .args .depth) (r .form) (r .is) (b2 .pre .1 .2) in let l = x .words in let e = x .deep in omega arith
+scan-implies-slice-write-out t c = search needs
 
 scan-implies-add-scan-pred : (t : ℕ) → scan-implies-lts.Need-add-scan-pred (scan-implies-calls t) (scan-implies-at t) scan-implies.Post
-scan-implies-add-scan-pred t c = let b2 = c .before .before in let r = b2 .pre .1 .0 in let i = fits (b2 .args .row .now) (b2 .args .depth) (b2 .args .at) (r .form) (r .is) in let s = some-words (r .form) in let m = r .room in let g = r .deep in let x = implies-at (b2 .args .row .now) (b2 .args .at) (b2 .args .depth) (r .form) (r .is) (b2 .pre .1 .2) in let l = x .words in let e = x .deep in omega arith
+scan-implies-add-scan-pred t c = search needs
 
 scan-implies-sub-scan-pred : (t : ℕ) → scan-implies-lts.Need-sub-scan-pred (scan-implies-calls t) (scan-implies-at t) scan-implies.Post
-scan-implies-sub-scan-pred t c = let b2 = c .before .before in let r = b2 .pre .1 .0 in let i = fits (b2 .args .row .now) (b2 .args .depth) (b2 .args .at) (r .form) (r .is) in let s = some-words (r .form) in let m = r .room in let g = r .deep in let x = implies-at (b2 .args .row .now) (b2 .args .at) (b2 .args .depth) (r .form) (r .is) (b2 .pre .1 .2) in let l = x .words in let e = x .deep in omega arith
+scan-implies-sub-scan-pred t c = search needs
 
 scan-implies-add-scan-pred-2 : (t : ℕ) → scan-implies-lts.Need-add-scan-pred-2 (scan-implies-calls t) (scan-implies-at t) scan-implies.Post
-scan-implies-add-scan-pred-2 t c = let b3 = c .before .before .before in let r = b3 .pre .1 .0 in let i = fits (b3 .args .row .now) (b3 .args .depth) (b3 .args .at) (r .form) (r .is) in let s = some-words (r .form) in let m = r .room in let g = r .deep in let x = implies-at (b3 .args .row .now) (b3 .args .at) (b3 .args .depth) (r .form) (r .is) (b3 .pre .1 .2) in let l = x .words in let e = x .deep in omega arith
+scan-implies-add-scan-pred-2 t c = search needs
 
 scan-implies-scan-pred-requires : (t : ℕ) → scan-implies-lts.Need-scan-pred-requires (scan-implies-calls t) (scan-implies-at t) scan-implies.Post
-scan-implies-scan-pred-requires t c κs = let b3 = c .before .before .before in let r = b3 .pre .1 .0 in let i = fits (b3 .args .row .now) (b3 .args .depth) (b3 .args .at) (r .form) (r .is) in let s = some-words (r .form) in let m = r .room in let g = r .deep in let x = implies-at (b3 .args .row .now) (b3 .args .at) (b3 .args .depth) (r .form) (r .is) (b3 .pre .1 .2) in let l = x .words in let e = x .deep in let z : length (set (b3 .args .out .now) (b3 .args .pos) 251) ≡ length (b3 .args .out .now) = length-set (b3 .args .out .now) (b3 .args .pos) 251 in (omega arith, (record { form = x .left; is = x .left-stands; room = omega arith; short = r .short; deep = omega arith }, b3 .pre .1 .1))
+scan-implies-scan-pred-requires t c κs = let b3 = c .before .before .before in let h = b3 .pre .1 .0 .room in let g = b3 .pre .1 .0 .deep in let i = b3 .pre .1 .2 .inside in let j = b3 .pre .1 .2 .deeper in let z : length (set (b3 .args .out .now) (b3 .args .pos) 251) ≡ length (b3 .args .out .now) = length-set (b3 .args .out .now) (b3 .args .pos) 251 in (omega arith, (record { room = omega arith; short = b3 .pre .1 .0 .short; deep = omega arith }, b3 .pre .1 .1))
+
+scan-implies-same-length : (t : ℕ) → scan-implies-lts.Need-same-length (scan-implies-calls t) (scan-implies-at t) scan-implies.Post
+scan-implies-same-length t c = let b4 = c .before .before .before .before in (simp length-set at (b4 .scan-pred .kept .1 .1 .1 .1 .1 .0))
+
+scan-implies-returns : (t : ℕ) → scan-implies-lts.Need-returns (scan-implies-calls t) (scan-implies-at t) scan-implies.Post
+scan-implies-returns t c = let b4 = c .before .before .before .before in let b8 = b4 .before .before .before .before in left-no (b8 .args .row .now) (b8 .args .depth) (b8 .args .at) (b8 .args .n) (b8 .args .pos) (b8 .pre .1 .2) (b8 .pre .1 .3) (b8 .args .out .now) _ _ (b4 .scan-pred .ensures) (not-true _ (c .if1 .taken))
 
 scan-implies-start-of-requires : (t : ℕ) → scan-implies-lts.Need-start-of-requires (scan-implies-calls t) (scan-implies-at t) scan-implies.Post
 scan-implies-start-of-requires t c κs = search needs
 
 scan-implies-sub-scan-next : (t : ℕ) → scan-implies-lts.Need-sub-scan-next (scan-implies-calls t) (scan-implies-at t) scan-implies.Post
-scan-implies-sub-scan-next t c = let b7 = c .before .before .before .before .before .before .before in let r = b7 .pre .1 .0 in let i = fits (b7 .args .row .now) (b7 .args .depth) (b7 .args .at) (r .form) (r .is) in let s = some-words (r .form) in let m = r .room in let g = r .deep in let x = implies-at (b7 .args .row .now) (b7 .args .at) (b7 .args .depth) (r .form) (r .is) (b7 .pre .1 .2) in let l = x .words in let e = x .deep in omega arith
+scan-implies-sub-scan-next t c = search needs
 
 scan-implies-scan-next-requires : (t : ℕ) → scan-implies-lts.Need-scan-next-requires (scan-implies-calls t) (scan-implies-at t) scan-implies.Post
-scan-implies-scan-next-requires t c κs = let b4 = c .before .before .before .before in let b8 = b4 .before .before .before .before in let r = b8 .pre .1 .0 in let i = fits (b8 .args .row .now) (b8 .args .depth) (b8 .args .at) (r .form) (r .is) in let s = some-words (r .form) in let m = r .room in let g = r .deep in let x = implies-at (b8 .args .row .now) (b8 .args .at) (b8 .args .depth) (r .form) (r .is) (b8 .pre .1 .2) in let l = x .words in let e = x .deep in let z : length (set (b8 .args .out .now) (b8 .args .pos) 251) ≡ length (b8 .args .out .now) = length-set (b8 .args .out .now) (b8 .args .pos) 251 in let b = (b4 .scan-pred .ensures (x .left) (x .left-stands)) in let q = b .next in let h = b .short in let k = b4 .scan-pred .kept .1 .1 .1 .1 .1 .0 in let u = start-low (b4 .scan-pred .result .gone) (c .before .start-of .result) (b8 .args .pos) (b4 .scan-pred .result .end) (b8 .args .pos + 1 + 2 * length (encode (x .left))) (c .before .start-of .ensures) (omega arith) (omega arith) in (omega arith, (record { form = x .right; is = rw q (x .right-stands); room = omega arith; short = r .short; deep = omega arith }, b8 .pre .1 .1))
-
-scan-implies-same-length : (t : ℕ) → scan-implies-lts.Need-same-length (scan-implies-calls t) (scan-implies-at t) scan-implies.Post
-scan-implies-same-length t c = c .before .before .before .scan-next .kept .1 .1 .1 .1 .1 .0 ∙ (simp length-set at (c .before .before .before .before .before .before .before .before .scan-pred .kept .1 .1 .1 .1 .1 .0))
-
-scan-implies-returns : (t : ℕ) → scan-implies-lts.Need-returns (scan-implies-calls t) (scan-implies-at t) scan-implies.Post
-scan-implies-returns t c = let b3 = c .before .before .before in let b8 = b3 .before .before .before .before .before in let b12 = b8 .before .before .before .before in let r = b12 .pre .1 .0 in let i = fits (b12 .args .row .now) (b12 .args .depth) (b12 .args .at) (r .form) (r .is) in let s = some-words (r .form) in let m = r .room in let g = r .deep in let x = implies-at (b12 .args .row .now) (b12 .args .at) (b12 .args .depth) (r .form) (r .is) (b12 .pre .1 .2) in let l = x .words in let e = x .deep in let low : b12 .args .pos + 1 ≤ length (b12 .args .out .now) = omega arith in λ f e. let y = implies-at (b12 .args .row .now) (b12 .args .at) (b12 .args .depth) f e (b12 .pre .1 .2) in right-alone (b12 .args .row .now) (b12 .args .at) (b12 .args .n) (b12 .args .pos) f (y .left) (y .right) (y .is) (y .words) (b12 .args .out .now) _ _ low _ _ (b8 .scan-pred .ensures (y .left) (y .left-stands)) _ (right-told (b12 .args .row .now) (b12 .args .at) _ (b12 .args .n) _ 0 _ (y .left) (y .right) _ _ _ _ _ (b8 .scan-pred .ensures (y .left) (y .left-stands)) (b3 .scan-next .ensures) (y .right-stands)) (c .if1 .taken) (start-pos _ _ _ _ (b3 .before .before .start-of .ensures) (c .if1 .taken))
-
-scan-implies-finish-not-requires : (t : ℕ) → scan-implies-lts.Need-finish-not-requires (scan-implies-calls t) (scan-implies-at t) scan-implies.Post
-scan-implies-finish-not-requires t c κs = let b5 = c .before .before .before .before .before in let b10 = b5 .before .before .before .before .before in let b14 = b10 .before .before .before .before in let r = b14 .pre .1 .0 in let i = fits (b14 .args .row .now) (b14 .args .depth) (b14 .args .at) (r .form) (r .is) in let s = some-words (r .form) in let m = r .room in let g = r .deep in let x = implies-at (b14 .args .row .now) (b14 .args .at) (b14 .args .depth) (r .form) (r .is) (b14 .pre .1 .2) in let l = x .words in let e = x .deep in let low : b14 .args .pos + 1 ≤ length (b14 .args .out .now) = omega arith in let h = child-room (b14 .args .pos) (rw (length-set (b14 .args .out .now) (b14 .args .pos) 251) low) (b10 .scan-pred .ensures (x .left) (x .left-stands)) (c .before .before .if1 .left) in let k = b5 .scan-next .kept .1 .1 .1 .1 .1 .0 in omega arith
+scan-implies-scan-next-requires t c κs = let b6 = c .before .before .before .before .before .before in let b10 = b6 .before .before .before .before in let h = b10 .pre .1 .0 .room in let g = b10 .pre .1 .0 .deep in let i = b10 .pre .1 .2 .inside in let j = b10 .pre .1 .2 .deeper in let z : length (set (b10 .args .out .now) (b10 .args .pos) 251) ≡ length (b10 .args .out .now) = length-set (b10 .args .out .now) (b10 .args .pos) 251 in let a = told-ok (scan (b10 .args .n) true) (b10 .args .row .now) (b10 .args .depth - 1) (b10 .args .at + 1) (b10 .args .pos + 1) (set (b10 .args .out .now) (b10 .args .pos) 251) _ _ (b6 .scan-pred .ensures) (not-false _ (c .before .before .if1 .left)) in let b = bounds a in let u = b .up in let v = b .inside in let w = b .low in let k = b6 .scan-pred .kept .1 .1 .1 .1 .1 .0 in let s = start-low (b6 .scan-pred .result .gone) (c .before .start-of .result) (b10 .args .pos) (b6 .scan-pred .result .end) (b10 .args .pos + 1 + 2 * (b6 .scan-pred .result .next - (b10 .args .at + 1))) (c .before .start-of .ensures) (omega arith) (omega arith) in (omega arith, (record { room = omega arith; short = b10 .pre .1 .0 .short; deep = omega arith }, b10 .pre .1 .1))
 
 scan-implies-same-length-2 : (t : ℕ) → scan-implies-lts.Need-same-length-2 (scan-implies-calls t) (scan-implies-at t) scan-implies.Post
-scan-implies-same-length-2 t c = let b8 = c .before .before .before .before .before .before .before .before in let b13 = b8 .before .before .before .before .before in c .before .before .finish-not .kept .0 ∙ b8 .scan-next .kept .1 .1 .1 .1 .1 .0 ∙ (simp length-set at (b13 .scan-pred .kept .1 .1 .1 .1 .1 .0))
+scan-implies-same-length-2 t c = let b4 = c .before .before .before .before in let b11 = b4 .before .before .before .before .before .before .before in b4 .scan-next .kept .1 .1 .1 .1 .1 .0 ∙ (simp length-set at (b11 .scan-pred .kept .1 .1 .1 .1 .1 .0))
 
 scan-implies-returns-2 : (t : ℕ) → scan-implies-lts.Need-returns-2 (scan-implies-calls t) (scan-implies-at t) scan-implies.Post
-scan-implies-returns-2 t c = let b4 = c .before .before .before .before in let b5 = b4 .before in let b8 = b5 .before .before .before in let b13 = b8 .before .before .before .before .before in let b17 = b13 .before .before .before .before in let r = b17 .pre .1 .0 in let i = fits (b17 .args .row .now) (b17 .args .depth) (b17 .args .at) (r .form) (r .is) in let s = some-words (r .form) in let m = r .room in let g = r .deep in let x = implies-at (b17 .args .row .now) (b17 .args .at) (b17 .args .depth) (r .form) (r .is) (b17 .pre .1 .2) in let l = x .words in let e = x .deep in let low : b17 .args .pos + 1 ≤ length (b17 .args .out .now) = omega arith in λ f e. let y = implies-at (b17 .args .row .now) (b17 .args .at) (b17 .args .depth) f e (b17 .pre .1 .2) in left-alone (b17 .args .row .now) (b17 .args .at) (b17 .args .n) (b17 .args .pos) f (y .left) (y .right) (y .is) (y .words) (b17 .args .out .now) _ _ low _ _ (b13 .scan-pred .ensures (y .left) (y .left-stands)) _ (right-told (b17 .args .row .now) (b17 .args .at) _ (b17 .args .n) _ 0 _ (y .left) (y .right) _ _ _ _ _ (b13 .scan-pred .ensures (y .left) (y .left-stands)) (b8 .scan-next .ensures) (y .right-stands)) (b5 .if1 .left) (b4 .if2 .taken) (start-end _ _ _ _ (b8 .before .before .start-of .ensures) (b5 .if1 .left)) _ _ (c .before .before .finish-not .ensures)
+scan-implies-returns-2 t c = let b4 = c .before .before .before .before in let b7 = b4 .before .before .before in let b11 = b7 .before .before .before .before in let b15 = b11 .before .before .before .before in let a = told-ok (scan (b15 .args .n) true) (b15 .args .row .now) (b15 .args .depth - 1) (b15 .args .at + 1) (b15 .args .pos + 1) (set (b15 .args .out .now) (b15 .args .pos) 251) _ _ (b11 .scan-pred .ensures) (not-false _ (b7 .if1 .left)) in right-no (b15 .args .row .now) (b15 .args .depth) (b15 .args .at) (b15 .args .n) (b15 .args .pos) (b15 .pre .1 .2) (b15 .pre .1 .3) (b15 .args .out .now) _ _ a _ _ _ (b4 .scan-next .ensures) (not-true _ (c .if2 .taken))
 
 scan-implies-same-length-3 : (t : ℕ) → scan-implies-lts.Need-same-length-3 (scan-implies-calls t) (scan-implies-at t) scan-implies.Post
-scan-implies-same-length-3 t c = c .before .before .before .before .scan-next .kept .1 .1 .1 .1 .1 .0 ∙ (simp length-set at (c .before .before .before .before .before .before .before .before .before .scan-pred .kept .1 .1 .1 .1 .1 .0))
+scan-implies-same-length-3 t c = let b5 = c .before .before .before .before .before in let b12 = b5 .before .before .before .before .before .before .before in b5 .scan-next .kept .1 .1 .1 .1 .1 .0 ∙ (simp length-set at (b12 .scan-pred .kept .1 .1 .1 .1 .1 .0))
 
 scan-implies-returns-3 : (t : ℕ) → scan-implies-lts.Need-returns-3 (scan-implies-calls t) (scan-implies-at t) scan-implies.Post
-scan-implies-returns-3 t c = let b4 = c .before .before .before .before in let b9 = b4 .before .before .before .before .before in let b13 = b9 .before .before .before .before in let r = b13 .pre .1 .0 in let i = fits (b13 .args .row .now) (b13 .args .depth) (b13 .args .at) (r .form) (r .is) in let s = some-words (r .form) in let m = r .room in let g = r .deep in let x = implies-at (b13 .args .row .now) (b13 .args .at) (b13 .args .depth) (r .form) (r .is) (b13 .pre .1 .2) in let l = x .words in let e = x .deep in let low : b13 .args .pos + 1 ≤ length (b13 .args .out .now) = omega arith in λ f e. let y = implies-at (b13 .args .row .now) (b13 .args .at) (b13 .args .depth) f e (b13 .pre .1 .2) in both-left (b13 .args .row .now) (b13 .args .at) (b13 .args .n) (b13 .args .pos) f (y .left) (y .right) (y .is) (y .words) (b13 .args .out .now) _ _ low _ _ (b9 .scan-pred .ensures (y .left) (y .left-stands)) _ (right-told (b13 .args .row .now) (b13 .args .at) _ (b13 .args .n) _ 0 _ (y .left) (y .right) _ _ _ _ _ (b9 .scan-pred .ensures (y .left) (y .left-stands)) (b4 .scan-next .ensures) (y .right-stands)) (c .before .if1 .left) (c .if2 .left) (start-end _ _ _ _ (b4 .before .before .start-of .ensures) (c .before .if1 .left))
+scan-implies-returns-3 t c = let b5 = c .before .before .before .before .before in let b7 = b5 .before .before in let b8 = b7 .before in let b12 = b8 .before .before .before .before in let b16 = b12 .before .before .before .before in let h = b16 .pre .1 .0 .room in let g = b16 .pre .1 .0 .deep in let i = b16 .pre .1 .2 .inside in let j = b16 .pre .1 .2 .deeper in let low : b16 .args .pos + 1 ≤ length (b16 .args .out .now) = omega arith in let a = told-ok (scan (b16 .args .n) true) (b16 .args .row .now) (b16 .args .depth - 1) (b16 .args .at + 1) (b16 .args .pos + 1) (set (b16 .args .out .now) (b16 .args .pos) 251) _ _ (b12 .scan-pred .ensures) (not-false _ (b8 .if1 .left)) in right-alone (b16 .args .row .now) (b16 .args .depth) (b16 .args .at) (b16 .args .n) (b16 .args .pos) (b16 .pre .1 .2) (b16 .pre .1 .3) (b16 .args .out .now) _ _ a _ _ _ (b5 .scan-next .ensures) low (not-false _ (c .before .if2 .left)) (c .if3 .taken) (start-pos _ _ _ _ (b7 .start-of .ensures) (c .if3 .taken))
 
-scan-junction-mul-tag : (t : ℕ) → scan-junction-lts.Need-mul-tag (scan-junction-calls t) (scan-junction-at t) scan-junction.Post
-scan-junction-mul-tag t c = let b2 = c .before .before in let r = b2 .pre .1 .0 in let i = fits (b2 .args .row .now) (b2 .args .depth) (b2 .args .at) (r .form) (r .is) in let s = some-words (r .form) in let m = r .room in let g = r .deep in let x = junction-at (b2 .args .row .now) (b2 .args .at) (b2 .args .positive) (b2 .args .depth) (r .form) (r .is) (b2 .pre .1 .2) in let l = x .long in let e = x .deep in omega arith
+scan-implies-finish-not-requires : (t : ℕ) → scan-implies-lts.Need-finish-not-requires (scan-implies-calls t) (scan-implies-at t) scan-implies.Post
+scan-implies-finish-not-requires t c κs = let b7 = c .before .before .before .before .before .before .before in let b10 = b7 .before .before .before in let b14 = b10 .before .before .before .before in let b18 = b14 .before .before .before .before in let h = b18 .pre .1 .0 .room in let g = b18 .pre .1 .0 .deep in let i = b18 .pre .1 .2 .inside in let j = b18 .pre .1 .2 .deeper in let low : b18 .args .pos + 1 ≤ length (b18 .args .out .now) = omega arith in let a = told-ok (scan (b18 .args .n) true) (b18 .args .row .now) (b18 .args .depth - 1) (b18 .args .at + 1) (b18 .args .pos + 1) (set (b18 .args .out .now) (b18 .args .pos) 251) _ _ (b14 .scan-pred .ensures) (not-false _ (b10 .if1 .left)) in let r = child-room (b18 .args .pos) (rw (length-set (b18 .args .out .now) (b18 .args .pos) 251) low) (a .became) (c .before .before .if3 .left) in let k = b7 .scan-next .kept .1 .1 .1 .1 .1 .0 in omega arith
 
-scan-junction-shared-slice-read-tag : (t : ℕ) → scan-junction-lts.Need-shared-slice-read-tag (scan-junction-calls t) (scan-junction-at t) scan-junction.Post
-scan-junction-shared-slice-read-tag t c = let b3 = c .before .before .before in let r = b3 .pre .1 .0 in let i = fits (b3 .args .row .now) (b3 .args .depth) (b3 .args .at) (r .form) (r .is) in let s = some-words (r .form) in let m = r .room in let g = r .deep in let x = junction-at (b3 .args .row .now) (b3 .args .at) (b3 .args .positive) (b3 .args .depth) (r .form) (r .is) (b3 .pre .1 .2) in let l = x .long in let e = x .deep in omega arith
+scan-implies-same-length-4 : (t : ℕ) → scan-implies-lts.Need-same-length-4 (scan-implies-calls t) (scan-implies-at t) scan-implies.Post
+scan-implies-same-length-4 t c = let b10 = c .before .before .before .before .before .before .before .before .before .before in let b17 = b10 .before .before .before .before .before .before .before in c .before .before .finish-not .kept .0 ∙ b10 .scan-next .kept .1 .1 .1 .1 .1 .0 ∙ (simp length-set at (b17 .scan-pred .kept .1 .1 .1 .1 .1 .0))
 
-scan-junction-add-count : (t : ℕ) → scan-junction-lts.Need-add-count (scan-junction-calls t) (scan-junction-at t) scan-junction.Post
-scan-junction-add-count t c = let b3 = c .before .before .before in let r = b3 .pre .1 .0 in let i = fits (b3 .args .row .now) (b3 .args .depth) (b3 .args .at) (r .form) (r .is) in let s = some-words (r .form) in let m = r .room in let g = r .deep in let x = junction-at (b3 .args .row .now) (b3 .args .at) (b3 .args .positive) (b3 .args .depth) (r .form) (r .is) (b3 .pre .1 .2) in let l = x .long in let e = x .deep in omega arith
+scan-implies-returns-4 : (t : ℕ) → scan-implies-lts.Need-returns-4 (scan-implies-calls t) (scan-implies-at t) scan-implies.Post
+scan-implies-returns-4 t c = let b4 = c .before .before .before .before in let b5 = b4 .before in let b6 = b5 .before in let b10 = b6 .before .before .before .before in let b12 = b10 .before .before in let b13 = b12 .before in let b17 = b13 .before .before .before .before in let b21 = b17 .before .before .before .before in let h = b21 .pre .1 .0 .room in let g = b21 .pre .1 .0 .deep in let i = b21 .pre .1 .2 .inside in let j = b21 .pre .1 .2 .deeper in let low : b21 .args .pos + 1 ≤ length (b21 .args .out .now) = omega arith in let a = told-ok (scan (b21 .args .n) true) (b21 .args .row .now) (b21 .args .depth - 1) (b21 .args .at + 1) (b21 .args .pos + 1) (set (b21 .args .out .now) (b21 .args .pos) 251) _ _ (b17 .scan-pred .ensures) (not-false _ (b13 .if1 .left)) in left-alone (b21 .args .row .now) (b21 .args .depth) (b21 .args .at) (b21 .args .n) (b21 .args .pos) (b21 .pre .1 .2) (b21 .pre .1 .3) (b21 .args .out .now) _ _ a _ _ _ (b10 .scan-next .ensures) low (not-false _ (b6 .if2 .left)) (b5 .if3 .left) (b4 .if4 .taken) (start-end _ _ _ _ (b12 .start-of .ensures) (b5 .if3 .left)) _ _ (c .before .before .finish-not .ensures)
 
-scan-junction-mul-count : (t : ℕ) → scan-junction-lts.Need-mul-count (scan-junction-calls t) (scan-junction-at t) scan-junction.Post
-scan-junction-mul-count t c = let b3 = c .before .before .before in let r = b3 .pre .1 .0 in let i = fits (b3 .args .row .now) (b3 .args .depth) (b3 .args .at) (r .form) (r .is) in let s = some-words (r .form) in let m = r .room in let g = r .deep in let x = junction-at (b3 .args .row .now) (b3 .args .at) (b3 .args .positive) (b3 .args .depth) (r .form) (r .is) (b3 .pre .1 .2) in let l = x .long in let e = x .deep in omega arith
+scan-implies-same-length-5 : (t : ℕ) → scan-implies-lts.Need-same-length-5 (scan-implies-calls t) (scan-implies-at t) scan-implies.Post
+scan-implies-same-length-5 t c = let b6 = c .before .before .before .before .before .before in let b13 = b6 .before .before .before .before .before .before .before in b6 .scan-next .kept .1 .1 .1 .1 .1 .0 ∙ (simp length-set at (b13 .scan-pred .kept .1 .1 .1 .1 .1 .0))
 
-scan-junction-shared-slice-read-count : (t : ℕ) → scan-junction-lts.Need-shared-slice-read-count (scan-junction-calls t) (scan-junction-at t) scan-junction.Post
-scan-junction-shared-slice-read-count t c = let b4 = c .before .before .before .before in let r = b4 .pre .1 .0 in let i = fits (b4 .args .row .now) (b4 .args .depth) (b4 .args .at) (r .form) (r .is) in let s = some-words (r .form) in let m = r .room in let g = r .deep in let x = junction-at (b4 .args .row .now) (b4 .args .at) (b4 .args .positive) (b4 .args .depth) (r .form) (r .is) (b4 .pre .1 .2) in let l = x .long in let e = x .deep in omega arith
+scan-implies-returns-5 : (t : ℕ) → scan-implies-lts.Need-returns-5 (scan-implies-calls t) (scan-implies-at t) scan-implies.Post
+scan-implies-returns-5 t c = let b6 = c .before .before .before .before .before .before in let b8 = b6 .before .before in let b9 = b8 .before in let b13 = b9 .before .before .before .before in let b17 = b13 .before .before .before .before in let h = b17 .pre .1 .0 .room in let g = b17 .pre .1 .0 .deep in let i = b17 .pre .1 .2 .inside in let j = b17 .pre .1 .2 .deeper in let low : b17 .args .pos + 1 ≤ length (b17 .args .out .now) = omega arith in let a = told-ok (scan (b17 .args .n) true) (b17 .args .row .now) (b17 .args .depth - 1) (b17 .args .at + 1) (b17 .args .pos + 1) (set (b17 .args .out .now) (b17 .args .pos) 251) _ _ (b13 .scan-pred .ensures) (not-false _ (b9 .if1 .left)) in both-left (b17 .args .row .now) (b17 .args .depth) (b17 .args .at) (b17 .args .n) (b17 .args .pos) (b17 .pre .1 .2) (b17 .pre .1 .3) (b17 .args .out .now) _ _ a _ _ _ (b6 .scan-next .ensures) low (not-false _ (c .before .before .if2 .left)) (c .before .if3 .left) (c .if4 .left) (start-end _ _ _ _ (b8 .start-of .ensures) (c .before .if3 .left))
 
-scan-junction-add-search-children : (t : ℕ) → scan-junction-lts.Need-add-search-children (scan-junction-calls t) (scan-junction-at t) scan-junction.Post
-scan-junction-add-search-children t c = let b4 = c .before .before .before .before in let r = b4 .pre .1 .0 in let i = fits (b4 .args .row .now) (b4 .args .depth) (b4 .args .at) (r .form) (r .is) in let s = some-words (r .form) in let m = r .room in let g = r .deep in let x = junction-at (b4 .args .row .now) (b4 .args .at) (b4 .args .positive) (b4 .args .depth) (r .form) (r .is) (b4 .pre .1 .2) in let l = x .long in let e = x .deep in omega arith
+scan-junction-add-if1 : (t : ℕ) → scan-junction-lts.Need-add-if1 (scan-junction-calls t) (scan-junction-at t) scan-junction.Post
+scan-junction-add-if1 t c = search needs
 
-scan-junction-sub-search-children : (t : ℕ) → scan-junction-lts.Need-sub-search-children (scan-junction-calls t) (scan-junction-at t) scan-junction.Post
-scan-junction-sub-search-children t c = let b4 = c .before .before .before .before in let r = b4 .pre .1 .0 in let i = fits (b4 .args .row .now) (b4 .args .depth) (b4 .args .at) (r .form) (r .is) in let s = some-words (r .form) in let m = r .room in let g = r .deep in let x = junction-at (b4 .args .row .now) (b4 .args .at) (b4 .args .positive) (b4 .args .depth) (r .form) (r .is) (b4 .pre .1 .2) in let l = x .long in let e = x .deep in omega arith
-
-scan-junction-add-search-children-2 : (t : ℕ) → scan-junction-lts.Need-add-search-children-2 (scan-junction-calls t) (scan-junction-at t) scan-junction.Post
-scan-junction-add-search-children-2 t c = let b5 = c .before .before .before .before .before in let r = b5 .pre .1 .0 in let i = fits (b5 .args .row .now) (b5 .args .depth) (b5 .args .at) (r .form) (r .is) in let s = some-words (r .form) in let m = r .room in let g = r .deep in let x = junction-at (b5 .args .row .now) (b5 .args .at) (b5 .args .positive) (b5 .args .depth) (r .form) (r .is) (b5 .pre .1 .2) in let l = x .long in let e = x .deep in omega arith
-
-scan-junction-search-children-requires : (t : ℕ) → scan-junction-lts.Need-search-children-requires (scan-junction-calls t) (scan-junction-at t) scan-junction.Post
-scan-junction-search-children-requires t c κs = let b5 = c .before .before .before .before .before in let r = b5 .pre .1 .0 in let i = fits (b5 .args .row .now) (b5 .args .depth) (b5 .args .at) (r .form) (r .is) in let s = some-words (r .form) in let m = r .room in let g = r .deep in let x = junction-at (b5 .args .row .now) (b5 .args .at) (b5 .args .positive) (b5 .args .depth) (r .form) (r .is) (b5 .pre .1 .2) in let l = x .long in let e = x .deep in (omega arith, (rw (x .number-is) (x .standing _ _ (omega arith)), r .short, omega arith, b5 .pre .1 .1))
-
-scan-junction-sub-skip-preds : (t : ℕ) → scan-junction-lts.Need-sub-skip-preds (scan-junction-calls t) (scan-junction-at t) scan-junction.Post
-scan-junction-sub-skip-preds t c = let b8 = c .before .before .before .before .before .before .before .before in let r = b8 .pre .1 .0 in let i = fits (b8 .args .row .now) (b8 .args .depth) (b8 .args .at) (r .form) (r .is) in let s = some-words (r .form) in let m = r .room in let g = r .deep in let x = junction-at (b8 .args .row .now) (b8 .args .at) (b8 .args .positive) (b8 .args .depth) (r .form) (r .is) (b8 .pre .1 .2) in let l = x .long in let e = x .deep in omega arith
-
-scan-junction-skip-preds-requires : (t : ℕ) → scan-junction-lts.Need-skip-preds-requires (scan-junction-calls t) (scan-junction-at t) scan-junction.Post
-scan-junction-skip-preds-requires t c κs = let b8 = c .before .before .before .before .before .before .before .before in let r = b8 .pre .1 .0 in let i = fits (b8 .args .row .now) (b8 .args .depth) (b8 .args .at) (r .form) (r .is) in let s = some-words (r .form) in let m = r .room in let g = r .deep in let x = junction-at (b8 .args .row .now) (b8 .args .at) (b8 .args .positive) (b8 .args .depth) (r .form) (r .is) (b8 .pre .1 .2) in let l = x .long in let e = x .deep in (kids-anew (b8 .args .row .now) _ _ _ _ _ (c .before .before .search-children .ensures .rest), omega arith)
-
-scan-junction-copy-part-requires : (t : ℕ) → scan-junction-lts.Need-copy-part-requires (scan-junction-calls t) (scan-junction-at t) scan-junction.Post
-scan-junction-copy-part-requires t c κs = let b4 = c .before .before .before .before in let b10 = b4 .before .before .before .before .before .before in let r = b10 .pre .1 .0 in let i = fits (b10 .args .row .now) (b10 .args .depth) (b10 .args .at) (r .form) (r .is) in let s = some-words (r .form) in let m = r .room in let g = r .deep in let x = junction-at (b10 .args .row .now) (b10 .args .at) (b10 .args .positive) (b10 .args .depth) (r .form) (r .is) (b10 .pre .1 .2) in let l = x .long in let e = x .deep in let ka : kidsAt (b10 .args .row .now) ((b10 .args .depth) - 1) ((b10 .args .at) + 2) (getD (b10 .args .row .now) ((b10 .args .at) + 1) 0) ≡ x .kids = rw (x .number-is) (x .kids-are) in let nx = c .before .skip-preds .ensures in let en = b4 .search-children .ensures .ends in let ka′ = ap (λ z. length (encodeAll z)) ka in let kr = kids-room (b10 .args .row .now) _ _ _ _ _ (b4 .search-children .ensures .rest) in omega arith
-
-scan-junction-add-finish-junction : (t : ℕ) → scan-junction-lts.Need-add-finish-junction (scan-junction-calls t) (scan-junction-at t) scan-junction.Post
-scan-junction-add-finish-junction t c = let b9 = c .before .before .before .before .before .before .before .before .before in let b15 = b9 .before .before .before .before .before .before in let fw = b9 .search-children .ensures .few in omega (arith, b9 .before .before .shared-slice-known3 .given (b15 .args .at + 1))
-
-scan-junction-finish-junction-requires : (t : ℕ) → scan-junction-lts.Need-finish-junction-requires (scan-junction-calls t) (scan-junction-at t) scan-junction.Post
-scan-junction-finish-junction-requires t c κs = let b4 = c .before .before .before .before in let b9 = b4 .before .before .before .before .before in let b15 = b9 .before .before .before .before .before .before in let r = b15 .pre .1 .0 in let i = fits (b15 .args .row .now) (b15 .args .depth) (b15 .args .at) (r .form) (r .is) in let s = some-words (r .form) in let m = r .room in let g = r .deep in let x = junction-at (b15 .args .row .now) (b15 .args .at) (b15 .args .positive) (b15 .args .depth) (r .form) (r .is) (b15 .pre .1 .2) in let l = x .long in let e = x .deep in kids-end _ _ _ _ _ _ (b15 .args .out .now) _ _ _ (omega arith) (b9 .search-children .ensures .whole _ _ _ (kids-copied (b15 .args .row .now) _ _ _ _ _ _ _ _ _ _ (b9 .search-children .ensures .rest) (b4 .before .before .skip-preds .ensures) (b4 .copy-part .ensures .0)))
-
-scan-junction-same-length : (t : ℕ) → scan-junction-lts.Need-same-length (scan-junction-calls t) (scan-junction-at t) scan-junction.Post
-scan-junction-same-length t c = let b7 = c .before .before .before .before .before .before .before in let b12 = b7 .before .before .before .before .before in c .before .before .finish-junction .kept .0 ∙ b7 .copy-part .kept .1 .1 .1 .0 ∙ b12 .search-children .kept .1 .1 .1 .1 .1 .1 .0
+scan-junction-no-pred-requires : (t : ℕ) → scan-junction-lts.Need-no-pred-requires (scan-junction-calls t) (scan-junction-at t) scan-junction.Post
+scan-junction-no-pred-requires t c κs = search needs
 
 scan-junction-returns : (t : ℕ) → scan-junction-lts.Need-returns (scan-junction-calls t) (scan-junction-at t) scan-junction.Post
-scan-junction-returns t c = let b7 = c .before .before .before .before .before .before .before in let b9 = b7 .before .before in let b12 = b9 .before .before .before in let b18 = b12 .before .before .before .before .before .before in let r = b18 .pre .1 .0 in let i = fits (b18 .args .row .now) (b18 .args .depth) (b18 .args .at) (r .form) (r .is) in let s = some-words (r .form) in let m = r .room in let g = r .deep in let x = junction-at (b18 .args .row .now) (b18 .args .at) (b18 .args .positive) (b18 .args .depth) (r .form) (r .is) (b18 .pre .1 .2) in let l = x .long in let e = x .deep in let low : b18 .args .pos + 2 ≤ length (b18 .args .out .now) = omega arith in λ f e. let y = junction-at (b18 .args .row .now) (b18 .args .at) (b18 .args .positive) (b18 .args .depth) f e (b18 .pre .1 .2) in let l′ = y .long in let ka : kidsAt (b18 .args .row .now) ((b18 .args .depth) - 1) ((b18 .args .at) + 2) (getD (b18 .args .row .now) ((b18 .args .at) + 1) 0) ≡ y .kids = rw (y .number-is) (y .kids-are) in let nx = b9 .skip-preds .ensures in let en = b12 .search-children .ensures .ends in let ka′ = ap (λ z. length (encodeAll z)) ka in rw (y .scan-is (b18 .args .n)) (junction-done (b18 .args .row .now) (b18 .args .at) (b18 .args .pos) _ _ (y .tag) f (y .kids) (y .long) (y .not-eight) (b18 .args .out .now) _ _ low _ _ _ _ (omega arith) (rw (y .tag-is) at (c .before .before .finish-junction .ensures)) _ (rw ka at (b12 .search-children .ensures .whole _ _ _ (kids-copied (b18 .args .row .now) _ _ _ _ _ _ _ _ _ _ (b12 .search-children .ensures .rest) (b9 .skip-preds .ensures) (b7 .copy-part .ensures .0)))))
+scan-junction-returns t c = let b4 = c .before .before .before .before in let y = junction-tag (getD (b4 .args .row .now) (b4 .args .at) 0) (b4 .args .positive) (b4 .pre .1 .3) in tell-no (scan (b4 .args .n) (b4 .args .positive)) (b4 .args .row .now) (b4 .args .depth) (b4 .args .at) (b4 .args .pos) (b4 .args .out .now) _ _ (no-count (b4 .args .row .now) (b4 .args .at) (b4 .pre .1 .2 .inside) (getD (b4 .args .row .now) (b4 .args .at) 0) (y .node-tag) (y .shape) refl (b4 .args .depth) (b4 .pre .1 .2 .deeper) (c .before .if1 .taken)) (c .no-pred .ensures)
+
+scan-junction-mul-tag : (t : ℕ) → scan-junction-lts.Need-mul-tag (scan-junction-calls t) (scan-junction-at t) scan-junction.Post
+scan-junction-mul-tag t c = search needs
+
+scan-junction-shared-slice-read-tag : (t : ℕ) → scan-junction-lts.Need-shared-slice-read-tag (scan-junction-calls t) (scan-junction-at t) scan-junction.Post
+scan-junction-shared-slice-read-tag t c = search needs
+
+scan-junction-add-count : (t : ℕ) → scan-junction-lts.Need-add-count (scan-junction-calls t) (scan-junction-at t) scan-junction.Post
+scan-junction-add-count t c = search needs
+
+scan-junction-mul-count : (t : ℕ) → scan-junction-lts.Need-mul-count (scan-junction-calls t) (scan-junction-at t) scan-junction.Post
+scan-junction-mul-count t c = search needs
+
+scan-junction-shared-slice-read-count : (t : ℕ) → scan-junction-lts.Need-shared-slice-read-count (scan-junction-calls t) (scan-junction-at t) scan-junction.Post
+scan-junction-shared-slice-read-count t c = search needs
+
+scan-junction-no-pred-requires-2 : (t : ℕ) → scan-junction-lts.Need-no-pred-requires-2 (scan-junction-calls t) (scan-junction-at t) scan-junction.Post
+scan-junction-no-pred-requires-2 t c κs = search needs
+
+scan-junction-returns-2 : (t : ℕ) → scan-junction-lts.Need-returns-2 (scan-junction-calls t) (scan-junction-at t) scan-junction.Post
+scan-junction-returns-2 t c = let b4 = c .before .before .before .before in let b7 = b4 .before .before .before in let y = junction-tag (getD (b7 .args .row .now) (b7 .args .at) 0) (b7 .args .positive) (b7 .pre .1 .3) in let two : b7 .args .at + 1 < length (b7 .args .row .now) = let q = b4 .if1 .left in omega arith in tell-no (scan (b7 .args .n) (b7 .args .positive)) (b7 .args .row .now) (b7 .args .depth) (b7 .args .at) (b7 .args .pos) (b7 .args .out .now) _ _ (few-count (b7 .args .row .now) (b7 .args .at) (b7 .pre .1 .2 .inside) (getD (b7 .args .row .now) (b7 .args .at) 0) (y .node-tag) (y .shape) refl two (b7 .args .depth) (b7 .pre .1 .2 .deeper) (c .before .if2 .taken)) (c .no-pred2 .ensures)
+
+scan-junction-add-search-children : (t : ℕ) → scan-junction-lts.Need-add-search-children (scan-junction-calls t) (scan-junction-at t) scan-junction.Post
+scan-junction-add-search-children t c = search needs
+
+scan-junction-sub-search-children : (t : ℕ) → scan-junction-lts.Need-sub-search-children (scan-junction-calls t) (scan-junction-at t) scan-junction.Post
+scan-junction-sub-search-children t c = search needs
+
+scan-junction-add-search-children-2 : (t : ℕ) → scan-junction-lts.Need-add-search-children-2 (scan-junction-calls t) (scan-junction-at t) scan-junction.Post
+scan-junction-add-search-children-2 t c = search needs
+
+scan-junction-search-children-requires : (t : ℕ) → scan-junction-lts.Need-search-children-requires (scan-junction-calls t) (scan-junction-at t) scan-junction.Post
+scan-junction-search-children-requires t c κs = let b4 = c .before .before .before .before in let b7 = b4 .before .before .before in let h = b7 .pre .1 .0 .room in let g = b7 .pre .1 .0 .deep in let i = b7 .pre .1 .2 .inside in let j = b7 .pre .1 .2 .deeper in let two : b7 .args .at + 1 < length (b7 .args .row .now) = let q = b4 .if1 .left in omega arith in (omega arith, (record { room = omega arith; short = b7 .pre .1 .0 .short; deep = omega arith }, b7 .pre .1 .1, omega arith))
+
+scan-junction-sub-skip-preds : (t : ℕ) → scan-junction-lts.Need-sub-skip-preds (scan-junction-calls t) (scan-junction-at t) scan-junction.Post
+scan-junction-sub-skip-preds t c = search needs
+
+scan-junction-skip-preds-requires : (t : ℕ) → scan-junction-lts.Need-skip-preds-requires (scan-junction-calls t) (scan-junction-at t) scan-junction.Post
+scan-junction-skip-preds-requires t c κs = let b10 = c .before .before .before .before .before .before .before .before .before .before in let h = b10 .pre .1 .0 .room in let g = b10 .pre .1 .0 .deep in let i = b10 .pre .1 .2 .inside in let j = b10 .pre .1 .2 .deeper in omega arith
+
+scan-junction-enum-known-next : (t : ℕ) → scan-junction-lts.Need-enum-known-next (scan-junction-calls t) (scan-junction-at t) scan-junction.Post
+scan-junction-enum-known-next t c = search needs
+
+scan-junction-enum-told : (t : ℕ) → scan-junction-lts.Need-enum-told (scan-junction-calls t) (scan-junction-at t) scan-junction.Post
+scan-junction-enum-told t c = search needs
+
+scan-junction-no-pred-requires-3 : (t : ℕ) → scan-junction-lts.Need-no-pred-requires-3 (scan-junction-calls t) (scan-junction-at t) scan-junction.Post
+scan-junction-no-pred-requires-3 t c κs = search needs
+
+scan-junction-same-length : (t : ℕ) → scan-junction-lts.Need-same-length (scan-junction-calls t) (scan-junction-at t) scan-junction.Post
+scan-junction-same-length t c = let b6 = c .before .before .before .before .before .before in b6 .search-children .kept .1 .1 .1 .1 .1 .1 .0
+
+scan-junction-returns-3 : (t : ℕ) → scan-junction-lts.Need-returns-3 (scan-junction-calls t) (scan-junction-at t) scan-junction.Post
+scan-junction-returns-3 t c = let b3 = c .before .before .before in let b6 = b3 .before .before .before in let b8 = b6 .before .before in let b9 = b8 .before in let b11 = b9 .before .before in let b14 = b11 .before .before .before in let y = junction-tag (getD (b14 .args .row .now) (b14 .args .at) 0) (b14 .args .positive) (b14 .pre .1 .3) in let two : b14 .args .at + 1 < length (b14 .args .row .now) = let q = b11 .if1 .left in omega arith in let most : getD (b14 .args .row .now) (b14 .args .at + 1) 0 ≤ 4294967295 = omega (arith, b9 .shared-slice-known3 .given (b14 .args .at + 1)) in tell-no (scan (b14 .args .n) (b14 .args .positive)) (b14 .args .row .now) (b14 .args .depth) (b14 .args .at) (b14 .args .pos) (b14 .args .out .now) _ _ (junction-no (b14 .args .row .now) (b14 .args .at) (b14 .pre .1 .2 .inside) (getD (b14 .args .row .now) (b14 .args .at) 0) (y .node-tag) (y .shape) refl two (b14 .args .depth) (b14 .pre .1 .2 .deeper) (b8 .if2 .left) most (b6 .search-children .ensures .same ∙ kids-bad (b14 .args .row .now) (b14 .args .depth - 1) _ _ _ (b3 .skip-preds .ensures) (c .before .enum-told .given .1))) (c .no-pred3 .ensures)
+
+scan-junction-copy-part-requires : (t : ℕ) → scan-junction-lts.Need-copy-part-requires (scan-junction-calls t) (scan-junction-at t) scan-junction.Post
+scan-junction-copy-part-requires t c κs = let b4 = c .before .before .before .before in let b7 = b4 .before .before .before in let b12 = b7 .before .before .before .before .before in let b15 = b12 .before .before .before in let h = b15 .pre .1 .0 .room in let g = b15 .pre .1 .0 .deep in let i = b15 .pre .1 .2 .inside in let j = b15 .pre .1 .2 .deeper in let two : b15 .args .at + 1 < length (b15 .args .row .now) = let q = b12 .if1 .left in omega arith in let k = kids-read (b15 .args .row .now) (b15 .args .depth - 1) (b7 .search-children .result .next) (b7 .search-children .result .left) _ _ (b4 .skip-preds .ensures) (c .before .before .next .given .1) in let e = k .1 in let r = b7 .search-children .ensures .room in let n = b7 .search-children .ensures .inside in let w = kids-inside (b15 .args .row .now) (b15 .args .depth - 1) (b7 .search-children .result .next) (b7 .search-children .result .left) (k .0) n in let l = b7 .search-children .kept .1 .1 .1 .1 .1 .1 .0 in omega arith
+
+scan-junction-add-finish-junction : (t : ℕ) → scan-junction-lts.Need-add-finish-junction (scan-junction-calls t) (scan-junction-at t) scan-junction.Post
+scan-junction-add-finish-junction t c = let b12 = c .before .before .before .before .before .before .before .before .before .before .before .before in let b15 = b12 .before .before .before in let b20 = b15 .before .before .before .before .before in let f = b12 .search-children .ensures .few in omega (arith, b15 .shared-slice-known3 .given (b20 .args .at + 1))
+
+scan-junction-finish-junction-requires : (t : ℕ) → scan-junction-lts.Need-finish-junction-requires (scan-junction-calls t) (scan-junction-at t) scan-junction.Post
+scan-junction-finish-junction-requires t c κs = let b4 = c .before .before .before .before in let b7 = b4 .before .before .before in let b9 = b7 .before .before in let b12 = b9 .before .before .before in let b20 = b12 .before .before .before .before .before .before .before .before in let h = b20 .pre .1 .0 .room in let g = b20 .pre .1 .0 .deep in let i = b20 .pre .1 .2 .inside in let j = b20 .pre .1 .2 .deeper in let k = kids-read (b20 .args .row .now) (b20 .args .depth - 1) (b12 .search-children .result .next) (b12 .search-children .result .left) _ _ (b9 .skip-preds .ensures) (b7 .next .given .1) in kids-end _ _ _ _ _ _ (b20 .args .out .now) _ _ _ (omega arith) (b12 .search-children .ensures .whole (k .0) _ _ _ (kids-copied (b20 .args .row .now) (b20 .args .depth - 1) _ _ (k .0) _ _ _ _ _ _ (k .1) (b4 .copy-part .ensures .0)))
+
+scan-junction-same-length-2 : (t : ℕ) → scan-junction-lts.Need-same-length-2 (scan-junction-calls t) (scan-junction-at t) scan-junction.Post
+scan-junction-same-length-2 t c = let b7 = c .before .before .before .before .before .before .before in let b15 = b7 .before .before .before .before .before .before .before .before in c .before .before .finish-junction .kept .0 ∙ b7 .copy-part .kept .1 .1 .1 .0 ∙ b15 .search-children .kept .1 .1 .1 .1 .1 .1 .0
+
+scan-junction-returns-4 : (t : ℕ) → scan-junction-lts.Need-returns-4 (scan-junction-calls t) (scan-junction-at t) scan-junction.Post
+scan-junction-returns-4 t c = let b7 = c .before .before .before .before .before .before .before in let b10 = b7 .before .before .before in let b12 = b10 .before .before in let b15 = b12 .before .before .before in let b17 = b15 .before .before in let b18 = b17 .before in let b20 = b18 .before .before in let b23 = b20 .before .before .before in let h = b23 .pre .1 .0 .room in let g = b23 .pre .1 .0 .deep in let i = b23 .pre .1 .2 .inside in let j = b23 .pre .1 .2 .deeper in let y = junction-tag (getD (b23 .args .row .now) (b23 .args .at) 0) (b23 .args .positive) (b23 .pre .1 .3) in let two : b23 .args .at + 1 < length (b23 .args .row .now) = let q = b20 .if1 .left in omega arith in let most : getD (b23 .args .row .now) (b23 .args .at + 1) 0 ≤ 4294967295 = omega (arith, b18 .shared-slice-known3 .given (b23 .args .at + 1)) in let k = kids-read (b23 .args .row .now) (b23 .args .depth - 1) (b15 .search-children .result .next) (b15 .search-children .result .left) _ _ (b12 .skip-preds .ensures) (b10 .next .given .1) in let x = junction-got (b23 .args .row .now) (b23 .args .at) (b23 .pre .1 .2 .inside) (getD (b23 .args .row .now) (b23 .args .at) 0) (y .node-tag) (y .shape) refl two (b23 .args .depth) (b23 .pre .1 .2 .deeper) (b17 .if2 .left) most (b15 .search-children .ensures .same ∙ k .0) in junction-told (b23 .args .row .now) (b23 .args .depth) (b23 .args .at) (b23 .args .n) (b23 .args .pos) (b23 .args .positive) (getD (b23 .args .row .now) (b23 .args .at) 0) (getD (b23 .args .row .now) (b23 .args .at + 1) 0) _ (x .0) (x .1) y _ _ (b23 .args .out .now) _ _ (omega arith) _ _ _ _ (k .1 ∙ b15 .search-children .ensures .ends (k .0)) (c .before .before .finish-junction .ensures) (b15 .search-children .ensures .whole (k .0) _ _ _ (kids-copied (b23 .args .row .now) (b23 .args .depth - 1) _ _ (k .0) _ _ _ _ _ _ (k .1) (b7 .copy-part .ensures .0)))
 
 scan-next-is-taken-requires : (t : ℕ) → scan-next-lts.Need-is-taken-requires (scan-next-calls t) (scan-next-at t) scan-next.Post
 scan-next-is-taken-requires t c κs = search needs
 
 scan-next-copy-pred-requires : (t : ℕ) → scan-next-lts.Need-copy-pred-requires (scan-next-calls t) (scan-next-at t) scan-next.Post
-scan-next-copy-pred-requires t c κs = c .before .before .before .before .before .pre .1 .0
+scan-next-copy-pred-requires t c κs = let b5 = c .before .before .before .before .before in b5 .pre .1 .0
 
 scan-next-same-length : (t : ℕ) → scan-next-lts.Need-same-length (scan-next-calls t) (scan-next-at t) scan-next.Post
 scan-next-same-length t c = c .before .before .copy-pred .kept .1 .1 .1 .0
 
 scan-next-returns : (t : ℕ) → scan-next-lts.Need-returns (scan-next-calls t) (scan-next-at t) scan-next.Post
-scan-next-returns t c = let b4 = c .before .before .before .before in let b8 = b4 .before .before .before .before in λ x t f e. next-copied (b8 .args .row .now) (b8 .args .at) (b8 .args .depth) (b8 .args .pos) (b8 .args .found) (b8 .args .out .now) _ (sym (b4 .before .is-taken .ensures) ∙ b4 .if1 .taken) _ (c .before .before .copy-pred .ensures) (b8 .args .n) x t f e
+scan-next-returns t c = let b4 = c .before .before .before .before in let b5 = b4 .before in let b8 = b5 .before .before .before in λ x t. next-copied (b8 .args .row .now) (b8 .args .at) (b8 .args .pos) (b8 .args .found) (b8 .args .out .now) _ (sym (b5 .is-taken .ensures) ∙ b4 .if1 .taken) _ _ (c .before .before .copy-pred .ensures) (b8 .args .n) x t
 
 scan-next-scan-pred-requires : (t : ℕ) → scan-next-lts.Need-scan-pred-requires (scan-next-calls t) (scan-next-at t) scan-next.Post
-scan-next-scan-pred-requires t c κs = (omega arith, (c .before .before .before .before .before .pre .1 .0, c .before .before .before .before .before .pre .1 .1))
+scan-next-scan-pred-requires t c κs = let b5 = c .before .before .before .before .before in (omega arith, (b5 .pre .1 .0, b5 .pre .1 .1))
 
 scan-next-same-length-2 : (t : ℕ) → scan-next-lts.Need-same-length-2 (scan-next-calls t) (scan-next-at t) scan-next.Post
 scan-next-same-length-2 t c = c .before .before .scan-pred .kept .1 .1 .1 .1 .1 .0
 
 scan-next-returns-2 : (t : ℕ) → scan-next-lts.Need-returns-2 (scan-next-calls t) (scan-next-at t) scan-next.Post
-scan-next-returns-2 t c = let b4 = c .before .before .before .before in let b8 = b4 .before .before .before .before in λ x t f e. next-scanned (b8 .args .row .now) (b8 .args .at) (b8 .args .depth) (b8 .args .pos) (b8 .args .found) (b8 .args .out .now) _ (sym (b4 .before .is-taken .ensures) ∙ b4 .if1 .left) _ (b8 .args .n) (c .before .before .scan-pred .ensures) x t f e
+scan-next-returns-2 t c = let b4 = c .before .before .before .before in let b5 = b4 .before in let b8 = b5 .before .before .before in λ x t. next-scanned (b8 .args .row .now) (b8 .args .at) (b8 .args .pos) (b8 .args .found) (b8 .args .out .now) _ (sym (b5 .is-taken .ensures) ∙ b4 .if1 .left) _ (b8 .args .n) _ (c .before .before .scan-pred .ensures) x t
 
 scan-not-add-scan-pred : (t : ℕ) → scan-not-lts.Need-add-scan-pred (scan-not-calls t) (scan-not-at t) scan-not.Post
-scan-not-add-scan-pred t c = let b2 = c .before .before in let r = b2 .pre .1 .0 in let i = fits (b2 .args .row .now) (b2 .args .depth) (b2 .args .at) (r .form) (r .is) in let s = some-words (r .form) in let m = r .room in let g = r .deep in let x = not-at (b2 .args .row .now) (b2 .args .at) (b2 .args .depth) (r .form) (r .is) (b2 .pre .1 .2) in let l = x .words in let e = x .deep in omega arith
+scan-not-add-scan-pred t c = search needs
 
 scan-not-sub-scan-pred : (t : ℕ) → scan-not-lts.Need-sub-scan-pred (scan-not-calls t) (scan-not-at t) scan-not.Post
-scan-not-sub-scan-pred t c = let b2 = c .before .before in let r = b2 .pre .1 .0 in let i = fits (b2 .args .row .now) (b2 .args .depth) (b2 .args .at) (r .form) (r .is) in let s = some-words (r .form) in let m = r .room in let g = r .deep in let x = not-at (b2 .args .row .now) (b2 .args .at) (b2 .args .depth) (r .form) (r .is) (b2 .pre .1 .2) in let l = x .words in let e = x .deep in omega arith
+scan-not-sub-scan-pred t c = search needs
 
 scan-not-add-scan-pred-2 : (t : ℕ) → scan-not-lts.Need-add-scan-pred-2 (scan-not-calls t) (scan-not-at t) scan-not.Post
-scan-not-add-scan-pred-2 t c = let b3 = c .before .before .before in let r = b3 .pre .1 .0 in let i = fits (b3 .args .row .now) (b3 .args .depth) (b3 .args .at) (r .form) (r .is) in let s = some-words (r .form) in let m = r .room in let g = r .deep in let x = not-at (b3 .args .row .now) (b3 .args .at) (b3 .args .depth) (r .form) (r .is) (b3 .pre .1 .2) in let l = x .words in let e = x .deep in omega arith
+scan-not-add-scan-pred-2 t c = search needs
 
 scan-not-scan-pred-requires : (t : ℕ) → scan-not-lts.Need-scan-pred-requires (scan-not-calls t) (scan-not-at t) scan-not.Post
-scan-not-scan-pred-requires t c κs = let b3 = c .before .before .before in let r = b3 .pre .1 .0 in let i = fits (b3 .args .row .now) (b3 .args .depth) (b3 .args .at) (r .form) (r .is) in let s = some-words (r .form) in let m = r .room in let g = r .deep in let x = not-at (b3 .args .row .now) (b3 .args .at) (b3 .args .depth) (r .form) (r .is) (b3 .pre .1 .2) in let l = x .words in let e = x .deep in (omega arith, (record { form = x .child; is = x .stands; room = omega arith; short = r .short; deep = omega arith }, b3 .pre .1 .1))
+scan-not-scan-pred-requires t c κs = let b3 = c .before .before .before in let h = b3 .pre .1 .0 .room in let g = b3 .pre .1 .0 .deep in let i = b3 .pre .1 .2 .inside in let j = b3 .pre .1 .2 .deeper in (omega arith, (record { room = omega arith; short = b3 .pre .1 .0 .short; deep = omega arith }, b3 .pre .1 .1))
 
 scan-not-same-length : (t : ℕ) → scan-not-lts.Need-same-length (scan-not-calls t) (scan-not-at t) scan-not.Post
-scan-not-same-length t c = c .before .before .before .scan-pred .kept .1 .1 .1 .1 .1 .0
+scan-not-same-length t c = let b4 = c .before .before .before .before in b4 .scan-pred .kept .1 .1 .1 .1 .1 .0
 
 scan-not-returns : (t : ℕ) → scan-not-lts.Need-returns (scan-not-calls t) (scan-not-at t) scan-not.Post
-scan-not-returns t c = let b3 = c .before .before .before in let b7 = b3 .before .before .before .before in let r = b7 .pre .1 .0 in let i = fits (b7 .args .row .now) (b7 .args .depth) (b7 .args .at) (r .form) (r .is) in let s = some-words (r .form) in let m = r .room in let g = r .deep in let x = not-at (b7 .args .row .now) (b7 .args .at) (b7 .args .depth) (r .form) (r .is) (b7 .pre .1 .2) in let l = x .words in let e = x .deep in let low : b7 .args .pos + 1 ≤ length (b7 .args .out .now) = omega arith in λ f e. let y = not-at (b7 .args .row .now) (b7 .args .at) (b7 .args .depth) f e (b7 .pre .1 .2) in not-gone (b7 .args .row .now) (b7 .args .at) (b7 .args .n) (b7 .args .pos) (b7 .args .positive) f (y .child) (y .is) (y .words) (b7 .args .out .now) _ low _ (b3 .scan-pred .ensures (y .child) (y .stands)) (c .if1 .taken)
-
-scan-not-finish-not-requires : (t : ℕ) → scan-not-lts.Need-finish-not-requires (scan-not-calls t) (scan-not-at t) scan-not.Post
-scan-not-finish-not-requires t c κs = let b4 = c .before .before .before .before in let b8 = b4 .before .before .before .before in let r = b8 .pre .1 .0 in let i = fits (b8 .args .row .now) (b8 .args .depth) (b8 .args .at) (r .form) (r .is) in let s = some-words (r .form) in let m = r .room in let g = r .deep in let x = not-at (b8 .args .row .now) (b8 .args .at) (b8 .args .depth) (r .form) (r .is) (b8 .pre .1 .2) in let l = x .words in let e = x .deep in let low : b8 .args .pos + 1 ≤ length (b8 .args .out .now) = omega arith in child-room (b8 .args .pos) low (b4 .scan-pred .ensures (x .child) (x .stands)) (c .before .if1 .left)
+scan-not-returns t c = let b4 = c .before .before .before .before in let b8 = b4 .before .before .before .before in not-no (b8 .args .row .now) (b8 .args .depth) (b8 .args .at) (b8 .args .n) (b8 .args .pos) (b8 .args .positive) (b8 .pre .1 .2) (b8 .pre .1 .3) (b8 .args .out .now) _ _ (b4 .scan-pred .ensures) (not-true _ (c .if1 .taken))
 
 scan-not-same-length-2 : (t : ℕ) → scan-not-lts.Need-same-length-2 (scan-not-calls t) (scan-not-at t) scan-not.Post
-scan-not-same-length-2 t c = c .before .before .finish-not .kept .0 ∙ c .before .before .before .before .before .before .before .scan-pred .kept .1 .1 .1 .1 .1 .0
+scan-not-same-length-2 t c = let b5 = c .before .before .before .before .before in b5 .scan-pred .kept .1 .1 .1 .1 .1 .0
 
 scan-not-returns-2 : (t : ℕ) → scan-not-lts.Need-returns-2 (scan-not-calls t) (scan-not-at t) scan-not.Post
-scan-not-returns-2 t c = let b4 = c .before .before .before .before in let b7 = b4 .before .before .before in let b11 = b7 .before .before .before .before in let r = b11 .pre .1 .0 in let i = fits (b11 .args .row .now) (b11 .args .depth) (b11 .args .at) (r .form) (r .is) in let s = some-words (r .form) in let m = r .room in let g = r .deep in let x = not-at (b11 .args .row .now) (b11 .args .at) (b11 .args .depth) (r .form) (r .is) (b11 .pre .1 .2) in let l = x .words in let e = x .deep in let low : b11 .args .pos + 1 ≤ length (b11 .args .out .now) = omega arith in λ f e. let y = not-at (b11 .args .row .now) (b11 .args .at) (b11 .args .depth) f e (b11 .pre .1 .2) in not-became (b11 .args .row .now) (b11 .args .at) (b11 .args .n) (b11 .args .pos) (b11 .args .positive) f (y .child) (y .is) (y .words) (b11 .args .out .now) _ low _ (b7 .scan-pred .ensures (y .child) (y .stands)) (b4 .if1 .left) _ _ (c .before .before .finish-not .ensures)
+scan-not-returns-2 t c = let b5 = c .before .before .before .before .before in let b9 = b5 .before .before .before .before in let h = b9 .pre .1 .0 .room in let g = b9 .pre .1 .0 .deep in let i = b9 .pre .1 .2 .inside in let j = b9 .pre .1 .2 .deeper in let low : b9 .args .pos + 1 ≤ length (b9 .args .out .now) = omega arith in let a = told-ok (scan (b9 .args .n) (not (b9 .args .positive))) (b9 .args .row .now) (b9 .args .depth - 1) (b9 .args .at + 1) (b9 .args .pos + 1) (b9 .args .out .now) _ _ (b5 .scan-pred .ensures) (not-false _ (c .before .if1 .left)) in not-gone (b9 .args .row .now) (b9 .args .depth) (b9 .args .at) (b9 .args .n) (b9 .args .pos) (b9 .args .positive) (b9 .pre .1 .2) (b9 .pre .1 .3) (b9 .args .out .now) _ _ low a (c .if2 .taken)
+
+scan-not-finish-not-requires : (t : ℕ) → scan-not-lts.Need-finish-not-requires (scan-not-calls t) (scan-not-at t) scan-not.Post
+scan-not-finish-not-requires t c κs = let b6 = c .before .before .before .before .before .before in let b10 = b6 .before .before .before .before in let h = b10 .pre .1 .0 .room in let g = b10 .pre .1 .0 .deep in let i = b10 .pre .1 .2 .inside in let j = b10 .pre .1 .2 .deeper in let low : b10 .args .pos + 1 ≤ length (b10 .args .out .now) = omega arith in let a = told-ok (scan (b10 .args .n) (not (b10 .args .positive))) (b10 .args .row .now) (b10 .args .depth - 1) (b10 .args .at + 1) (b10 .args .pos + 1) (b10 .args .out .now) _ _ (b6 .scan-pred .ensures) (not-false _ (c .before .before .if1 .left)) in child-room (b10 .args .pos) low (a .became) (c .before .if2 .left)
+
+scan-not-same-length-3 : (t : ℕ) → scan-not-lts.Need-same-length-3 (scan-not-calls t) (scan-not-at t) scan-not.Post
+scan-not-same-length-3 t c = let b9 = c .before .before .before .before .before .before .before .before .before in c .before .before .finish-not .kept .0 ∙ b9 .scan-pred .kept .1 .1 .1 .1 .1 .0
+
+scan-not-returns-3 : (t : ℕ) → scan-not-lts.Need-returns-3 (scan-not-calls t) (scan-not-at t) scan-not.Post
+scan-not-returns-3 t c = let b4 = c .before .before .before .before in let b5 = b4 .before in let b9 = b5 .before .before .before .before in let b13 = b9 .before .before .before .before in let h = b13 .pre .1 .0 .room in let g = b13 .pre .1 .0 .deep in let i = b13 .pre .1 .2 .inside in let j = b13 .pre .1 .2 .deeper in let low : b13 .args .pos + 1 ≤ length (b13 .args .out .now) = omega arith in let a = told-ok (scan (b13 .args .n) (not (b13 .args .positive))) (b13 .args .row .now) (b13 .args .depth - 1) (b13 .args .at + 1) (b13 .args .pos + 1) (b13 .args .out .now) _ _ (b9 .scan-pred .ensures) (not-false _ (b5 .if1 .left)) in not-became (b13 .args .row .now) (b13 .args .depth) (b13 .args .at) (b13 .args .n) (b13 .args .pos) (b13 .args .positive) (b13 .pre .1 .2) (b13 .pre .1 .3) (b13 .args .out .now) _ _ low a (b4 .if2 .left) _ _ (c .before .before .finish-not .ensures)
+
+scan-pred-no-pred-requires : (t : ℕ) → scan-pred-lts.Need-no-pred-requires (scan-pred-calls t) (scan-pred-at t) scan-pred.Post
+scan-pred-no-pred-requires t c κs = search needs
+
+scan-pred-returns : (t : ℕ) → scan-pred-lts.Need-returns (scan-pred-calls t) (scan-pred-at t) scan-pred.Post
+scan-pred-returns t c = let b4 = c .before .before .before .before in tell-no (scan (b4 .args .n) (b4 .args .positive)) (b4 .args .row .now) (b4 .args .depth) (b4 .args .at) (b4 .args .pos) (b4 .args .out .now) _ _ (none-deep (b4 .args .row .now) (b4 .args .depth) (b4 .args .at) (c .before .if1 .taken)) (c .no-pred .ensures)
+
+scan-pred-no-pred-requires-2 : (t : ℕ) → scan-pred-lts.Need-no-pred-requires-2 (scan-pred-calls t) (scan-pred-at t) scan-pred.Post
+scan-pred-no-pred-requires-2 t c κs = search needs
+
+scan-pred-returns-2 : (t : ℕ) → scan-pred-lts.Need-returns-2 (scan-pred-calls t) (scan-pred-at t) scan-pred.Post
+scan-pred-returns-2 t c = let b5 = c .before .before .before .before .before in tell-no (scan (b5 .args .n) (b5 .args .positive)) (b5 .args .row .now) (b5 .args .depth) (b5 .args .at) (b5 .args .pos) (b5 .args .out .now) _ _ (none-past (b5 .args .row .now) (b5 .args .depth) (b5 .args .at) (c .before .if2 .taken)) (c .no-pred2 .ensures)
 
 scan-pred-mul-tag : (t : ℕ) → scan-pred-lts.Need-mul-tag (scan-pred-calls t) (scan-pred-at t) scan-pred.Post
-scan-pred-mul-tag t c = let r = c .before .before .pre .1 .0 in let i = fits (c .before .before .args .row .now) (c .before .before .args .depth) (c .before .before .args .at) (r .form) (r .is) in let s = some-words (r .form) in let m = r .room in let g = r .deep in omega arith
+scan-pred-mul-tag t c = search needs
 
 scan-pred-shared-slice-read-tag : (t : ℕ) → scan-pred-lts.Need-shared-slice-read-tag (scan-pred-calls t) (scan-pred-at t) scan-pred.Post
-scan-pred-shared-slice-read-tag t c = let r = c .before .before .before .pre .1 .0 in let i = fits (c .before .before .before .args .row .now) (c .before .before .before .args .depth) (c .before .before .before .args .at) (r .form) (r .is) in let s = some-words (r .form) in let m = r .room in let g = r .deep in omega arith
+scan-pred-shared-slice-read-tag t c = search needs
 
 scan-pred-scan-not-requires : (t : ℕ) → scan-pred-lts.Need-scan-not-requires (scan-pred-calls t) (scan-pred-at t) scan-pred.Post
-scan-pred-scan-not-requires t c κs = let b5 = c .before .before .before .before .before in let r = b5 .pre .1 .0 in let i = fits (b5 .args .row .now) (b5 .args .depth) (b5 .args .at) (r .form) (r .is) in let s = some-words (r .form) in let m = r .room in let g = r .deep in (omega arith, (b5 .pre .1 .0, b5 .pre .1 .1, c .before .if1 .taken))
+scan-pred-scan-not-requires t c κs = let b3 = c .before .before .before in let b4 = b3 .before in let b7 = b4 .before .before .before in (omega arith, (b7 .pre .1 .0, b7 .pre .1 .1, record { inside = b3 .if2 .left; deeper = let z = b4 .if1 .left in omega arith }, c .before .if3 .taken))
 
 scan-pred-same-length : (t : ℕ) → scan-pred-lts.Need-same-length (scan-pred-calls t) (scan-pred-at t) scan-pred.Post
 scan-pred-same-length t c = c .before .before .scan-not .kept .1 .1 .1 .1 .1 .0
 
-scan-pred-returns : (t : ℕ) → scan-pred-lts.Need-returns (scan-pred-calls t) (scan-pred-at t) scan-pred.Post
-scan-pred-returns t c = c .before .before .scan-not .ensures
+scan-pred-returns-3 : (t : ℕ) → scan-pred-lts.Need-returns-3 (scan-pred-calls t) (scan-pred-at t) scan-pred.Post
+scan-pred-returns-3 t c = c .before .before .scan-not .ensures
 
 scan-pred-scan-equality-requires : (t : ℕ) → scan-pred-lts.Need-scan-equality-requires (scan-pred-calls t) (scan-pred-at t) scan-pred.Post
-scan-pred-scan-equality-requires t c κs = (c .before .before .before .before .before .before .before .pre .1 .0, c .before .before .before .before .before .before .before .pre .1 .1, c .before .if3 .taken)
+scan-pred-scan-equality-requires t c κs = let b5 = c .before .before .before .before .before in let b6 = b5 .before in let b9 = b6 .before .before .before in (b9 .pre .1 .0, b9 .pre .1 .1, record { inside = b5 .if2 .left; deeper = let z = b6 .if1 .left in omega arith }, c .before .if5 .taken)
 
 scan-pred-same-length-2 : (t : ℕ) → scan-pred-lts.Need-same-length-2 (scan-pred-calls t) (scan-pred-at t) scan-pred.Post
 scan-pred-same-length-2 t c = c .before .before .scan-equality .kept .1 .1 .1 .1 .0
 
-scan-pred-returns-2 : (t : ℕ) → scan-pred-lts.Need-returns-2 (scan-pred-calls t) (scan-pred-at t) scan-pred.Post
-scan-pred-returns-2 t c = rw (c .before .before .before .before .before .if2 .taken) (c .before .before .scan-equality .ensures)
+scan-pred-returns-4 : (t : ℕ) → scan-pred-lts.Need-returns-4 (scan-pred-calls t) (scan-pred-at t) scan-pred.Post
+scan-pred-returns-4 t c = let b5 = c .before .before .before .before .before in rw (b5 .if4 .taken) (c .before .before .scan-equality .ensures)
 
 scan-pred-scan-junction-requires : (t : ℕ) → scan-pred-lts.Need-scan-junction-requires (scan-pred-calls t) (scan-pred-at t) scan-pred.Post
-scan-pred-scan-junction-requires t c κs = let b3 = c .before .before .before in let b8 = b3 .before .before .before .before .before in let r = b8 .pre .1 .0 in let i = fits (b8 .args .row .now) (b8 .args .depth) (b8 .args .at) (r .form) (r .is) in let s = some-words (r .form) in let m = r .room in let g = r .deep in (omega arith, (b8 .pre .1 .0, b8 .pre .1 .1, role-and _ _ (c .before .if4 .taken) (b3 .if2 .taken)))
+scan-pred-scan-junction-requires t c κs = let b3 = c .before .before .before in let b6 = b3 .before .before .before in let b7 = b6 .before in let b10 = b7 .before .before .before in (omega arith, (b10 .pre .1 .0, b10 .pre .1 .1, record { inside = b6 .if2 .left; deeper = let z = b7 .if1 .left in omega arith }, role-and _ _ (c .before .if6 .taken) (b3 .if4 .taken)))
 
 scan-pred-same-length-3 : (t : ℕ) → scan-pred-lts.Need-same-length-3 (scan-pred-calls t) (scan-pred-at t) scan-pred.Post
 scan-pred-same-length-3 t c = c .before .before .scan-junction .kept .1 .1 .1 .1 .1 .0
 
-scan-pred-returns-3 : (t : ℕ) → scan-pred-lts.Need-returns-3 (scan-pred-calls t) (scan-pred-at t) scan-pred.Post
-scan-pred-returns-3 t c = c .before .before .scan-junction .ensures
+scan-pred-returns-5 : (t : ℕ) → scan-pred-lts.Need-returns-5 (scan-pred-calls t) (scan-pred-at t) scan-pred.Post
+scan-pred-returns-5 t c = c .before .before .scan-junction .ensures
 
 scan-pred-copy-pred-requires : (t : ℕ) → scan-pred-lts.Need-copy-pred-requires (scan-pred-calls t) (scan-pred-at t) scan-pred.Post
-scan-pred-copy-pred-requires t c κs = c .before .before .before .before .before .before .before .before .pre .1 .0
+scan-pred-copy-pred-requires t c κs = let b10 = c .before .before .before .before .before .before .before .before .before .before in b10 .pre .1 .0
 
 scan-pred-same-length-4 : (t : ℕ) → scan-pred-lts.Need-same-length-4 (scan-pred-calls t) (scan-pred-at t) scan-pred.Post
 scan-pred-same-length-4 t c = c .before .before .copy-pred .kept .1 .1 .1 .0
 
-scan-pred-returns-4 : (t : ℕ) → scan-pred-lts.Need-returns-4 (scan-pred-calls t) (scan-pred-at t) scan-pred.Post
-scan-pred-returns-4 t c = let b4 = c .before .before .before .before in let b7 = b4 .before .before .before in let b11 = b7 .before .before .before .before in λ f e. rw (other-at (b11 .args .row .now) (b11 .args .depth) (b11 .args .at) (b11 .args .n) (b11 .args .positive) f e (no-entry _ _ (b4 .before .before .if2 .taken) (b7 .if1 .left) (b4 .if4 .left) (b4 .before .if3 .left))) (c .before .before .copy-pred .ensures f e)
+scan-pred-returns-6 : (t : ℕ) → scan-pred-lts.Need-returns-6 (scan-pred-calls t) (scan-pred-at t) scan-pred.Post
+scan-pred-returns-6 t c = let b4 = c .before .before .before .before in let b5 = b4 .before in let b6 = b5 .before in let b7 = b6 .before in let b13 = b7 .before .before .before .before .before .before in other-told (b13 .args .row .now) (b13 .args .depth) (b13 .args .at) (b13 .args .n) (b13 .args .pos) (b13 .args .positive) (b13 .args .out .now) _ _ (no-entry _ _ (b6 .if4 .taken) (b7 .if3 .left) (b4 .if6 .left) (b5 .if5 .left)) (c .before .before .copy-pred .ensures)
 
 scan-pred-scan-junction-requires-2 : (t : ℕ) → scan-pred-lts.Need-scan-junction-requires-2 (scan-pred-calls t) (scan-pred-at t) scan-pred.Post
-scan-pred-scan-junction-requires-2 t c κs = let b7 = c .before .before .before .before .before .before .before in let r = b7 .pre .1 .0 in let i = fits (b7 .args .row .now) (b7 .args .depth) (b7 .args .at) (r .form) (r .is) in let s = some-words (r .form) in let m = r .room in let g = r .deep in (omega arith, (b7 .pre .1 .0, b7 .pre .1 .1, role-or _ _ (c .before .if5 .taken) (c .before .before .if2 .left)))
+scan-pred-scan-junction-requires-2 t c κs = let b5 = c .before .before .before .before .before in let b6 = b5 .before in let b9 = b6 .before .before .before in (omega arith, (b9 .pre .1 .0, b9 .pre .1 .1, record { inside = b5 .if2 .left; deeper = let z = b6 .if1 .left in omega arith }, role-or _ _ (c .before .if7 .taken) (c .before .before .if4 .left)))
 
 scan-pred-same-length-5 : (t : ℕ) → scan-pred-lts.Need-same-length-5 (scan-pred-calls t) (scan-pred-at t) scan-pred.Post
 scan-pred-same-length-5 t c = c .before .before .scan-junction2 .kept .1 .1 .1 .1 .1 .0
 
-scan-pred-returns-5 : (t : ℕ) → scan-pred-lts.Need-returns-5 (scan-pred-calls t) (scan-pred-at t) scan-pred.Post
-scan-pred-returns-5 t c = c .before .before .scan-junction2 .ensures
+scan-pred-returns-7 : (t : ℕ) → scan-pred-lts.Need-returns-7 (scan-pred-calls t) (scan-pred-at t) scan-pred.Post
+scan-pred-returns-7 t c = c .before .before .scan-junction2 .ensures
 
 scan-pred-scan-implies-requires : (t : ℕ) → scan-pred-lts.Need-scan-implies-requires (scan-pred-calls t) (scan-pred-at t) scan-pred.Post
-scan-pred-scan-implies-requires t c κs = let b8 = c .before .before .before .before .before .before .before .before in let r = b8 .pre .1 .0 in let i = fits (b8 .args .row .now) (b8 .args .depth) (b8 .args .at) (r .form) (r .is) in let s = some-words (r .form) in let m = r .room in let g = r .deep in (omega arith, (b8 .pre .1 .0, b8 .pre .1 .1, c .before .if6 .taken))
+scan-pred-scan-implies-requires t c κs = let b6 = c .before .before .before .before .before .before in let b7 = b6 .before in let b10 = b7 .before .before .before in (omega arith, (b10 .pre .1 .0, b10 .pre .1 .1, record { inside = b6 .if2 .left; deeper = let z = b7 .if1 .left in omega arith }, c .before .if8 .taken))
 
 scan-pred-same-length-6 : (t : ℕ) → scan-pred-lts.Need-same-length-6 (scan-pred-calls t) (scan-pred-at t) scan-pred.Post
 scan-pred-same-length-6 t c = c .before .before .scan-implies .kept .1 .1 .1 .1 .0
 
-scan-pred-returns-6 : (t : ℕ) → scan-pred-lts.Need-returns-6 (scan-pred-calls t) (scan-pred-at t) scan-pred.Post
-scan-pred-returns-6 t c = rw (c .before .before .before .before .before .before .if2 .left) (c .before .before .scan-implies .ensures)
+scan-pred-returns-8 : (t : ℕ) → scan-pred-lts.Need-returns-8 (scan-pred-calls t) (scan-pred-at t) scan-pred.Post
+scan-pred-returns-8 t c = let b6 = c .before .before .before .before .before .before in rw (b6 .if4 .left) (c .before .before .scan-implies .ensures)
 
 scan-pred-copy-pred-requires-2 : (t : ℕ) → scan-pred-lts.Need-copy-pred-requires-2 (scan-pred-calls t) (scan-pred-at t) scan-pred.Post
-scan-pred-copy-pred-requires-2 t c κs = c .before .before .before .before .before .before .before .before .pre .1 .0
+scan-pred-copy-pred-requires-2 t c κs = let b10 = c .before .before .before .before .before .before .before .before .before .before in b10 .pre .1 .0
 
 scan-pred-same-length-7 : (t : ℕ) → scan-pred-lts.Need-same-length-7 (scan-pred-calls t) (scan-pred-at t) scan-pred.Post
 scan-pred-same-length-7 t c = c .before .before .copy-pred2 .kept .1 .1 .1 .0
 
-scan-pred-returns-7 : (t : ℕ) → scan-pred-lts.Need-returns-7 (scan-pred-calls t) (scan-pred-at t) scan-pred.Post
-scan-pred-returns-7 t c = let b4 = c .before .before .before .before in let b7 = b4 .before .before .before in let b11 = b7 .before .before .before .before in λ f e. rw (other-at (b11 .args .row .now) (b11 .args .depth) (b11 .args .at) (b11 .args .n) (b11 .args .positive) f e (no-entry-below _ _ (b4 .before .before .if2 .left) (b7 .if1 .left) (b4 .before .if5 .left) (b4 .if6 .left))) (c .before .before .copy-pred2 .ensures f e)
+scan-pred-returns-9 : (t : ℕ) → scan-pred-lts.Need-returns-9 (scan-pred-calls t) (scan-pred-at t) scan-pred.Post
+scan-pred-returns-9 t c = let b4 = c .before .before .before .before in let b5 = b4 .before in let b6 = b5 .before in let b7 = b6 .before in let b13 = b7 .before .before .before .before .before .before in other-told (b13 .args .row .now) (b13 .args .depth) (b13 .args .at) (b13 .args .n) (b13 .args .pos) (b13 .args .positive) (b13 .args .out .now) _ _ (no-entry-below _ _ (b6 .if4 .left) (b7 .if3 .left) (b5 .if7 .left) (b4 .if8 .left)) (c .before .before .copy-pred2 .ensures)
 
 abbrev search-children-Inv-search : search-children-lts.InvT-search
-search-children-Inv-search row at depth n positive count out₀ pos found₀ q₀ left₀ w₀ k₀ out found q left w k = (found ≡ Not) × ((r : Replacement) (e m : ℕ) (o : List ℕ) → KidsTold row (kidsAt row depth q left) w out k (scanAll n positive positive (kidsAt row depth q left)) r e m o → KidsTold row (kidsAt row depth at count) pos out₀ 0 (scanAll n positive positive (kidsAt row depth at count)) r e m o) × Kids row depth q left w (length out) × (q + length (encodeAll (kidsAt row depth q left)) ≡ at + length (encodeAll (kidsAt row depth at count))) × (k + left ≤ count) × (at ≤ q) × (length out ≡ length out₀)
+search-children-Inv-search row at depth n positive count out₀ pos found₀ q₀ left₀ w₀ k₀ out found q left w k =
+    (found ≡ Not) × (areKids row depth at count ≡ areKids row depth q left)
+    × (areKids row depth q left ≡ true → (r : Replacement) (e m : ℕ) (o : List ℕ) → KidsTold row (kidsAt row depth q left) w out k (scanAll n positive positive (kidsAt row depth q left)) r e m o
+    → KidsTold row (kidsAt row depth at count) pos out₀ 0 (scanAll n positive positive (kidsAt row depth at count)) r e m o)
+    × (areKids row depth q left ≡ true → q + length (encodeAll (kidsAt row depth q left)) ≡ at + length (encodeAll (kidsAt row depth at count)))
+    × (k + left ≤ count) × (at ≤ q) × (q ≤ length row) × (w + 2 * (length row - q) ≤ pos + 2 * (length row - at)) × (length out ≡ length out₀)
 
 abbrev search-children-μ-search : search-children-lts.MeasureT-search
 search-children-μ-search row at depth n positive count out₀ pos found₀ q₀ left₀ w₀ k₀ out found q left w k = left
 
 search-children-search-holds : (t : ℕ) → search-children-lts.Need-search-holds (search-children-calls t) (search-children-at t) search-children.Post search-children-Inv-search search-children-μ-search
-search-children-search-holds t c = (refl, λ r e m o t. t, c .before .before .pre .1 .0, refl, omega arith, omega arith, refl)
+search-children-search-holds t c = (refl, refl, λ a r e m o t. t, λ a. refl, omega arith, omega arith, c .before .before .pre .1 .2, omega arith, refl)
 
 search-children-scan-pred-requires : (t : ℕ) → search-children-lts.Need-scan-pred-requires (search-children-calls t) (search-children-at t) search-children.Post search-children-Inv-search search-children-μ-search
-search-children-scan-pred-requires t c κs = let b2 = c .before .before in let b5 = b2 .before .before .before in let x = kid-of (b5 .args .row .now) _ _ _ _ _ (b2 .search .inv .2) (c .before .search-test .taken) in let q5 = b2 .search .inv .5 in let i = fits (b5 .args .row .now) _ _ (x .form) (x .stands) in let s = some-words (x .form) in (omega arith, (record { form = x .form; is = x .stands; room = x .room; short = b5 .pre .1 .1; deep = b5 .pre .1 .2 }, b5 .pre .1 .3))
+search-children-scan-pred-requires t c κs = let b5 = c .before .before .before .before .before in let h = b5 .pre .1 .0 .room in let g = b5 .pre .1 .0 .deep in let i5 = c .before .before .search .inv .5 in let i6 = c .before .before .search .inv .6 in let i7 = c .before .before .search .inv .7 in let i8 = c .before .before .search .inv .8 in (omega arith, (record { room = omega arith; short = b5 .pre .1 .0 .short; deep = g }, b5 .pre .1 .1))
 
 search-children-sub-left : (t : ℕ) → search-children-lts.Need-sub-left (search-children-calls t) (search-children-at t) search-children.Post search-children-Inv-search search-children-μ-search
 search-children-sub-left t c = search needs
 
 search-children-one-more-requires : (t : ℕ) → search-children-lts.Need-one-more-requires (search-children-calls t) (search-children-at t) search-children.Post search-children-Inv-search search-children-μ-search
-search-children-one-more-requires t c κs = let o3 = c .before .before .before .before .before .search .inv .4 in omega arith
+search-children-one-more-requires t c κs = let b7 = c .before .before .before .before .before .before .before in let o3 = b7 .search .inv .4 in omega arith
 
 search-children-is-taken-requires : (t : ℕ) → search-children-lts.Need-is-taken-requires (search-children-calls t) (search-children-at t) search-children.Post search-children-Inv-search search-children-μ-search
 search-children-is-taken-requires t c κs = search needs
@@ -362,26 +427,32 @@ search-children-search-less : (t : ℕ) → search-children-lts.Need-search-less
 search-children-search-less t c = search needs
 
 search-children-search-again : (t : ℕ) → search-children-lts.Need-search-again (search-children-calls t) (search-children-at t) search-children.Post search-children-Inv-search search-children-μ-search
-search-children-search-again t c = let b2 = c .before .before in let b5 = b2 .before .before .before in let b8 = b5 .before .before .before in let b11 = b8 .before .before .before in let x = kid-of (b11 .args .row .now) _ _ _ _ _ (b8 .search .inv .2) (b5 .before .before .search-test .taken) in let o1 = one-at-most (b8 .search .k) (b5 .scan-pred .result .gone) in let o2 = b2 .one-more .ensures in let o3 = b8 .search .inv .4 in let nx = (b5 .scan-pred .ensures (x .form) (x .stands)) .next in let q5 = b8 .search .inv .5 in (b8 .search .inv .0, λ r e m o t. b8 .search .inv .1 r e m o (child-passed x (b11 .args .n) (b8 .search .k) (b11 .args .positive) _ _ _ (b5 .scan-pred .ensures (x .form) (x .stands)) (sym (c .before .is-taken .ensures) ∙ c .if1 .left) r e m o (rw (b2 .one-more .ensures) at t)), rw (b5 .scan-pred .kept .1 .1 .1 .1 .1 .0) (child-next x (b11 .args .n) (b8 .search .k) (b11 .args .positive) _ _ _ (b5 .scan-pred .ensures (x .form) (x .stands))), child-ends x (b11 .args .n) (b8 .search .k) (b11 .args .positive) _ _ _ (b5 .scan-pred .ensures (x .form) (x .stands)) ∙ b8 .search .inv .3, omega arith, omega arith, b5 .scan-pred .kept .1 .1 .1 .1 .1 .0 ∙ b8 .search .inv .6)
+search-children-search-again t c = let b3 = c .before .before .before in let b7 = b3 .before .before .before .before in let b9 = b7 .before .before in let b10 = b9 .before in let b13 = b10 .before .before .before in let a = told-ok (scan (b13 .args .n) (b13 .args .positive)) (b13 .args .row .now) (b13 .args .depth) (b10 .search .q) (b10 .search .w) (b10 .search .out) _ _ (b7 .scan-pred .ensures) (not-false _ (b3 .if1 .left)) in let b = bounds a in let u = b .up in let v = b .inside in let w = b .low in let i5 = b10 .search .inv .5 in let i6 = b10 .search .inv .6 in let i7 = b10 .search .inv .7 in let o1 = one-at-most (b10 .search .k) (b7 .scan-pred .result .gone) in let o2 = c .before .before .one-more .ensures in let o3 = b10 .search .inv .4 in (b10 .search .inv .0, b10 .search .inv .1 ∙ child-same (b13 .args .row .now) (b13 .args .depth) (b10 .search .q) (b10 .search .left) (b9 .search-test .taken) (b10 .search .w) (b13 .args .n) (b10 .search .k) (b13 .args .positive) _ _ _ a, λ s r e m o t. b10 .search .inv .2 (child-same (b13 .args .row .now) (b13 .args .depth) (b10 .search .q) (b10 .search .left) (b9 .search-test .taken) (b10 .search .w) (b13 .args .n) (b10 .search .k) (b13 .args .positive) _ _ _ a ∙ s) r e m o (child-passed (b13 .args .row .now) (b13 .args .depth) (b10 .search .q) (b10 .search .left) (b9 .search-test .taken) (b10 .search .w) (b13 .args .n) (b10 .search .k) (b13 .args .positive) _ _ _ a s (sym (c .before .is-taken .ensures) ∙ c .if2 .left) r e m o (rw (c .before .before .one-more .ensures) at t)), λ s. child-ends (b13 .args .row .now) (b13 .args .depth) (b10 .search .q) (b10 .search .left) (b9 .search-test .taken) (b10 .search .w) (b13 .args .n) (b10 .search .k) (b13 .args .positive) _ _ _ a s ∙ b10 .search .inv .3 (child-same (b13 .args .row .now) (b13 .args .depth) (b10 .search .q) (b10 .search .left) (b9 .search-test .taken) (b10 .search .w) (b13 .args .n) (b10 .search .k) (b13 .args .positive) _ _ _ a ∙ s), omega arith, omega arith, omega arith, omega arith, b7 .scan-pred .kept .1 .1 .1 .1 .1 .0 ∙ b10 .search .inv .8)
 
 search-children-same-length : (t : ℕ) → search-children-lts.Need-same-length (search-children-calls t) (search-children-at t) search-children.Post search-children-Inv-search search-children-μ-search
-search-children-same-length t c = c .before .search .inv .6
+search-children-same-length t c = c .before .search .inv .8
 
 search-children-returns : (t : ℕ) → search-children-lts.Need-returns (search-children-calls t) (search-children-at t) search-children.Post search-children-Inv-search search-children-μ-search
-search-children-returns t c = let b4 = c .before .before .before .before in record { whole = λ e m o t. c .before .search .inv .1 _ e m o (search-over (b4 .args .row .now) (b4 .args .n) (b4 .args .positive) _ _ _ _ _ (c .before .search .inv .0) (kids-none (b4 .args .row .now) (b4 .args .depth) _ _ (c .search-test .left)) e m o t); rest = c .before .search .inv .2; ends = c .before .search .inv .3; few = c .before .search .inv .4 }
+search-children-returns t c = let b4 = c .before .before .before .before in record { same = c .before .search .inv .1; whole = λ a e m o t. c .before .search .inv .2 a _ e m o (search-over (b4 .args .row .now) (b4 .args .n) (b4 .args .positive) _ _ _ _ _ (c .before .search .inv .0) (kids-none (b4 .args .row .now) (b4 .args .depth) _ _ (c .search-test .left)) e m o t); ends = c .before .search .inv .3; few = c .before .search .inv .4; inside = c .before .search .inv .6; room = c .before .search .inv .7 }
 
 search-children-same-length-2 : (t : ℕ) → search-children-lts.Need-same-length-2 (search-children-calls t) (search-children-at t) search-children.Post search-children-Inv-search search-children-μ-search
-search-children-same-length-2 t c = c .before .before .before .before .before .scan-pred .kept .1 .1 .1 .1 .1 .0 ∙ c .before .before .before .before .before .before .before .before .search .inv .6
+search-children-same-length-2 t c = let b4 = c .before .before .before .before in let b7 = b4 .before .before .before in b4 .scan-pred .kept .1 .1 .1 .1 .1 .0 ∙ b7 .search .inv .8
 
 search-children-returns-2 : (t : ℕ) → search-children-lts.Need-returns-2 (search-children-calls t) (search-children-at t) search-children.Post search-children-Inv-search search-children-μ-search
-search-children-returns-2 t c = let b2 = c .before .before in let b5 = b2 .before .before .before in let b8 = b5 .before .before .before in let b11 = b8 .before .before .before in let x = kid-of (b11 .args .row .now) _ _ _ _ _ (b8 .search .inv .2) (b5 .before .before .search-test .taken) in let o1 = one-at-most (b8 .search .k) (b5 .scan-pred .result .gone) in let o2 = b2 .one-more .ensures in let o3 = b8 .search .inv .4 in record { whole = λ e m o t. b8 .search .inv .1 _ e m o (child-taken x (b11 .args .n) (b8 .search .k) (b11 .args .positive) _ _ _ (b5 .scan-pred .ensures (x .form) (x .stands)) (sym (c .before .is-taken .ensures) ∙ c .if1 .taken) e m o (rw (b2 .one-more .ensures) at t)); rest = rw (b5 .scan-pred .kept .1 .1 .1 .1 .1 .0) (child-next x (b11 .args .n) (b8 .search .k) (b11 .args .positive) _ _ _ (b5 .scan-pred .ensures (x .form) (x .stands))); ends = child-ends x (b11 .args .n) (b8 .search .k) (b11 .args .positive) _ _ _ (b5 .scan-pred .ensures (x .form) (x .stands)) ∙ b8 .search .inv .3; few = omega arith }
+search-children-returns-2 t c = let b4 = c .before .before .before .before in let b6 = b4 .before .before in let b7 = b6 .before in let b10 = b7 .before .before .before in search-lost (b10 .args .row .now) (b10 .args .depth) (b10 .args .n) (b10 .args .positive) (b10 .args .at) (b10 .args .count) (b10 .args .pos) (b7 .search .q) (b7 .search .left) (b7 .search .w) (b7 .search .k) (b10 .args .out .now) _ (b6 .search-test .taken) (told-no (scan (b10 .args .n) (b10 .args .positive)) (b10 .args .row .now) (b10 .args .depth) (b7 .search .q) (b7 .search .w) (b7 .search .out) _ _ (b4 .scan-pred .ensures) (not-true _ (c .if1 .taken))) (b7 .search .inv .1) (b7 .search .inv .4) (b7 .search .inv .7) _
+
+search-children-same-length-3 : (t : ℕ) → search-children-lts.Need-same-length-3 (search-children-calls t) (search-children-at t) search-children.Post search-children-Inv-search search-children-μ-search
+search-children-same-length-3 t c = let b7 = c .before .before .before .before .before .before .before in let b10 = b7 .before .before .before in b7 .scan-pred .kept .1 .1 .1 .1 .1 .0 ∙ b10 .search .inv .8
+
+search-children-returns-3 : (t : ℕ) → search-children-lts.Need-returns-3 (search-children-calls t) (search-children-at t) search-children.Post search-children-Inv-search search-children-μ-search
+search-children-returns-3 t c = let b3 = c .before .before .before in let b7 = b3 .before .before .before .before in let b9 = b7 .before .before in let b10 = b9 .before in let b13 = b10 .before .before .before in let a = told-ok (scan (b13 .args .n) (b13 .args .positive)) (b13 .args .row .now) (b13 .args .depth) (b10 .search .q) (b10 .search .w) (b10 .search .out) _ _ (b7 .scan-pred .ensures) (not-false _ (b3 .if1 .left)) in let b = bounds a in let u = b .up in let v = b .inside in let w = b .low in let i5 = b10 .search .inv .5 in let i6 = b10 .search .inv .6 in let i7 = b10 .search .inv .7 in let o1 = one-at-most (b10 .search .k) (b7 .scan-pred .result .gone) in let o2 = c .before .before .one-more .ensures in let o3 = b10 .search .inv .4 in record { same = b10 .search .inv .1 ∙ child-same (b13 .args .row .now) (b13 .args .depth) (b10 .search .q) (b10 .search .left) (b9 .search-test .taken) (b10 .search .w) (b13 .args .n) (b10 .search .k) (b13 .args .positive) _ _ _ a; whole = λ s e m o t. b10 .search .inv .2 (child-same (b13 .args .row .now) (b13 .args .depth) (b10 .search .q) (b10 .search .left) (b9 .search-test .taken) (b10 .search .w) (b13 .args .n) (b10 .search .k) (b13 .args .positive) _ _ _ a ∙ s) _ e m o (child-taken (b13 .args .row .now) (b13 .args .depth) (b10 .search .q) (b10 .search .left) (b9 .search-test .taken) (b10 .search .w) (b13 .args .n) (b10 .search .k) (b13 .args .positive) _ _ _ a s (sym (c .before .is-taken .ensures) ∙ c .if2 .taken) e m o (rw (c .before .before .one-more .ensures) at t)); ends = λ s. child-ends (b13 .args .row .now) (b13 .args .depth) (b10 .search .q) (b10 .search .left) (b9 .search-test .taken) (b10 .search .w) (b13 .args .n) (b10 .search .k) (b13 .args .positive) _ _ _ a s ∙ b10 .search .inv .3 (child-same (b13 .args .row .now) (b13 .args .depth) (b10 .search .q) (b10 .search .left) (b9 .search-test .taken) (b10 .search .w) (b13 .args .n) (b10 .search .k) (b13 .args .positive) _ _ _ a ∙ s); few = omega arith; inside = b .inside; room = omega arith }
 
 pub +scan-implies+scan-junction+scan-next+scan-not+scan-pred+search-children-spec : {M : Type 1} → statement M
 +scan-implies+scan-junction+scan-next+scan-not+scan-pred+search-children-spec =
     close μ-scan-implies μ-scan-junction μ-scan-next μ-scan-not μ-scan-pred μ-search-children
-    (λ t. scan-implies-lts.spec (scan-implies-calls t) (scan-implies-at t) scan-implies.Post (scan-implies-mul-out t) (scan-implies-slice-write-out t) (scan-implies-add-scan-pred t) (scan-implies-sub-scan-pred t) (scan-implies-add-scan-pred-2 t) (scan-implies-scan-pred-requires t) (scan-implies-start-of-requires t) (scan-implies-sub-scan-next t) (scan-implies-scan-next-requires t) (scan-implies-same-length t) (scan-implies-returns t) (scan-implies-finish-not-requires t) (scan-implies-same-length-2 t) (scan-implies-returns-2 t) (scan-implies-same-length-3 t) (scan-implies-returns-3 t))
-    (λ t. scan-junction-lts.spec (scan-junction-calls t) (scan-junction-at t) scan-junction.Post (scan-junction-mul-tag t) (scan-junction-shared-slice-read-tag t) (scan-junction-add-count t) (scan-junction-mul-count t) (scan-junction-shared-slice-read-count t) (scan-junction-add-search-children t) (scan-junction-sub-search-children t) (scan-junction-add-search-children-2 t) (scan-junction-search-children-requires t) (scan-junction-sub-skip-preds t) (scan-junction-skip-preds-requires t) (scan-junction-copy-part-requires t) (scan-junction-add-finish-junction t) (scan-junction-finish-junction-requires t) (scan-junction-same-length t) (scan-junction-returns t))
+    (λ t. scan-implies-lts.spec (scan-implies-calls t) (scan-implies-at t) scan-implies.Post (scan-implies-mul-out t) (scan-implies-slice-write-out t) (scan-implies-add-scan-pred t) (scan-implies-sub-scan-pred t) (scan-implies-add-scan-pred-2 t) (scan-implies-scan-pred-requires t) (scan-implies-same-length t) (scan-implies-returns t) (scan-implies-start-of-requires t) (scan-implies-sub-scan-next t) (scan-implies-scan-next-requires t) (scan-implies-same-length-2 t) (scan-implies-returns-2 t) (scan-implies-same-length-3 t) (scan-implies-returns-3 t) (scan-implies-finish-not-requires t) (scan-implies-same-length-4 t) (scan-implies-returns-4 t) (scan-implies-same-length-5 t) (scan-implies-returns-5 t))
+    (λ t. scan-junction-lts.spec (scan-junction-calls t) (scan-junction-at t) scan-junction.Post (scan-junction-add-if1 t) (scan-junction-no-pred-requires t) (scan-junction-returns t) (scan-junction-mul-tag t) (scan-junction-shared-slice-read-tag t) (scan-junction-add-count t) (scan-junction-mul-count t) (scan-junction-shared-slice-read-count t) (scan-junction-no-pred-requires-2 t) (scan-junction-returns-2 t) (scan-junction-add-search-children t) (scan-junction-sub-search-children t) (scan-junction-add-search-children-2 t) (scan-junction-search-children-requires t) (scan-junction-sub-skip-preds t) (scan-junction-skip-preds-requires t) (scan-junction-enum-known-next t) (scan-junction-enum-told t) (scan-junction-no-pred-requires-3 t) (scan-junction-same-length t) (scan-junction-returns-3 t) (scan-junction-copy-part-requires t) (scan-junction-add-finish-junction t) (scan-junction-finish-junction-requires t) (scan-junction-same-length-2 t) (scan-junction-returns-4 t))
     (λ t. scan-next-lts.spec (scan-next-calls t) (scan-next-at t) scan-next.Post (scan-next-is-taken-requires t) (scan-next-copy-pred-requires t) (scan-next-same-length t) (scan-next-returns t) (scan-next-scan-pred-requires t) (scan-next-same-length-2 t) (scan-next-returns-2 t))
-    (λ t. scan-not-lts.spec (scan-not-calls t) (scan-not-at t) scan-not.Post (scan-not-add-scan-pred t) (scan-not-sub-scan-pred t) (scan-not-add-scan-pred-2 t) (scan-not-scan-pred-requires t) (scan-not-same-length t) (scan-not-returns t) (scan-not-finish-not-requires t) (scan-not-same-length-2 t) (scan-not-returns-2 t))
-    (λ t. scan-pred-lts.spec (scan-pred-calls t) (scan-pred-at t) scan-pred.Post (scan-pred-mul-tag t) (scan-pred-shared-slice-read-tag t) (scan-pred-scan-not-requires t) (scan-pred-same-length t) (scan-pred-returns t) (scan-pred-scan-equality-requires t) (scan-pred-same-length-2 t) (scan-pred-returns-2 t) (scan-pred-scan-junction-requires t) (scan-pred-same-length-3 t) (scan-pred-returns-3 t) (scan-pred-copy-pred-requires t) (scan-pred-same-length-4 t) (scan-pred-returns-4 t) (scan-pred-scan-junction-requires-2 t) (scan-pred-same-length-5 t) (scan-pred-returns-5 t) (scan-pred-scan-implies-requires t) (scan-pred-same-length-6 t) (scan-pred-returns-6 t) (scan-pred-copy-pred-requires-2 t) (scan-pred-same-length-7 t) (scan-pred-returns-7 t))
-    (λ t. search-children-lts.spec (search-children-calls t) (search-children-at t) search-children.Post search-children-Inv-search search-children-μ-search (search-children-search-holds t) (search-children-scan-pred-requires t) (search-children-sub-left t) (search-children-one-more-requires t) (search-children-is-taken-requires t) (search-children-search-less t) (search-children-search-again t) (search-children-same-length t) (search-children-returns t) (search-children-same-length-2 t) (search-children-returns-2 t))
+    (λ t. scan-not-lts.spec (scan-not-calls t) (scan-not-at t) scan-not.Post (scan-not-add-scan-pred t) (scan-not-sub-scan-pred t) (scan-not-add-scan-pred-2 t) (scan-not-scan-pred-requires t) (scan-not-same-length t) (scan-not-returns t) (scan-not-same-length-2 t) (scan-not-returns-2 t) (scan-not-finish-not-requires t) (scan-not-same-length-3 t) (scan-not-returns-3 t))
+    (λ t. scan-pred-lts.spec (scan-pred-calls t) (scan-pred-at t) scan-pred.Post (scan-pred-no-pred-requires t) (scan-pred-returns t) (scan-pred-no-pred-requires-2 t) (scan-pred-returns-2 t) (scan-pred-mul-tag t) (scan-pred-shared-slice-read-tag t) (scan-pred-scan-not-requires t) (scan-pred-same-length t) (scan-pred-returns-3 t) (scan-pred-scan-equality-requires t) (scan-pred-same-length-2 t) (scan-pred-returns-4 t) (scan-pred-scan-junction-requires t) (scan-pred-same-length-3 t) (scan-pred-returns-5 t) (scan-pred-copy-pred-requires t) (scan-pred-same-length-4 t) (scan-pred-returns-6 t) (scan-pred-scan-junction-requires-2 t) (scan-pred-same-length-5 t) (scan-pred-returns-7 t) (scan-pred-scan-implies-requires t) (scan-pred-same-length-6 t) (scan-pred-returns-8 t) (scan-pred-copy-pred-requires-2 t) (scan-pred-same-length-7 t) (scan-pred-returns-9 t))
+    (λ t. search-children-lts.spec (search-children-calls t) (search-children-at t) search-children.Post search-children-Inv-search search-children-μ-search (search-children-search-holds t) (search-children-scan-pred-requires t) (search-children-sub-left t) (search-children-one-more-requires t) (search-children-is-taken-requires t) (search-children-search-less t) (search-children-search-again t) (search-children-same-length t) (search-children-returns t) (search-children-same-length-2 t) (search-children-returns-2 t) (search-children-same-length-3 t) (search-children-returns-3 t))
