@@ -6,7 +6,6 @@ use Prim.Native.Nat.{ℕ, zero, suc, _+_, _-_, _≤_, _<_}
 use native.Mathlib.Nat.{zero-add}
 use native.Mathlib.Omega.{arith}
 use borrow.Author.Tests.{eq-eqb, ne-eqb, lt-ltb}
-use lib.Dec.{ltb}
 use lib.ListN.{length, getD, take, drop, set, replicate, length-replicate, getD-replicate}
 use lib.Seq.{drop-length}
 use Rattle.tree.specs.Form.{Form, encode}
@@ -19,7 +18,7 @@ use Rattle.form.specs.Answer.{finish}
 use Rattle.reader.specs.Internal.Reads.{mark, Told, decodeIn}
 use Rattle.form.specs.declared.head.Step.{Step}
 use Rattle.form.specs.declared.head.Step.the-variants.{End}
-use Rattle.form.proofs.DecodeLaws.{clash, Ok, decode-encode, decode-sound}
+use Rattle.form.proofs.DecodeLaws.{Ok, decode-encode, decode-sound}
 use Rattle.reader.proofs.ReaderLaws.{told-end}
 use Rattle.shift.specs.Internal.Items.{items}
 use Rattle.shift.proofs.RowLaws.{itemsOf, marksOf, mark-front}
@@ -28,7 +27,7 @@ use Rattle.rules.proofs.OkLaws.{ok-deep}
 use Rattle.replace.proofs.InsideLaws.{Small}
 use Rattle.replace.proofs.SmallLaws.{small-form}
 use Rattle.replace.specs.Internal.Partial.{partialRow}
-use Rattle.one_point.specs.Internal.Reduce.{quantifierIn, oneTable, placedForm, placedOutcome, Placing, Marking, RestLeaves, readingDepth}
+use Rattle.one_point.specs.Internal.Reduce.{quantifierIn, oneTable, placedForm, placedOutcome, Placing, Marking, RestLeaves}
 use Rattle.places.specs.Internal.Positions.{Cleared}
 use Rattle.one_point.specs.declared.one_point_inference.Quantifier.the-variants.{Of, None}
 use Rattle.places.proofs.SidesLaws.{told-plain}
@@ -104,17 +103,6 @@ marking-of part pm pm′ f h is m l = record { enough = let e = h .enough in ome
 pub fresh-cleared : (row : List ℕ) (n : ℕ) → length row ≤ n → Cleared row (replicate n 0)
 fresh-cleared row n h = record { zeros = ap (λ (k : ℕ). replicate k 0) (sym (length-replicate n 0)); enough = rw length-replicate h }
 
--- the depth at which the rest is read
-pub reading-any : (r : ℕ) → r ≡ 0 → 63 ≡ readingDepth r
-reading-any r e = rw (eq-eqb r 0 e)
-
-pub reading-is : (r : ℕ) → (r ≡ 0 → ⊥) → r ≡ readingDepth r
-reading-is r e = rw (ne-eqb r 0 e)
-
-pub reading-most : (r l : ℕ) → r ≤ 63 → l ≡ readingDepth r → l ≤ 63
-reading-most zero l h e = omega arith
-reading-most (suc r) l h e = let q = reading-is (suc r) (λ z. omega arith) in let i : l ≡ suc r = e ∙ sym q in omega arith
-
 -- the depth that is left for it
 pub rest-none : (part : List ℕ) → RestLeaves part 0
 rest-none part = record { most = omega arith; left = λ h. absurd (omega arith) }
@@ -148,12 +136,12 @@ module _ (part : List ℕ) (f : Form) (is : decode 63 expr part ≡ got f []) (g
       let q : 65 - (64 - m) ≡ suc m = omega arith in
       small-form m f (ok-deep o 64 (omega arith)) (omega arith) (rw (← w, ← q) (x .deep (omega arith))) (rw (← w) (x .words (omega arith)))
 
-  pub fitting : (r : ℕ) → RestLeaves part r → (l : ℕ) → l ≡ readingDepth r → Ok l pred g → ltb 0 r ≡ true → Fitting f g
-  fitting zero x l e o y = absurd (clash cc)
-  fitting (suc r) x l e o y =
+  pub fitting : (r : ℕ) → RestLeaves part r → (r ≡ 0 → ⊥) → Ok r pred g → Fitting f g
+  fitting zero x n o = absurd (n refl)
+  fitting (suc r) x n o =
       let a = x .most in
       let q : suc r + 1 ≡ 64 - (63 - suc r) = omega arith in
-      record { over = 63 - suc r; deep = suc r; small = part-small (63 - suc r) (omega arith) (rw (← q) (x .left (omega arith))); ok = rw (e ∙ sym (reading-is (suc r) (λ z. omega arith))) at o; sum = omega arith }
+      record { over = 63 - suc r; deep = suc r; small = part-small (63 - suc r) (omega arith) (rw (← q) (x .left (omega arith))); ok = o; sum = omega arith }
 
 -- the target's place filled in the rest
 module _ (t : ℕ) (ns : List ℕ) (i : ℕ) (part rest : List ℕ) (h : Placing t ns i part rest) where

@@ -14,7 +14,7 @@ ghost use Prim.Native.Nat.{_≤_};
 ghost use lib.ListN.{length, take};
 ghost use Rattle.tree.specs.Form.{pick};
 ghost use Rattle.form.specs.Answer.{told, written};
-ghost use Rattle.one_point.specs.Internal.Reduce.{Placing, Marking, placedOutcome, RestLeaves, readingDepth, emptyWord, Reducing, bodyOutcome};
+ghost use Rattle.one_point.specs.Internal.Reduce.{Placing, Marking, placedOutcome, RestLeaves, emptyWord, Reducing, bodyOutcome};
 ghost use Rattle.places.specs.Internal.Positions.{Cleared};
 
 // The target's place filled in the rest of a body, with the replacement's marks.
@@ -50,17 +50,7 @@ fn rest_depth(part: &[u32]) -> u32
     d - 1
 }
 
-// As how deep the rest is read first: as any, where none is sure to stay within the limits.
-fn reading_depth(left: u32) -> u32
-    ensures { λ r. ⌜ r ≡ readingDepth left ⌝ }
-{
-    if left == 0 {
-        return 63;
-    }
-    left
-}
-
-// The same, with marks for the rest, which is read first as deep as the part leaves it.
+// The same, with marks for the rest, which is read as deep as the part leaves it and, where it is deeper, as any.
 fn place_in(
     tag: u32,
     names: &[u32],
@@ -76,11 +66,14 @@ fn place_in(
     ensures { λ _. ⌜ now (out .exit) ≡ written (placedOutcome tag (now (names .entry)) target (now (part .entry)) (now (rest .entry)) (length (now (out .entry)))) (now (out .entry)) ⌝ }
 {
     let left = rest_depth(part);
-    let Step::End(end) = pred_at(rest, marks, 0, reading_depth(left), target + 1) else {
+    if left == 0 {
+        return place_deep(tag, names, target, part, part_marks, rest, out);
+    }
+    let Step::End(end) = pred_at(rest, marks, 0, left, target + 1) else {
         return place_deep(tag, names, target, part, part_marks, rest, out);
     };
     let p = names.len() - 1 - (target as usize);
-    put_rest(tag, names, p, 0 < left, part, part_marks, rest, marks, out)
+    put_rest(tag, names, p, true, part, part_marks, rest, marks, out)
 }
 
 // The same, with marks for the rest of its own.

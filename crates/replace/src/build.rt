@@ -12,10 +12,9 @@ ghost use mathlib.Core.Bool.{false};
 ghost use Prim.Native.Nat.{_+_, _*_, _≤_, min};
 ghost use lib.Dec.{leb};
 ghost use lib.ListN.{length, drop};
-ghost use Rattle.tree.specs.Form.{pick};
 ghost use Rattle.form.specs.Answer.{told, written};
 ghost use Rattle.shift.specs.Internal.Items.{items, store};
-ghost use Rattle.replace.specs.Internal.Pieces.{sizes, longest, half, lengthRefusal, planFor, Tabled, Ready, shortWords, emitted, replacedWords, replaced};
+ghost use Rattle.replace.specs.Internal.Pieces.{sizes, half, lengthRefusal, planFor, Tabled, Ready, shortWords, emitted, replacedWords, replaced};
 
 // The words, stored at `at`.
 pub(crate) fn copy(words: &[u32], out: &mut [u32], at: usize)
@@ -37,21 +36,6 @@ fn emit(kind: Kind, words: &[u32], out: &mut [u32]) -> Answer
     let Answer::Done(n) = reader::check::check(words, kind) else {
         return Answer::No(7);
     };
-    if out.len() < words.len() {
-        return Answer::No(14);
-    }
-    copy(words, out, 0);
-    Answer::Done(words.len())
-}
-
-// The words as an answer, of which only the number is checked.
-fn emit_short(words: &[u32], out: &mut [u32]) -> Answer
-    ensures { λ r. ⌜ r ≡ told (shortWords (now (words .entry)) (length (now (out .entry)))) ⌝ }
-    ensures { λ _. ⌜ now (out .exit) ≡ written (shortWords (now (words .entry)) (length (now (out .entry)))) (now (out .entry)) ⌝ }
-{
-    if Limit::WORDS < words.len() {
-        return Answer::No(7);
-    }
     if out.len() < words.len() {
         return Answer::No(14);
     }
@@ -195,111 +179,6 @@ fn replace_counted(
     ))
 }
 
-// The same, built in a work row, so that nothing is counted first.
-fn replace_built(
-    head: &[u32],
-    rule: Rule,
-    words: &[u32],
-    starts: &[usize],
-    ends: &[usize],
-    list: &[u32],
-    list_marks: &[u32],
-    row: &[u32],
-    marks: &[u32],
-    from: usize,
-    out: &mut [u32],
-) -> Answer
-    requires { ⌜ Ready (planFor rule (now words) (now starts) (now ends)) (now list) (now «list_marks») ⌝ }
-    requires { ⌜ length (now head) + sizes (planFor rule (now words) (now starts) (now ends)) (items (drop from (now row)) (drop from (now marks))) ≤ 32768 ⌝ }
-    ensures { λ r. ⌜ r ≡ told (shortWords (replacedWords (now (head .entry)) (planFor rule (now (words .entry)) (now (starts .entry)) (now (ends .entry))) (now (list .entry)) (now («list_marks» .entry)) (drop from (now (row .entry))) (drop from (now (marks .entry)))) (length (now (out .entry)))) ⌝ }
-    ensures { λ _. ⌜ now (out .exit) ≡ written (shortWords (replacedWords (now (head .entry)) (planFor rule (now (words .entry)) (now (starts .entry)) (now (ends .entry))) (now (list .entry)) (now («list_marks» .entry)) (drop from (now (row .entry))) (drop from (now (marks .entry)))) (length (now (out .entry)))) (now (out .entry)) ⌝ }
-{
-    let mut work = [0u32; 32768];
-    let n = write_words(
-        head,
-        rule,
-        words,
-        starts,
-        ends,
-        list,
-        list_marks,
-        row,
-        marks,
-        from,
-        &mut work,
-    );
-    emit_short(&work[..n], out)
-}
-
-// Whether a head and what stands for so many words may be too many for an answer, but fit in a work row of 32,768 words.
-fn fit_work(
-    head: usize,
-    n: usize,
-    starts: &[usize],
-    ends: &[usize],
-    words: usize,
-    room: usize,
-) -> bool
-    requires { ⌜ n ≤ length (now starts) ⌝ }
-    requires { ⌜ n ≤ length (now ends) ⌝ }
-    ensures { λ r. ⌜ r ≡ pick (leb (head + words * half (longest (now (starts .entry)) (now (ends .entry)) n)) (min room 8192)) false (leb (head + words * half (longest (now (starts .entry)) (now (ends .entry)) n)) 32768) ⌝ }
-{
-    let longest = longest_part(starts, ends, n);
-    if always_fit(head, words, longest, smaller(room, Limit::WORDS)) {
-        return false;
-    }
-    always_fit(head, words, longest, 32768)
-}
-
-// The same as an answer, where it is sure to be a form.
-fn replace_sure(
-    head: &[u32],
-    rule: Rule,
-    words: &[u32],
-    starts: &[usize],
-    ends: &[usize],
-    list: &[u32],
-    list_marks: &[u32],
-    row: &[u32],
-    marks: &[u32],
-    from: usize,
-    out: &mut [u32],
-) -> Answer
-    requires { ⌜ Ready (planFor rule (now words) (now starts) (now ends)) (now list) (now «list_marks») ⌝ }
-    ensures { λ r. ⌜ r ≡ told (shortWords (replacedWords (now (head .entry)) (planFor rule (now (words .entry)) (now (starts .entry)) (now (ends .entry))) (now (list .entry)) (now («list_marks» .entry)) (drop from (now (row .entry))) (drop from (now (marks .entry)))) (length (now (out .entry)))) ⌝ }
-    ensures { λ _. ⌜ now (out .exit) ≡ written (shortWords (replacedWords (now (head .entry)) (planFor rule (now (words .entry)) (now (starts .entry)) (now (ends .entry))) (now (list .entry)) (now («list_marks» .entry)) (drop from (now (row .entry))) (drop from (now (marks .entry)))) (length (now (out .entry)))) (now (out .entry)) ⌝ }
-{
-    let count = words_between(from, row.len());
-    if fit_work(head.len(), rule.n, starts, ends, count, out.len()) {
-        return replace_built(
-            head,
-            rule,
-            words,
-            starts,
-            ends,
-            list,
-            list_marks,
-            row,
-            marks,
-            from,
-            out,
-        );
-    }
-    replace_counted(
-        head,
-        rule,
-        words,
-        starts,
-        ends,
-        list,
-        list_marks,
-        row,
-        marks,
-        from,
-        out,
-    )
-}
-
 // The same as an answer, checked as a form of the kind.
 fn replace_checked(
     kind: Kind,
@@ -371,7 +250,7 @@ pub(crate) fn replace(
     ensures { λ _. ⌜ now (out .exit) ≡ written (replaced sure kind (now (head .entry)) (planFor rule (now (words .entry)) (now (starts .entry)) (now (ends .entry))) (now (list .entry)) (now («list_marks» .entry)) (drop from (now (row .entry))) (drop from (now (marks .entry))) (length (now (out .entry)))) (now (out .entry)) ⌝ }
 {
     if sure {
-        return replace_sure(
+        return replace_counted(
             head,
             rule,
             words,

@@ -73,10 +73,6 @@ pub record RestLeaves (part : List ℕ) (r : ℕ) : Type 0 where
   pub most : r ≤ 63
   pub left : 0 < r → Leaves part (r + 1)
 
--- the depth at which the rest is read first
-abbrev pub readingDepth : ℕ → ℕ
-readingDepth r = pick (eqb r 0) 63 r
-
 -- the word of an emptied body
 abbrev pub emptyWord : ℕ → ℕ
 emptyWord t = pick (eqb t 852) 610 611

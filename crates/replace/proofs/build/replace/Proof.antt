@@ -6,14 +6,14 @@ use Rattle.replace.proofs.BuildLaws.{short-sure, same-replaced}
 use Rattle.replace.proofs.build.replace.Statement.{statement}
 use Rattle.replace.proofs.build.replace.Tie as tie
 
-replace-sure-requires : tie.Need-replace-sure-requires
-replace-sure-requires c κs = search needs
+replace-counted-requires : tie.Need-replace-counted-requires
+replace-counted-requires c κs = search needs
 
 same-length : tie.Need-same-length
 same-length c = search needs
 
 returns : tie.Need-returns
-returns c = let b4 = c .before .before .before .before in passed _ _ _ _ _ (short-sure _ _ _ _ _ _ _ _ _ (b4 .if1 .taken)) (c .before .before .replace-sure .ensures)
+returns c = let b4 = c .before .before .before .before in passed _ _ _ _ _ (short-sure _ _ _ _ _ _ _ _ _ (b4 .if1 .taken)) (c .before .before .replace-counted .ensures)
 
 replace-checked-requires : tie.Need-replace-checked-requires
 replace-checked-requires c κs = search needs
@@ -28,7 +28,7 @@ pub replace-spec : {M : Type 1} → statement M
 replace-spec =
     tie.close
     (tie.spec
-    replace-sure-requires
+    replace-counted-requires
     same-length
     returns
     replace-checked-requires
