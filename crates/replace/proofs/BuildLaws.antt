@@ -154,6 +154,11 @@ module _ (head : List ℕ) (p : Plan) (list lm row marks : List ℕ) (inside : I
     unfolding replaced
     long-row e z = emit-long kind all room (rw replaced-length (refused-many (length head + sizes p (items row marks)) e z))
 
+  pub short-built : (room : ℕ) (work work′ : List ℕ) (n : ℕ) → work′ ≡ store work 0 all → n ≡ length head + sizes p (items row marks) → n ≤ length work → shortWords (take n work′) room ≡ shortWords all room
+  short-built room work work′ n e k h =
+      let l : length all ≡ n = replaced-length ∙ sym k in
+      rw (e, stored work all (rw l h), take-at all (drop (length all) work) n l)
+
   -- stored in the output row
   pub sure-not : (room : ℕ) {no : ℕ} → no ≡ lengthRefusal (length head + sizes p (items row marks)) room → (no ≡ 0 → ⊥) → shortWords all room ≡ refusal no
   sure-not room e z = short-not all room (rw replaced-length e) z

@@ -10,6 +10,7 @@ use borrow.Author.Tests.{eqb-true, eqb-false, le-leb, lt-leb, leb-true, leb-fals
 use lib.Dec.{leb, eqb}
 use lib.ListN.{length, getD, drop, length-append, length-drop}
 use Rattle.tree.specs.Form.{pick}
+use Rattle.form.proofs.DecodeLaws.{clash}
 use Rattle.shift.specs.Internal.Items.{items, sizeOf, wordsOf, rewritten}
 use Rattle.shift.specs.declared.items.Item.{Item}
 use Rattle.shift.specs.declared.items.Item.the-variants.{Plain, Ident}
@@ -123,3 +124,14 @@ always-short p row marks i head room words l e f q =
     let s : sizes p (items (drop i row) (drop i marks)) ≤ words * half l = rw (f, e, ← length-drop i row) (sizes-short p (drop i row) (drop i marks)) in
     let t = leb-true (head + words * half l) (min room 8192) q in
     refusal-none (head + sizes p (items (drop i row) (drop i marks))) room (omega arith) (omega arith)
+
+pub work-short : (p : Plan) (row marks : List ℕ) (i head room words : ℕ) → words ≡ length row - i → pick (leb (head + words * half (most p)) (min room 8192)) false (leb (head + words * half (most p)) 32768) ≡ true
+    → head + sizes p (items (drop i row) (drop i marks)) ≤ 32768
+work-short p row marks i head room words e q =
+    let s : sizes p (items (drop i row) (drop i marks)) ≤ words * half (most p) = rw (e, ← length-drop i row) (sizes-short p (drop i row) (drop i marks)) in
+    let t = leb-true (head + words * half (most p)) 32768 (go (leb (head + words * half (most p)) (min room 8192)) _ q) in
+    omega arith
+  where
+    go : (b c : Bool) → pick b false c ≡ true → c ≡ true
+    go true c q = absurd (clash cc)
+    go false c q = q

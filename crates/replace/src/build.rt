@@ -1,4 +1,7 @@
 // The words that a plan makes of a form: counted where they may be too many, built, checked as a form where they may be none, and answered.
+use crate::emit::copy;
+use crate::emit::emit;
+use crate::emit::emit_short;
 use crate::pieces::Rule;
 use crate::pieces::longest_part;
 use crate::pieces::words_between;
@@ -12,36 +15,10 @@ ghost use mathlib.Core.Bool.{false};
 ghost use Prim.Native.Nat.{_+_, _*_, _≤_, min};
 ghost use lib.Dec.{leb};
 ghost use lib.ListN.{length, drop};
+ghost use Rattle.tree.specs.Form.{pick};
 ghost use Rattle.form.specs.Answer.{told, written};
 ghost use Rattle.shift.specs.Internal.Items.{items, store};
-ghost use Rattle.replace.specs.Internal.Pieces.{sizes, half, lengthRefusal, planFor, Tabled, Ready, shortWords, emitted, replacedWords, replaced};
-
-// The words, stored at `at`.
-pub(crate) fn copy(words: &[u32], out: &mut [u32], at: usize)
-    requires { ⌜ at + length (now words) ≤ length (now out) ⌝ }
-    ensures { λ _. ⌜ now (out .exit) ≡ store (now (out .entry)) at (now (words .entry)) ⌝ }
-{
-    let mut i = 0;
-    while i < words.len() {
-        out[at + i] = words[i];
-        i += 1;
-    }
-}
-
-// The words as an answer: 7 where they are no form of the kind, 14 where the output row is shorter.
-fn emit(kind: Kind, words: &[u32], out: &mut [u32]) -> Answer
-    ensures { λ r. ⌜ r ≡ told (emitted false kind (now (words .entry)) (length (now (out .entry)))) ⌝ }
-    ensures { λ _. ⌜ now (out .exit) ≡ written (emitted false kind (now (words .entry)) (length (now (out .entry)))) (now (out .entry)) ⌝ }
-{
-    let Answer::Done(n) = reader::check::check(words, kind) else {
-        return Answer::No(7);
-    };
-    if out.len() < words.len() {
-        return Answer::No(14);
-    }
-    copy(words, out, 0);
-    Answer::Done(words.len())
-}
+ghost use Rattle.replace.specs.Internal.Pieces.{sizes, longest, half, lengthRefusal, planFor, Tabled, Ready, shortWords, replacedWords, replaced};
 
 fn smaller(a: usize, b: usize) -> usize
     ensures { λ r. ⌜ r ≡ min a b ⌝ }
@@ -179,6 +156,111 @@ fn replace_counted(
     ))
 }
 
+// The same, built in a work row, so that nothing is counted first.
+fn replace_built(
+    head: &[u32],
+    rule: Rule,
+    words: &[u32],
+    starts: &[usize],
+    ends: &[usize],
+    list: &[u32],
+    list_marks: &[u32],
+    row: &[u32],
+    marks: &[u32],
+    from: usize,
+    out: &mut [u32],
+) -> Answer
+    requires { ⌜ Ready (planFor rule (now words) (now starts) (now ends)) (now list) (now «list_marks») ⌝ }
+    requires { ⌜ length (now head) + sizes (planFor rule (now words) (now starts) (now ends)) (items (drop from (now row)) (drop from (now marks))) ≤ 32768 ⌝ }
+    ensures { λ r. ⌜ r ≡ told (shortWords (replacedWords (now (head .entry)) (planFor rule (now (words .entry)) (now (starts .entry)) (now (ends .entry))) (now (list .entry)) (now («list_marks» .entry)) (drop from (now (row .entry))) (drop from (now (marks .entry)))) (length (now (out .entry)))) ⌝ }
+    ensures { λ _. ⌜ now (out .exit) ≡ written (shortWords (replacedWords (now (head .entry)) (planFor rule (now (words .entry)) (now (starts .entry)) (now (ends .entry))) (now (list .entry)) (now («list_marks» .entry)) (drop from (now (row .entry))) (drop from (now (marks .entry)))) (length (now (out .entry)))) (now (out .entry)) ⌝ }
+{
+    let mut work = [0u32; 32768];
+    let n = write_words(
+        head,
+        rule,
+        words,
+        starts,
+        ends,
+        list,
+        list_marks,
+        row,
+        marks,
+        from,
+        &mut work,
+    );
+    emit_short(&work[..n], out)
+}
+
+// Whether a head and what stands for so many words may be too many for an answer, but fit in a work row of 32,768 words.
+fn fit_work(
+    head: usize,
+    n: usize,
+    starts: &[usize],
+    ends: &[usize],
+    words: usize,
+    room: usize,
+) -> bool
+    requires { ⌜ n ≤ length (now starts) ⌝ }
+    requires { ⌜ n ≤ length (now ends) ⌝ }
+    ensures { λ r. ⌜ r ≡ pick (leb (head + words * half (longest (now (starts .entry)) (now (ends .entry)) n)) (min room 8192)) false (leb (head + words * half (longest (now (starts .entry)) (now (ends .entry)) n)) 32768) ⌝ }
+{
+    let longest = longest_part(starts, ends, n);
+    if always_fit(head, words, longest, smaller(room, Limit::WORDS)) {
+        return false;
+    }
+    always_fit(head, words, longest, 32768)
+}
+
+// The same as an answer, where it is sure to be a form.
+fn replace_sure(
+    head: &[u32],
+    rule: Rule,
+    words: &[u32],
+    starts: &[usize],
+    ends: &[usize],
+    list: &[u32],
+    list_marks: &[u32],
+    row: &[u32],
+    marks: &[u32],
+    from: usize,
+    out: &mut [u32],
+) -> Answer
+    requires { ⌜ Ready (planFor rule (now words) (now starts) (now ends)) (now list) (now «list_marks») ⌝ }
+    ensures { λ r. ⌜ r ≡ told (shortWords (replacedWords (now (head .entry)) (planFor rule (now (words .entry)) (now (starts .entry)) (now (ends .entry))) (now (list .entry)) (now («list_marks» .entry)) (drop from (now (row .entry))) (drop from (now (marks .entry)))) (length (now (out .entry)))) ⌝ }
+    ensures { λ _. ⌜ now (out .exit) ≡ written (shortWords (replacedWords (now (head .entry)) (planFor rule (now (words .entry)) (now (starts .entry)) (now (ends .entry))) (now (list .entry)) (now («list_marks» .entry)) (drop from (now (row .entry))) (drop from (now (marks .entry)))) (length (now (out .entry)))) (now (out .entry)) ⌝ }
+{
+    let count = words_between(from, row.len());
+    if fit_work(head.len(), rule.n, starts, ends, count, out.len()) {
+        return replace_built(
+            head,
+            rule,
+            words,
+            starts,
+            ends,
+            list,
+            list_marks,
+            row,
+            marks,
+            from,
+            out,
+        );
+    }
+    replace_counted(
+        head,
+        rule,
+        words,
+        starts,
+        ends,
+        list,
+        list_marks,
+        row,
+        marks,
+        from,
+        out,
+    )
+}
+
 // The same as an answer, checked as a form of the kind.
 fn replace_checked(
     kind: Kind,
@@ -229,7 +311,59 @@ fn replace_checked(
     emit(kind, &work[..n], out)
 }
 
+// The same as an answer, as a form of the kind.
+fn replace_long(
+    sure: bool,
+    kind: Kind,
+    head: &[u32],
+    rule: Rule,
+    words: &[u32],
+    starts: &[usize],
+    ends: &[usize],
+    list: &[u32],
+    list_marks: &[u32],
+    row: &[u32],
+    marks: &[u32],
+    from: usize,
+    out: &mut [u32],
+) -> Answer
+    requires { ⌜ Ready (planFor rule (now words) (now starts) (now ends)) (now list) (now «list_marks») ⌝ }
+    ensures { λ r. ⌜ r ≡ told (replaced sure kind (now (head .entry)) (planFor rule (now (words .entry)) (now (starts .entry)) (now (ends .entry))) (now (list .entry)) (now («list_marks» .entry)) (drop from (now (row .entry))) (drop from (now (marks .entry))) (length (now (out .entry)))) ⌝ }
+    ensures { λ _. ⌜ now (out .exit) ≡ written (replaced sure kind (now (head .entry)) (planFor rule (now (words .entry)) (now (starts .entry)) (now (ends .entry))) (now (list .entry)) (now («list_marks» .entry)) (drop from (now (row .entry))) (drop from (now (marks .entry))) (length (now (out .entry)))) (now (out .entry)) ⌝ }
+{
+    if sure {
+        return replace_sure(
+            head,
+            rule,
+            words,
+            starts,
+            ends,
+            list,
+            list_marks,
+            row,
+            marks,
+            from,
+            out,
+        );
+    }
+    replace_checked(
+        kind,
+        head,
+        rule,
+        words,
+        starts,
+        ends,
+        list,
+        list_marks,
+        row,
+        marks,
+        from,
+        out,
+    )
+}
+
 // The head and what stands for the items from `from` on, as a form of the kind. Where it is sure to be one, only its length is checked.
+// What stands for a short row is counted, so that the call lays out no row of its own.
 pub(crate) fn replace(
     sure: bool,
     kind: Kind,
@@ -250,7 +384,24 @@ pub(crate) fn replace(
     ensures { λ _. ⌜ now (out .exit) ≡ written (replaced sure kind (now (head .entry)) (planFor rule (now (words .entry)) (now (starts .entry)) (now (ends .entry))) (now (list .entry)) (now («list_marks» .entry)) (drop from (now (row .entry))) (drop from (now (marks .entry))) (length (now (out .entry)))) (now (out .entry)) ⌝ }
 {
     if sure {
-        return replace_counted(
+        if words_between(from, row.len()) <= 1024 {
+            return replace_counted(
+                head,
+                rule,
+                words,
+                starts,
+                ends,
+                list,
+                list_marks,
+                row,
+                marks,
+                from,
+                out,
+            );
+        }
+        return replace_long(
+            true,
+            kind,
             head,
             rule,
             words,
@@ -264,7 +415,8 @@ pub(crate) fn replace(
             out,
         );
     }
-    replace_checked(
+    replace_long(
+        false,
         kind,
         head,
         rule,

@@ -1,6 +1,6 @@
 // A body filled under the declarations in front and those that stay, joined with its own quantifier where only a front stands and the operator
 // is the same.
-use crate::build::copy;
+use crate::emit::copy;
 use crate::places::fill_places;
 use form::answer::Answer;
 ghost use mathlib.Core.Path.{_≡_};

@@ -1,5 +1,6 @@
 // Replacements that change a form's length: free substitution, filling of declarations, pruning.
 mod build;
+mod emit;
 pub mod fill;
 pub mod free;
 pub mod instantiate_partial;

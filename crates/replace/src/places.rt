@@ -1,6 +1,6 @@
 // The places of a table filled in a body, under a head that is given.
-use crate::build::copy;
 use crate::build::replace;
+use crate::emit::copy;
 use crate::pieces::Rule;
 use crate::pieces::filled_from;
 use crate::pieces::write_part;

@@ -1,5 +1,5 @@
 // Prune: the declarations whose index the body never uses are dropped.
-use crate::build::copy;
+use crate::emit::copy;
 use crate::fill::declared;
 use crate::fill::write_head;
 use crate::marks::mark_fresh;

@@ -5,7 +5,7 @@ use Rattle.replace.proofs.build.write_words.Statement.{statement}
 use Rattle.replace.proofs.build.write_words.Tie as tie
 use Rattle.replace.proofs.build.write_words.Reads as reads
 use Rattle.replace.proofs.build.write_words.Lts as lts
-use Rattle.replace.proofs.build.copy.Reads as copy-reads
+use Rattle.replace.proofs.emit.copy.Reads as copy-reads
 use Rattle.replace.proofs.splice.write_spliced.Reads as write-spliced-reads
 
 copy-requires : tie.Need-copy-requires

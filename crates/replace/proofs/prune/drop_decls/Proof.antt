@@ -11,7 +11,7 @@ use Rattle.replace.proofs.prune.drop_decls.Statement.{statement}
 use Rattle.replace.proofs.prune.drop_decls.Tie as tie
 use Rattle.replace.proofs.prune.drop_decls.Reads as reads
 use Rattle.replace.proofs.prune.drop_decls.Lts as lts
-use Rattle.replace.proofs.build.copy.Reads as copy-reads
+use Rattle.replace.proofs.emit.copy.Reads as copy-reads
 use Rattle.replace.proofs.fill.write_head.Reads as write-head-reads
 use Rattle.replace.proofs.pieces.filled_from.Reads as filled-from-reads
 use Rattle.replace.proofs.prune.count_falls.Reads as count-falls-reads

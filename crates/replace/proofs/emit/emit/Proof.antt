@@ -1,15 +1,15 @@
--- `replace::build::emit` meets its contract. Assumes nothing.
+-- `replace::emit::emit` meets its contract. Assumes nothing.
 use mathlib.Core.Path.{refl}
 use native.Mathlib.Omega.{arith}
 use borrow.Author.Needs.{needs}
 use Rattle.shift.proofs.CheckedLaws.{refused}
 use Rattle.replace.proofs.BuildLaws.{emit-no, emit-room, emit-done}
-use Rattle.replace.proofs.build.emit.Statement.{statement}
-use Rattle.replace.proofs.build.emit.Tie as tie
-use Rattle.replace.proofs.build.emit.Reads as reads
-use Rattle.replace.proofs.build.emit.Lts as lts
+use Rattle.replace.proofs.emit.emit.Statement.{statement}
+use Rattle.replace.proofs.emit.emit.Tie as tie
+use Rattle.replace.proofs.emit.emit.Reads as reads
+use Rattle.replace.proofs.emit.emit.Lts as lts
 use Rattle.reader.proofs.check.check.Reads as check-reads
-use Rattle.replace.proofs.build.copy.Reads as copy-reads
+use Rattle.replace.proofs.emit.copy.Reads as copy-reads
 
 check-requires : tie.Need-check-requires
 check-requires c κs = search needs

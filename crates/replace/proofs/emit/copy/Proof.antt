@@ -1,4 +1,4 @@
--- `replace::build::copy` meets its contract. Assumes nothing.
+-- `replace::emit::copy` meets its contract. Assumes nothing.
 use mathlib.Core.Path.{_≡_, refl, sym, _∙_}
 use native.Mathlib.Nat.{add-zero}
 use native.Mathlib.Omega.{arith}
@@ -6,8 +6,8 @@ use Prim.Native.Nat.{_+_, _-_}
 use lib.ListN.{length, drop, length-set}
 use Rattle.shift.specs.Internal.Items.{store}
 use Rattle.replace.proofs.MarkLaws.{copy-more, copy-none}
-use Rattle.replace.proofs.build.copy.Statement.{statement}
-use Rattle.replace.proofs.build.copy.Tie as tie
+use Rattle.replace.proofs.emit.copy.Statement.{statement}
+use Rattle.replace.proofs.emit.copy.Tie as tie
 
 abbrev Inv-loop : tie.InvT-loop
 Inv-loop words out₀ at i₀ out i = (store out₀ at words ≡ store out (at + i) (drop i words)) × (length out ≡ length out₀)
