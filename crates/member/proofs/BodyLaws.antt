@@ -138,10 +138,6 @@ equals-count u [] = refl
 equals-count u (p ∷ qs) = ap suc (equals-count u qs)
 
 module _ (row lm : List ℕ) (n u w : ℕ) (out : List ℕ) (t : Table) (e m : ℕ) (o : List ℕ) (low : w ≤ length out) where
-  pub shared-end : (z : Shares) → Shared row lm n u w out 0 z t e m o → (w ≤ e) × (e ≤ length o)
-  unfolding Shared
-  shared-end (shares ps qs) (a, b, d) = let k = wrote-end w e out (encodeAll (equalities u qs)) o b in let i = wrote-in w e out (encodeAll (equalities u qs)) o low b in (omega arith, i)
-
   pub shared-count : (z : Shares) (k : ℕ) → length (leftParts z) ≤ k → Shared row lm n u w out 0 z t e m o → m ≤ k
   unfolding Shared
   shared-count (shares ps qs) k h (a, b, d) = let c = equals-count u qs in omega (arith, d)

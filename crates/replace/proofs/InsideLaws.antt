@@ -306,6 +306,3 @@ module _ (m : ℕ) where
 
     pub partial-body : {d : ℕ} {f : Form} → Ok d pred f → d + m ≤ 63 → Ok 63 pred (subst (fillFor (map (lowPlace (lower n)) (drop j ps))) f)
     partial-body ok l = filled-body qs qs-few qs-small ok l
-
-    pub partial-inside : (t : ℕ) → (eqb t 851 || eqb t 852) ≡ true → {d : ℕ} {f : Form} → Ok d pred f → d + m ≤ 63 → Ok 64 pred (fill t (drop j ns) (map (lowPlace (lower n)) (drop j ps)) f)
-    partial-inside t w ok deep = let l = length-drop j ns in filled-ok qs qs-few qs-small t (drop j ns) w (names-drop j ns names) (omega arith) ok deep

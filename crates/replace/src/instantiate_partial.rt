@@ -2,26 +2,17 @@
 // is the same.
 use crate::emit::copy;
 use crate::places::fill_places;
+use crate::splice::word_at;
 use form::answer::Answer;
 ghost use mathlib.Core.Path.{_≡_};
 ghost use mathlib.Core.Bool.{_&&_};
 ghost use mathlib.Core.List.{_++_};
 ghost use Prim.Native.Nat.{_+_, _≤_};
 ghost use lib.Dec.{leb};
-ghost use lib.ListN.{length, getD, take};
+ghost use lib.ListN.{length, take};
 ghost use Rattle.form.specs.Answer.{told, written};
 ghost use Rattle.replace.specs.Internal.Pieces.{tableOf, headWords};
 ghost use Rattle.replace.specs.Internal.Partial.{innerEnd, innerStart, headFits, partialRow};
-
-// The word at `at`; 0 past the end.
-fn word_at(row: &[u32], at: usize) -> u32
-    ensures { λ r. ⌜ r ≡ getD (now (row .entry)) at 0 ⌝ }
-{
-    if row.len() <= at {
-        return 0;
-    }
-    row[at]
-}
 
 // Where the head of the body's own quantifier ends, if its declarations join those in front; else 0.
 fn inner_end(tag: u32, front: &[u32], stay: &[u32], body: &[u32]) -> usize

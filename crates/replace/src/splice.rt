@@ -37,7 +37,8 @@ fn still_apart(apart: bool, lo: u32, m: u32, k: u32) -> bool
     false
 }
 
-fn word_at(row: &[u32], at: usize) -> u32
+// The word at `at`; 0 past the end.
+pub(crate) fn word_at(row: &[u32], at: usize) -> u32
     ensures { λ r. ⌜ r ≡ getD (now (row .entry)) at 0 ⌝ }
 {
     if row.len() <= at {
