@@ -76,38 +76,29 @@ fn place_in(
     put_rest(tag, names, p, true, part, part_marks, rest, marks, out)
 }
 
-// The same, with marks for the rest of its own.
-fn place_rest(
+// The same, with marks for both.
+fn place_marked(
     tag: u32,
     names: &[u32],
     target: u32,
     part: &[u32],
-    part_marks: &[u32],
+    part_marks: &mut [u32],
     rest: &[u32],
+    marks: &mut [u32],
     out: &mut [u32],
 ) -> Answer
-    requires { ⌜ Placing tag (now names) target (now part) (now rest) × Marking (now part) (now «part_marks») ⌝ }
+    requires { ⌜ Placing tag (now names) target (now part) (now rest) × Cleared (now part) (now «part_marks») × Cleared (now rest) (now marks) ⌝ }
     ensures { λ r. ⌜ r ≡ told (placedOutcome tag (now (names .entry)) target (now (part .entry)) (now (rest .entry)) (length (now (out .entry)))) ⌝ }
     ensures { λ _. ⌜ now (out .exit) ≡ written (placedOutcome tag (now (names .entry)) target (now (part .entry)) (now (rest .entry)) (length (now (out .entry)))) (now (out .entry)) ⌝ }
 {
-    if rest.len() <= 64 {
-        let mut marks = [0u32; 64];
-        return place_in(tag, names, target, part, part_marks, rest, &mut marks, out);
-    }
-    if rest.len() <= 512 {
-        let mut marks = [0u32; 512];
-        return place_in(tag, names, target, part, part_marks, rest, &mut marks, out);
-    }
-    if rest.len() <= 2048 {
-        let mut marks = [0u32; 2048];
-        return place_in(tag, names, target, part, part_marks, rest, &mut marks, out);
-    }
-    let mut marks = [0u32; 16384];
-    place_in(tag, names, target, part, part_marks, rest, &mut marks, out)
+    let Step::End(end) = expr_at(part, part_marks, 0, 63, 0) else {
+        return Answer::No(2);
+    };
+    place_in(tag, names, target, part, part_marks, rest, marks, out)
 }
 
-// The same, with marks for the replacement.
-fn place_part(
+// The same, with marks for the rest of its own.
+fn place_rest(
     tag: u32,
     names: &[u32],
     target: u32,
@@ -120,14 +111,24 @@ fn place_part(
     ensures { λ r. ⌜ r ≡ told (placedOutcome tag (now (names .entry)) target (now (part .entry)) (now (rest .entry)) (length (now (out .entry)))) ⌝ }
     ensures { λ _. ⌜ now (out .exit) ≡ written (placedOutcome tag (now (names .entry)) target (now (part .entry)) (now (rest .entry)) (length (now (out .entry)))) (now (out .entry)) ⌝ }
 {
-    let Step::End(end) = expr_at(part, part_marks, 0, 63, 0) else {
-        return Answer::No(2);
-    };
-    place_rest(tag, names, target, part, part_marks, rest, out)
+    if rest.len() <= 64 {
+        let mut marks = [0u32; 64];
+        return place_marked(tag, names, target, part, part_marks, rest, &mut marks, out);
+    }
+    if rest.len() <= 512 {
+        let mut marks = [0u32; 512];
+        return place_marked(tag, names, target, part, part_marks, rest, &mut marks, out);
+    }
+    if rest.len() <= 2048 {
+        let mut marks = [0u32; 2048];
+        return place_marked(tag, names, target, part, part_marks, rest, &mut marks, out);
+    }
+    let mut marks = [0u32; 16384];
+    place_marked(tag, names, target, part, part_marks, rest, &mut marks, out)
 }
 
-// The target's place filled in the rest of a body.
-fn place(
+// The same, with marks for both of their own.
+fn place_long(
     tag: u32,
     names: &[u32],
     target: u32,
@@ -141,14 +142,60 @@ fn place(
 {
     if part.len() <= 64 {
         let mut marks = [0u32; 64];
-        return place_part(tag, names, target, part, &mut marks, rest, out);
+        return place_rest(tag, names, target, part, &mut marks, rest, out);
     }
     if part.len() <= 512 {
         let mut marks = [0u32; 512];
-        return place_part(tag, names, target, part, &mut marks, rest, out);
+        return place_rest(tag, names, target, part, &mut marks, rest, out);
     }
     let mut marks = [0u32; 8192];
-    place_part(tag, names, target, part, &mut marks, rest, out)
+    place_rest(tag, names, target, part, &mut marks, rest, out)
+}
+
+// The target's place filled in the rest of a body. Short rows stand apart, so that their call lays out no row for long ones.
+fn place(
+    tag: u32,
+    names: &[u32],
+    target: u32,
+    part: &[u32],
+    rest: &[u32],
+    out: &mut [u32],
+) -> Answer
+    requires { ⌜ Placing tag (now names) target (now part) (now rest) ⌝ }
+    ensures { λ r. ⌜ r ≡ told (placedOutcome tag (now (names .entry)) target (now (part .entry)) (now (rest .entry)) (length (now (out .entry)))) ⌝ }
+    ensures { λ _. ⌜ now (out .exit) ≡ written (placedOutcome tag (now (names .entry)) target (now (part .entry)) (now (rest .entry)) (length (now (out .entry)))) (now (out .entry)) ⌝ }
+{
+    if part.len() <= 64 {
+        let mut part_marks = [0u32; 64];
+        if rest.len() <= 64 {
+            let mut marks = [0u32; 64];
+            return place_marked(
+                tag,
+                names,
+                target,
+                part,
+                &mut part_marks,
+                rest,
+                &mut marks,
+                out,
+            );
+        }
+        if rest.len() <= 512 {
+            let mut marks = [0u32; 512];
+            return place_marked(
+                tag,
+                names,
+                target,
+                part,
+                &mut part_marks,
+                rest,
+                &mut marks,
+                out,
+            );
+        }
+        return place_long(tag, names, target, part, rest, out);
+    }
+    place_long(tag, names, target, part, rest, out)
 }
 
 // Where what is left of a body ends; an emptied body becomes true under 852 and false under 851.
