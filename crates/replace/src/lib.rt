@@ -4,6 +4,7 @@ mod emit;
 pub mod fill;
 pub mod free;
 pub mod instantiate_partial;
+mod length;
 mod marks;
 mod pieces;
 pub mod places;

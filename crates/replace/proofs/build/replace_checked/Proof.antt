@@ -12,7 +12,7 @@ use Rattle.replace.proofs.build.replace_checked.Tie as tie
 use Rattle.replace.proofs.build.replace_checked.Reads as reads
 use Rattle.replace.proofs.build.replace_checked.Lts as lts
 use Rattle.replace.proofs.emit.emit.Reads as emit-reads
-use Rattle.replace.proofs.build.length_refusal.Reads as length-refusal-reads
+use Rattle.replace.proofs.length.length_refusal.Reads as length-refusal-reads
 use Rattle.replace.proofs.build.write_words.Reads as write-words-reads
 
 length-refusal-requires : tie.Need-length-refusal-requires

@@ -10,7 +10,7 @@ use Rattle.replace.proofs.build.replace_counted.Statement.{statement}
 use Rattle.replace.proofs.build.replace_counted.Tie as tie
 use Rattle.replace.proofs.build.replace_counted.Reads as reads
 use Rattle.replace.proofs.build.replace_counted.Lts as lts
-use Rattle.replace.proofs.build.length_refusal.Reads as length-refusal-reads
+use Rattle.replace.proofs.length.length_refusal.Reads as length-refusal-reads
 use Rattle.replace.proofs.build.write_words.Reads as write-words-reads
 
 length-refusal-requires : tie.Need-length-refusal-requires

@@ -1,10 +1,10 @@
--- `replace::build::always_fit` meets its contract. Assumes nothing.
+-- `replace::length::always_fit` meets its contract. Assumes nothing.
 use mathlib.Core.Path.{sym}
 use Rattle.replace.specs.Internal.Pieces.{half}
 use Rattle.replace.proofs.LengthLaws.{half-pos, fit-over, fit-test}
 use borrow.Author.Needs.{needs}
-use Rattle.replace.proofs.build.always_fit.Statement.{statement}
-use Rattle.replace.proofs.build.always_fit.Tie as tie
+use Rattle.replace.proofs.length.always_fit.Statement.{statement}
+use Rattle.replace.proofs.length.always_fit.Tie as tie
 
 returns : tie.Need-returns
 returns c = sym (fit-over (c .before .args .head) (c .before .args .words) (half (c .before .args .longest)) (c .before .args .most) (c .if1 .taken))

@@ -1,8 +1,8 @@
--- `replace::build::fit_work` meets its contract. Assumes nothing.
+-- `replace::length::fit_work` meets its contract. Assumes nothing.
 use Rattle.replace.proofs.LengthLaws.{longest-two}
 use borrow.Author.Needs.{needs}
-use Rattle.replace.proofs.build.fit_work.Statement.{statement}
-use Rattle.replace.proofs.build.fit_work.Tie as tie
+use Rattle.replace.proofs.length.fit_work.Statement.{statement}
+use Rattle.replace.proofs.length.fit_work.Tie as tie
 
 longest-part-requires : tie.Need-longest-part-requires
 longest-part-requires c κs = search needs

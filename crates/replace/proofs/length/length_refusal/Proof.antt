@@ -1,12 +1,12 @@
--- `replace::build::length_refusal` meets its contract. Assumes nothing.
+-- `replace::length::length_refusal` meets its contract. Assumes nothing.
 use mathlib.Core.Path.{sym, _∙_}
 use native.Mathlib.Omega.{arith}
 use Rattle.replace.specs.Internal.Pieces.{planFor}
 use Rattle.replace.proofs.LengthLaws.{longest-two, always-short, refusal-none, refusal-many, refusal-room}
 use Rattle.replace.proofs.PieceLaws.{capped-low, capped-high}
 use borrow.Author.Needs.{needs}
-use Rattle.replace.proofs.build.length_refusal.Statement.{statement}
-use Rattle.replace.proofs.build.length_refusal.Tie as tie
+use Rattle.replace.proofs.length.length_refusal.Statement.{statement}
+use Rattle.replace.proofs.length.length_refusal.Tie as tie
 
 longest-part-requires : tie.Need-longest-part-requires
 longest-part-requires c κs = search needs
