@@ -1,6 +1,6 @@
 -- Children one after another: the first of them, the rest, and those that are copied. Assumes nothing.
 use mathlib.Core.Path.{_≡_, refl, ap, sym, _∙_}
-use mathlib.Core.Bool.{true, false}
+use mathlib.Core.Bool.{Bool, true, false}
 use mathlib.Core.List.{List, _++_}
 use Prim.Native.Nat.{ℕ, zero, suc, _+_, _-_, _≤_, _<_}
 use native.Mathlib.Numerals.{sub-one}
@@ -12,6 +12,7 @@ use Rattle.form.specs.Decode.{got, no-form, Gots, gots, no-forms, addForm, deco
 use Rattle.form.specs.declared.head.Step.{Step}
 use Rattle.form.specs.declared.head.Step.the-variants.{End, Bad}
 use Rattle.form.proofs.DecodeLaws.{clash, OkAll, ok-none, ok-more, all-sound}
+use Rattle.reader.specs.Internal.Reads.{mark, markAll}
 use Rattle.places.specs.Internal.Wrote.{Wrote}
 use Rattle.one_point.specs.Internal.Writes.{Neats, no-more, and-more}
 use Rattle.one_point.specs.Internal.Scans.{readKids, formsOf, kidsAt, isRead, areKids, endOfAll, KidsCopied}
@@ -53,6 +54,18 @@ module _ (row : List ℕ) (d : ℕ) where
       pub kids-length : areKids row d (q + length (encode f)) (n - 1) ≡ true → length (encodeAll (kidsAt row d q n)) ≡ length (encode f) + length (encodeAll (kidsAt row d (q + length (encode f)) (n - 1)))
       kids-length e = ap (λ z. length (encodeAll z)) (kids-split e) ∙ first-length f (kidsAt row d (q + length (encode f)) (n - 1))
 
+      -- their marks, made from w on
+      pub kids-marks : areKids row d (q + length (encode f)) (n - 1) ≡ true → (w : ℕ) (ms : List ℕ)
+          → markAll (kidsAt row d (q + length (encode f)) (n - 1)) (w + length (encode f)) 0 (mark f w 0 ms) ≡ markAll (kidsAt row d q n) w 0 ms
+      unfolding mark
+      kids-marks e w ms = rw (kids-split e) refl
+
+      pub kids-next : (p w w′ : ℕ) (ms ms′ all : List ℕ) → p ≡ q + length (encode f) → w′ ≡ w + length (encode f) → ms′ ≡ mark f w 0 ms → (areKids row d q n ≡ true → markAll (kidsAt row d q n) w 0 ms ≡ all)
+          → areKids row d p (n - 1) ≡ true → markAll (kidsAt row d p (n - 1)) w′ 0 ms′ ≡ all
+      kids-next p w w′ ms ms′ all a b m h e =
+          let e′ : areKids row d (q + length (encode f)) (n - 1) ≡ true = rw a at e in
+          rw (a, b, m) (kids-marks e′ w ms ∙ h (kids-same ∙ e′))
+
       pub end-next : (p : ℕ) → p ≡ q + length (encode f) → endOfAll p (readKids row d p (n - 1)) ≡ endOfAll q (readKids row d q n)
       end-next p e = rw e (sym (ap (endOfAll q) (kids-more n some) ∙ end-more f q (readKids row d (q + length (encode f)) (n - 1))))
 
@@ -76,6 +89,10 @@ module _ (row : List ℕ) (d : ℕ) where
   kids-none q zero h = refl
   kids-none q (suc n) h = absurd (omega arith)
 
+  pub marks-none : (q n w : ℕ) (ms : List ℕ) → n ≤ 0 → markAll (kidsAt row d q n) w 0 ms ≡ ms
+  unfolding mark
+  marks-none q n w ms h = rw (kids-none q n h) refl
+
   pub end-none : (q n : ℕ) → n ≤ 0 → End q ≡ endOfAll q (readKids row d q n)
   unfolding endOfAll decodeAll encode
   end-none q zero h = ap End (omega arith)
@@ -98,6 +115,13 @@ module _ (row : List ℕ) (d : ℕ) where
         go : (g : Gots) → r ≡ endOfAll q g → (isRead g ≡ true) × (to ≡ q + length (encodeAll (formsOf g)))
         go (gots fs x) e = (refl, cc)
         go no-forms e = absurd (clash cc)
+
+  pub kids-lost-all : (at n q m : ℕ) → areKids row d at n ≡ areKids row d q m → areKids row d q m ≡ false → areKids row d at n ≡ true → ⊥
+  kids-lost-all at n q m a b e = go (areKids row d at n) (a ∙ b) e
+    where
+      go : (c : Bool) → c ≡ false → c ≡ true → ⊥
+      go true x y = clash cc
+      go false x y = clash cc
 
   counted : (n : ℕ) {fs : Forms} → OkAll d (replicate n pred) fs → count fs ≡ n
   counted zero ok-none = refl

@@ -171,11 +171,11 @@ module _ (row : List ℕ) (at right next n pos : ℕ) (out : List ℕ) (x : Side
 
   -- one part: it is taken, or passed
   module _ (one : bothPairs row (at + 1) right ≡ false) (short : length row ≤ 8192) (r : Replacement) (is : r ≡ acceptWords n (record { left = at + 1; middle = right; right = right; end = next }) row) where
-    part-scan : (t : Taken) → accept n (x .left) (x .other) ≡ t → scan n true Whole ≡ with (λ gs. joined 351 (present gs)) (offerPart (x .left) (x .other) t [] (scans nothing []))
+    pub part-scan : (t : Taken) → accept n (x .left) (x .other) ≡ t → scan n true Whole ≡ with (λ gs. joined 351 (present gs)) (offerPart (x .left) (x .other) t [] (scans nothing []))
     unfolding offerParts
     part-scan t e = scan-equal n (x .left) (x .other) ∙ rw (one-part row at right next x one, e)
 
-    offered : TookIs row (accept n (x .left) (x .other)) r
+    pub offered : TookIs row (accept n (x .left) (x .other)) r
     offered = rw is (part-took row at right next x short n)
 
     pub part-taken : isTaken r ≡ true → Became row at Whole pos out (scan n true Whole) (record { ok = true; next = next; found = r; gone = true; end = pos }) out

@@ -16,6 +16,8 @@ use Rattle.places.specs.Internal.Wrote.{Wrote}
 use Rattle.one_point.specs.Internal.Writes.{Neats, no-more, and-more}
 use Rattle.one_point.specs.Internal.Parts.{isTaken, TookIs}
 use Rattle.one_point.specs.Internal.Scans.{Left, Became, kidsAt, areKids, oneMore, KidsTold, KidsCopied, SearchedKids}
+use Rattle.reader.specs.Internal.Reads.{mark, markAll}
+use Rattle.one_point.specs.Internal.Marks.{leftOf, leftsOf, markLeft, SearchedMarks}
 use Rattle.places.specs.declared.sides.Replacement.{Replacement}
 use Rattle.places.specs.declared.sides.Replacement.the-variants.{Not}
 use Rattle.one_point.specs.declared.scan.Scanned.{Scanned}
@@ -108,6 +110,53 @@ module _ (row : List ℕ) (d q n : ℕ) (some-left : 0 < n) (w c k : ℕ) (b : B
 
     pub child-ends : s .next + length (encodeAll (kidsAt row d (s .next) (n - 1))) ≡ q + length (encodeAll (kidsAt row d q n))
     child-ends = let a = long in rw next-is (omega arith)
+
+    -- the marks of what is left of them, made from w on
+    module _ (ms ms₁ : List ℕ) (marks : ms₁ ≡ markLeft (leftOf (scan c b (x .form))) w ms) where
+      abbrev Marks : Forms → List ℕ
+      Marks fs = markAll fs (s .end) 0 ms₁
+
+      one-before : (y : Taken) (g : Option Form) → Became row q (x .form) w out (scanned y g) s out₁ → ms₁ ≡ markLeft g w ms → (gs : List (Option Form)) → Marks (present gs) ≡ markAll (present (g ∷ gs)) w 0 ms
+      unfolding Left mark
+      one-before y (some g) a e gs = rw (wrote-end w (s .end) out (encode g) out₁ (a .left .2), e) refl
+      one-before y absent a e gs =
+          let l : s .end ≡ w = wrote-end w (s .end) out [] out₁ (a .left .2) ∙ omega arith in
+          rw (l, e) refl
+
+      marks-by : (y : Taken) (g : Option Form) → scan c b (x .form) ≡ scanned y g → ms₁ ≡ markLeft g w ms
+      marks-by y g e = rw e at marks
+
+      passed-by : (y : Taken) (g : Option Form) → Became row q (x .form) w out (scanned y g) s out₁ → ms₁ ≡ markLeft g w ms → isTaken (s .found) ≡ false → (z : Scans) → Marks (leftsOf z) ≡ markAll (leftsOf (follow (scanned y g) Rest z)) w 0 ms
+      unfolding Left TookIs
+      passed-by (taken i e′) g a e p z = let q = a .left .0 .2 in absurd (clash cc)
+      passed-by nothing g a e p (scans y gs) = one-before nothing g a e gs
+
+      taken-by : (y : Taken) (g : Option Form) → Became row q (x .form) w out (scanned y g) s out₁ → ms₁ ≡ markLeft g w ms → isTaken (s .found) ≡ true → (z : Scans) → Marks Rest ≡ markAll (leftsOf (follow (scanned y g) Rest z)) w 0 ms
+      unfolding Left TookIs
+      taken-by (taken i e′) g a e p z = ap Marks (sym (present-copies Rest)) ∙ one-before (taken i e′) g a e (copies Rest)
+      taken-by nothing g a e p z = let q = a .left .0 in absurd (clash cc)
+
+      pub passed-marks : isTaken (s .found) ≡ false → markAll (leftsOf (scanAll c b b (kidsAt row d (s .next) (n - 1)))) (s .end) 0 ms₁ ≡ markAll (leftsOf (scanAll c b b (kidsAt row d q n))) w 0 ms
+      passed-marks p =
+          let y = child-of (x .became) in
+          ap (λ (z : ℕ). markAll (leftsOf (scanAll c b b (kidsAt row d z (n - 1)))) (s .end) 0 ms₁) next-is
+          ∙ (passed-by (y .took) (y .left) (y .became) (marks-by (y .took) (y .left) (y .is)) p (scanAll c b b Rest) ∙ sym (ap (λ (z : Scans). markAll (leftsOf z) w 0 ms) (all-is (y .took) (y .left) (y .is))))
+
+      pub taken-marks : isTaken (s .found) ≡ true → markAll (kidsAt row d (s .next) (n - 1)) (s .end) 0 ms₁ ≡ markAll (leftsOf (scanAll c b b (kidsAt row d q n))) w 0 ms
+      taken-marks p =
+          let y = child-of (x .became) in
+          ap (λ (z : ℕ). markAll (kidsAt row d z (n - 1)) (s .end) 0 ms₁) next-is
+          ∙ (taken-by (y .took) (y .left) (y .became) (marks-by (y .took) (y .left) (y .is)) p (scanAll c b b Rest) ∙ sym (ap (λ (z : Scans). markAll (leftsOf z) w 0 ms) (all-is (y .took) (y .left) (y .is))))
+
+pub over-marks : (c : ℕ) (b : Bool) (fs : Forms) (w : ℕ) (ms : List ℕ) → fs ≡ none → markAll fs w 0 ms ≡ markAll (leftsOf (scanAll c b b fs)) w 0 ms
+unfolding scan mark
+over-marks c b fs w ms e = rw e refl
+
+-- a search that goes to the end of the row says nothing of the marks
+pub lost-marks : (row : List ℕ) (d n : ℕ) (b : Bool) (at c pos left w k : ℕ) (ms ms′ : List ℕ) → 0 < left → (found : Replacement) → SearchedMarks row d n b at c pos ms (record { found = found; next = length row; left = left; end = w; count = k }) ms′
+lost-marks row d n b at c pos left w k ms ms′ h found =
+    let z = kids-no row d (length row) (none-past row d (length row) (omega arith)) left h in
+    record { whole = λ a. absurd (clash cc) }
 
 -- a child that is no predicate: the search goes to the end of the row
 pub search-lost : (row : List ℕ) (d n : ℕ) (b : Bool) (at c pos q left w k : ℕ) (out out′ : List ℕ) → 0 < left → decode d pred (drop q row) ≡ no-form → areKids row d at c ≡ areKids row d q left → k + left ≤ c → w + 2 * (length row - q) ≤ pos + 2 * (length row - at) → (found : Replacement)

@@ -1,4 +1,6 @@
+pub mod MarkLaws
 pub mod WriteLaws
+pub mod WriteMarks
 pub mod AcceptLaws
 pub mod PartsStepLaws
 pub mod ScanLaws
@@ -6,12 +8,14 @@ pub mod ReadLaws
 pub mod EqualityLaws
 pub mod RebuildLaws
 pub mod BecameLaws
-pub mod ImpliesLaws
 pub mod ChildrenLaws
 pub mod JunctionLaws
 pub mod NodeLaws
+pub mod ScanMarkLaws
+pub mod ImpliesLaws
 pub mod PartialLaws
 pub mod ScanLimits
+pub mod EqualityMarks
 pub mod PlaceLaws
 pub mod PointLaws
 pub mod ShapeLaws

@@ -22,6 +22,9 @@ use Rattle.one_point.specs.Internal.Parts.{isTaken, TookIs}
 use Rattle.one_point.specs.Internal.Scans.{Left, Became, Told, ScanTold, nextScan, KidsTold}
 use Rattle.places.specs.declared.sides.Replacement.{Replacement}
 use Rattle.one_point.specs.declared.scan.Scanned.{Scanned}
+use Rattle.reader.specs.Internal.Reads.{markAll}
+use Rattle.one_point.specs.Internal.Marks.{leftOf, leftsOf, markLeft, ClearFrom, ScanMarks}
+use Rattle.one_point.proofs.MarkLaws.{tell-marks}
 use Rattle.places.proofs.WroteLaws.{wrote-end, wrote-in, kept, wrote-self, based}
 use Rattle.places.proofs.PartsLaws.{tagOf, tag-at}
 use Rattle.one_point.proofs.PartsStepLaws.{not-taken, took-not}
@@ -118,6 +121,18 @@ junction-told row d at n pos b t c ks x is y e m out out₂ out₃ low found gon
     tell (scan n b) row d at pos out _ out₃ (node t (c ∷ []) [] ks) x is refl
     (rw (y .scan-is n (c ∷ []) ks) (junction-done row at pos e m t (node t (c ∷ []) [] ks) ks l (y .not-eight) out out₂ out₃ low found gone next end (omega arith) fin (scanAll n b b ks) told))
 
+-- its marks, from those of what is left of its children
+pub junction-marks : (row : List ℕ) (d at n pos : ℕ) (b : Bool) (t c : ℕ) (ks : Forms) (x : List ℕ) → decode d pred (drop at row) ≡ got (node t (c ∷ []) [] ks) x → JunctionTag t b → (e m : ℕ) (out out₂ : List ℕ) (found : Replacement) (ms ms₂ ms₃ : List ℕ)
+    → KidsTold row ks (pos + 2) out 0 (scanAll n b b ks) found e m out₂ → ms₂ ≡ markAll (leftsOf (scanAll n b b ks)) (pos + 2) 0 ms
+    → ((t : ℕ) (fs : Forms) (l : List ℕ) → ClearFrom pos l → m ≡ count fs → e ≡ pos + 2 + length (encodeAll fs) → ms₂ ≡ markAll fs (pos + 2) 0 l → ms₃ ≡ markLeft (joined t fs) pos l) → ClearFrom pos ms
+    → ScanMarks (scan n b) row d at pos ms ms₃
+unfolding KidsTold
+junction-marks row d at n pos b t c ks x is y e m out out₂ found ms ms₂ ms₃ told marks fin clear =
+    tell-marks (scan n b) pos ms ms₃ (decode d pred (drop at row)) (node t (c ∷ []) [] ks) x is (rw (y .scan-is n (c ∷ []) ks) (go (scanAll n b b ks) told marks))
+  where
+    go : (z : Scans) → KidsTold row ks (pos + 2) out 0 z found e m out₂ → ms₂ ≡ markAll (leftsOf z) (pos + 2) 0 ms → ms₃ ≡ markLeft (leftOf (with (λ gs. joined t (present gs)) z)) pos ms
+    go (scans x gs) k q = fin t (present gs) ms clear (omega (arith, k .2)) (wrote-end (pos + 2) e out (encodeAll (present gs)) out₂ (k .1)) q
+
 pub kids-end : (row : List ℕ) (kids : Forms) (w k e m : ℕ) (out out′ : List ℕ) (found : Replacement) (z : Scans) → w ≤ length out → KidsTold row kids w out k z found e m out′ → (w ≤ e) × (e ≤ length out′)
 unfolding KidsTold
 kids-end row kids w k e m out out′ found (scans x gs) h t =
@@ -147,17 +162,20 @@ pub role-or : (t : ℕ) (b : Bool) → t ≡ 352 → b ≡ false → roleOf t b 
 role-or t b e q = rw (e, q) refl
 
 -- a predicate that is not entered is copied
-pub other-told : (row : List ℕ) (d at n pos : ℕ) (b : Bool) (out : List ℕ) (r : Scanned) (out′ : List ℕ) → roleOf (getD row at 0) b ≡ S.other → ScanTold (λ f. scanned nothing (some f)) row d at pos out r out′ → ScanTold (scan n b) row d at pos out r out′
-unfolding Told
-other-told row d at n pos b out r out′ o t = go (decode d pred (drop at row)) refl t
+pub other-scan : (row : List ℕ) (d at n : ℕ) (b : Bool) → roleOf (getD row at 0) b ≡ S.other → (f : Form) (x : List ℕ) → decode d pred (drop at row) ≡ got f x → scan n b f ≡ scanned nothing (some f)
+other-scan row d at n b o f x e =
+    let (w, k) = decode-sound d pred (drop at row) f x e in
+    copied k (rw (tag-at row at f x w) at o)
   where
     copied : {d : ℕ} {f : Form} → Ok d pred f → roleOf (tagOf f) b ≡ S.other → scan n b f ≡ scanned nothing (some f)
     copied (ok-node {t = t} {o = o} {ds = ds} {ks = ks} l h k) r = scan-other n b t o ds ks r
 
+pub other-told : (row : List ℕ) (d at n pos : ℕ) (b : Bool) (out : List ℕ) (r : Scanned) (out′ : List ℕ) → roleOf (getD row at 0) b ≡ S.other → ScanTold (λ f. scanned nothing (some f)) row d at pos out r out′ → ScanTold (scan n b) row d at pos out r out′
+unfolding Told
+other-told row d at n pos b out r out′ o t = go (decode d pred (drop at row)) refl t
+  where
     go : (g : Got) → decode d pred (drop at row) ≡ g → Told (λ f. scanned nothing (some f)) row at pos out g r out′ → Told (scan n b) row at pos out g r out′
-    go (got f x) e t =
-        let (w, k) = decode-sound d pred (drop at row) f x e in
-        rw (copied k (rw (tag-at row at f x w) at o)) t
+    go (got f x) e t = rw (other-scan row d at n b o f x e) t
     go no-form e t = t
 
 pub no-entry : (t : ℕ) (b : Bool) → b ≡ true → (t ≡ 8 → ⊥) → (t ≡ 351 → ⊥) → (t ≡ 101 → ⊥) → roleOf t b ≡ S.other

@@ -1,11 +1,11 @@
 -- One point after the scan: the place that is filled, the rest of the body, and the whole call. Assumes nothing.
 use mathlib.Core.Path.{_≡_, refl, ap, sym, _∙_}
 use mathlib.Core.Bool.{Bool, true}
-use mathlib.Core.List.{List, [], _∷_, _++_, append-nil}
+use mathlib.Core.List.{List, [], _∷_, _++_, append-nil, map}
 use Prim.Native.Nat.{ℕ, zero, suc, _+_, _-_, _≤_, _<_}
 use native.Mathlib.Nat.{zero-add}
 use native.Mathlib.Omega.{arith}
-use borrow.Author.Tests.{eq-eqb, ne-eqb, lt-ltb}
+use borrow.Author.Tests.{eq-eqb, ne-eqb, lt-ltb, ltb-true}
 use lib.ListN.{length, getD, take, drop, set, replicate, length-replicate, getD-replicate}
 use lib.Seq.{drop-length}
 use Rattle.tree.specs.Form.{Form, encode}
@@ -22,12 +22,14 @@ use Rattle.form.proofs.DecodeLaws.{Ok, decode-encode, decode-sound}
 use Rattle.reader.proofs.ReaderLaws.{told-end}
 use Rattle.shift.specs.Internal.Items.{items}
 use Rattle.shift.proofs.RowLaws.{itemsOf, marksOf, mark-front}
-use Rattle.replace.specs.Internal.Pieces.{part as part-of, declaredIn, Leaves, InRow, Ready, downPlan}
+use Rattle.replace.specs.Internal.Pieces.{part as part-of, declaredIn, Leaves, InRow, Ready, downPlan, depthLeft}
 use Rattle.rules.proofs.OkLaws.{ok-deep}
 use Rattle.replace.proofs.InsideLaws.{Small}
-use Rattle.replace.proofs.SmallLaws.{small-form}
+use Rattle.replace.proofs.SmallLaws.{small-form, leaves}
 use Rattle.replace.specs.Internal.Partial.{partialRow}
-use Rattle.one_point.specs.Internal.Reduce.{quantifierIn, oneTable, placedForm, placedOutcome, Placing, Marking, RestLeaves}
+use Rattle.one_point.specs.Internal.Reduce.{quantifierIn, oneTable, placedForm, placedOutcome, Placing, Marking, Sure, RestMarking}
+use Rattle.one_point.specs.Internal.Marks.{raiseMark, CanRaise}
+use Rattle.one_point.proofs.MarkLaws.{raised-are, marks-raise}
 use Rattle.places.specs.Internal.Positions.{Cleared}
 use Rattle.one_point.specs.declared.one_point_inference.Quantifier.the-variants.{Of, None}
 use Rattle.places.proofs.SidesLaws.{told-plain}
@@ -67,8 +69,8 @@ first-word (x ∷ l) w h = refl
 
 -- a whole row that is one form
 module _ (row : List ℕ) (f : Form) where
-  pub whole-pred : decode 63 pred row ≡ got f [] → (row ≡ encode f) × Ok 63 pred f
-  whole-pred e = let s = decode-sound 63 pred row f [] e in (s .0 ∙ append-nil (encode f), s .1)
+  pub whole-pred : (d : ℕ) → decode d pred row ≡ got f [] → (row ≡ encode f) × Ok d pred f
+  whole-pred d e = let s = decode-sound d pred row f [] e in (s .0 ∙ append-nil (encode f), s .1)
 
   whole-expr : decode 63 expr row ≡ got f [] → (row ≡ encode f) × Ok 63 expr f
   whole-expr e = let s = decode-sound 63 expr row f [] e in (s .0 ∙ append-nil (encode f), s .1)
@@ -103,17 +105,6 @@ marking-of part pm pm′ f h is m l = record { enough = let e = h .enough in ome
 pub fresh-cleared : (row : List ℕ) (n : ℕ) → length row ≤ n → Cleared row (replicate n 0)
 fresh-cleared row n h = record { zeros = ap (λ (k : ℕ). replicate k 0) (sym (length-replicate n 0)); enough = rw length-replicate h }
 
--- the depth that is left for it
-pub rest-none : (part : List ℕ) → RestLeaves part 0
-rest-none part = record { most = omega arith; left = λ h. absurd (omega arith) }
-
-pub rest-leaves : (part : List ℕ) (d : ℕ) → Leaves part d → (d ≡ 0 → ⊥) → RestLeaves part (d - 1)
-rest-leaves part zero x n = absurd (n refl)
-rest-leaves part (suc d) x n =
-    let a = x .most in
-    let q : suc d - 1 + 1 ≡ suc d = omega arith in
-    record { most = omega arith; left = λ h. rw q x }
-
 -- a rest that is read as a predicate so deep
 module _ (u : ℕ) (few : u ≤ 65535) (deep : ℕ) (most : deep ≤ 63) (row : List ℕ) (f : Form) (is : decode 63 pred row ≡ got f []) (a b : List ℕ) (r : Step) (q : ℕ) (t : Told 0 u (decodeIn deep u pred row) a b r) (e : r ≡ End q) where
   pub shallow-rest : Ok deep pred f × (b ≡ mark f 0 u a)
@@ -136,17 +127,41 @@ module _ (part : List ℕ) (f : Form) (is : decode 63 expr part ≡ got f []) (g
       let q : 65 - (64 - m) ≡ suc m = omega arith in
       small-form m f (ok-deep o 64 (omega arith)) (omega arith) (rw (← w, ← q) (x .deep (omega arith))) (rw (← w) (x .words (omega arith)))
 
-  pub fitting : (r : ℕ) → RestLeaves part r → (r ≡ 0 → ⊥) → Ok r pred g → Fitting f g
-  fitting zero x n o = absurd (n refl)
-  fitting (suc r) x n o =
-      let a = x .most in
+  pub fitting : (r : ℕ) → 0 < r → r ≤ 63 → Leaves part (r + 1) → Ok r pred g → Fitting f g
+  fitting zero h n x o = absurd (omega arith)
+  fitting (suc r) h n x o =
       let q : suc r + 1 ≡ 64 - (63 - suc r) = omega arith in
-      record { over = 63 - suc r; deep = suc r; small = part-small (63 - suc r) (omega arith) (rw (← q) (x .left (omega arith))); ok = o; sum = omega arith }
+      record { over = 63 - suc r; deep = suc r; small = part-small (63 - suc r) (omega arith) (rw (← q) x); ok = o; sum = omega arith }
+
+-- a part that is sure to stay within the limits in the rest
+pub sure-fitting : (part rest : List ℕ) (f g : Form) → decode 63 expr part ≡ got f [] → decode 63 pred rest ≡ got g [] → Sure part rest → Fitting f g
+sure-fitting part rest f g is-part is-rest s =
+    let x = leaves part (depthLeft part) refl in
+    let l = ltb-true (s .deep) (depthLeft part) (s .less) in
+    let h = s .shallow .some in
+    let m = x .most in
+    let ok = whole-pred rest g (s .deep) (s .shallow .same g is-rest) .1 in
+    let q : depthLeft part - 1 + 1 ≡ depthLeft part = omega arith in
+    fitting part f is-part g (depthLeft part - 1) (omega arith) (omega arith) (rw q x) (ok-deep ok (depthLeft part - 1) (omega arith))
 
 -- the target's place filled in the rest
 module _ (t : ℕ) (ns : List ℕ) (i : ℕ) (part rest : List ℕ) (h : Placing t ns i part rest) where
   pub resting : (p : ℕ) → p ≡ length ns - 1 - i → (p < length ns) × (length ns ≤ 32)
   resting p e = let a = h .target in (omega arith, h .few)
+
+  -- the marks of the rest, raised
+  rest-long : length (encode (h .form)) ≡ length rest
+  rest-long = ap length (sym (whole-pred rest (h .form) 63 (h .is-rest) .0))
+
+  module _ (ms : List ℕ) (m : RestMarking rest ms) where
+    pub can-raise : CanRaise (i + 1) ms
+    can-raise = let l = h .long in let f = h .few in let q = h .target in marks-raise (h .form) (i + 1) (length ms) ms (rest-long ∙ sym (m .long)) (let k = m .long in omega arith) (omega arith) (m .are (h .form) (h .is-rest))
+
+    pub raised-rest : (ms′ : List ℕ) → ms′ ≡ map (raiseMark (i + 1)) ms → ms′ ≡ mark (h .form) 0 (i + 1) (replicate (length ms) 0)
+    raised-rest ms′ e = raised-are (h .form) (i + 1) (length ms) ms ms′ (rest-long ∙ sym (m .long)) (m .are (h .form) (h .is-rest)) e
+
+    pub cleared-rest : Cleared rest (replicate (length ms) 0)
+    cleared-rest = let l = m .long in fresh-cleared rest (length ms) (omega arith)
 
   outcome-is : (room : ℕ) → placedOutcome t ns i part rest room ≡ finish pred room (placedForm t ns i (h .by) (h .form))
   unfolding placedOutcome
@@ -156,7 +171,7 @@ module _ (t : ℕ) (ns : List ℕ) (i : ℕ) (part rest : List ℕ) (h : Placing
     pub placed-row : (sure : Bool) → (sure ≡ true → Fitting (h .by) (h .form)) → (p : ℕ) → p ≡ length ns - 1 - i → (room : ℕ)
         → partialRow sure t (take p ns) (drop (p + 1) ns) (oneTable (length ns - p) (length part)) (length ns - p) part pm rest marks′ room ≡ placedOutcome t ns i part rest room
     placed-row sure inside p e room =
-        let w = whole-pred rest (h .form) (h .is-rest) in
+        let w = whole-pred rest (h .form) 63 (h .is-rest) in
         let v = whole-expr part (h .by) (h .is-part) in
         let a : p ≡ length ns - suc i = e ∙ sym (place-from (length ns) i) in
         let b : length ns - (length ns - suc i) ≡ suc i = let q = h .target in omega arith in

@@ -3,22 +3,24 @@ use mathlib.Core.Path.{_≡_, refl, ap, sym, _∙_}
 use mathlib.Core.Bool.{Bool, true, false, _||_}
 use mathlib.Core.Option.{Option, none as absent, some}
 use mathlib.Core.List.{List, [], _∷_, _++_, append-nil}
-use Prim.Native.Nat.{ℕ, _+_, _-_, _≤_, _<_}
+use Prim.Native.Nat.{ℕ, zero, suc, _+_, _-_, _*_, _≤_, _<_}
+use native.Mathlib.Nat.{zero-add}
 use native.Mathlib.Omega.{arith}
 use borrow.Author.Tests.{le-leb, lt-leb, ltb-false, eqb-true, eqb-false}
 use lib.Dec.{ltb, eqb}
-use lib.ListN.{length, getD, take, drop, length-append, length-take, length-drop}
+use lib.ListN.{length, getD, take, drop, replicate, length-append, length-take, length-drop, length-replicate}
 use lib.Seq.{take-at, drop-drop}
 use Rattle.tree.specs.Form.{Form, node, none as no-more, more, pick, encode}
 use Rattle.tree.specs.Tag.{Sort, expr, pred, own}
 use Rattle.form.specs.Decode.{Head, head, bad, read, Got, got, no-form, close, decode, decodeAll, Whole, one, not-one, whole as whole-of, rowForm, asSort, formOf}
-use Rattle.form.specs.Answer.{Outcome, refusal, told, ofFound, checkOutcome}
+use Rattle.form.specs.Answer.{Outcome, answer, refusal, told, written, ofFound, checkOutcome}
 use Rattle.form.specs.Internal.Heads.{headAt}
 use Rattle.form.specs.declared.answer.Kind.the-variants.{Predicate}
 use Rattle.form.specs.declared.answer.Answer.{Answer}
 use Rattle.form.specs.declared.answer.Answer.the-variants.{No}
 use Rattle.form.proofs.DecodeLaws.{clash, Ok, ok-node, ok-none, ok-more, read-exact, read-at, decode-encode}
 use Rattle.form.proofs.HeadLaws.{gone}
+use Rattle.reader.specs.Internal.Reads.{mark}
 use Rattle.reader.proofs.ReaderLaws.{node-here}
 use Rattle.shift.proofs.CheckedLaws.{is-missing, too-long, no-form-there, form-there}
 use Rattle.rules.specs.Fill.{quantified}
@@ -33,7 +35,8 @@ use Rattle.places.specs.Internal.Wrote.{Wrote}
 use Rattle.one_point.specs.Internal.Writes.{leftWords, isGone}
 use Rattle.one_point.specs.Internal.Parts.{TookIs}
 use Rattle.one_point.specs.Internal.Scans.{Left, Became, ScanTold}
-use Rattle.one_point.specs.Internal.Reduce.{isQuantifier, headed, quantifierIn, placedOutcome, Placing, emptyWord, reducedIn, bodyOutcome, Reducing}
+use Rattle.one_point.specs.Internal.Reduce.{isQuantifier, headed, quantifierIn, placedOutcome, Placing, emptyWord, reducedIn, bodyOutcome, isBad, Reducing, Reading, Shallow, RestMarking}
+use Rattle.one_point.specs.Internal.Marks.{markLeft, MarksTold, ScanMarks}
 use Rattle.places.specs.declared.sides.Replacement.{Replacement}
 use Rattle.places.specs.declared.sides.Replacement.the-variants.{Is, Not}
 use Rattle.one_point.specs.declared.scan.Scanned.{Scanned}
@@ -43,11 +46,13 @@ use Rattle.places.proofs.SidesLaws.{part-words}
 use Rattle.places.proofs.PlacesLaws.{PredRow}
 use Rattle.places.proofs.PartsLaws.{some-words, in-row}
 use Rattle.one_point.proofs.ReadLaws.{ScannedAt, told-ok, told-no}
-use Rattle.one_point.proofs.ScanLimits.{OkScan, rest-ok, scan-ok}
+use Rattle.one_point.proofs.ScanLimits.{OkLeft, OkScan, rest-ok, scan-ok}
+use Rattle.rules.proofs.OkLaws.{ok-deep}
+use Rattle.one_point.proofs.MarkLaws.{mark-long, front-marks}
 use Rattle.one_point.proofs.PlaceLaws.{whole-pred}
 
 -- a row that is the words of a well-formed form
-whole : {s : Sort} (row : List ℕ) (f : Form) → row ≡ encode f → Ok 63 s f → decode 63 s row ≡ got f []
+whole : {s : Sort} {d : ℕ} (row : List ℕ) (f : Form) → row ≡ encode f → Ok d s f → decode d s row ≡ got f []
 whole {s} row f e ok = rw (e, ← append-nil (encode f)) (decode-encode ok [])
 
 -- the words of an emptied body
@@ -88,37 +93,47 @@ module _ (row : List ℕ) (pos : ℕ) (out : List ℕ) (s : Scanned) (out′ : L
   unfolding Left
   left-written x g l = (l .1, l .2)
 
-module _ (t : ℕ) (ns body : List ℕ) (wl : ℕ) (h : Reducing t ns body wl) (work work′ : List ℕ) (s : Scanned) (scans : ScanTold (scan (length ns) (polarity t)) body 63 0 0 work s work′) where
+left-mark : (b : Bool) (g : Option Form) (ms : List ℕ) → markLeft g 0 ms ≡ mark (restOf b g) 0 0 ms
+unfolding mark
+left-mark b (some g) ms = refl
+left-mark true absent ms = refl
+left-mark false absent ms = refl
+
+rest-deep : (d : ℕ) → 0 < d → (b : Bool) (g : Option Form) → OkLeft d g → Ok d pred (restOf b g)
+rest-deep zero h b g o = absurd (omega arith)
+rest-deep (suc d) h b g o = rest-ok {d = d} b g o
+
+module _ (d : ℕ) (some-deep : 0 < d) (most : d ≤ 63) (t : ℕ) (ns body : List ℕ) (wl : ℕ) (h : Reducing t ns body wl) (work work′ : List ℕ) (s : Scanned) (scans : ScanTold (scan (length ns) (polarity t)) body d 0 0 work s work′) where
   -- the body is no predicate
-  pub body-lost : s .ok ≡ false → (room : ℕ) → bodyOutcome t ns body room ≡ refusal 2
+  pub body-lost : s .ok ≡ false → (room : ℕ) → bodyOutcome d t ns body room ≡ refusal 2
   unfolding bodyOutcome
-  body-lost e room = rw (told-no (scan (length ns) (polarity t)) body 63 0 0 work s work′ scans e)
+  body-lost e room = rw (told-no (scan (length ns) (polarity t)) body d 0 0 work s work′ scans e)
 
   module _ (ok : s .ok ≡ true) where
-    pub read-body : ScannedAt (scan (length ns) (polarity t)) body 63 0 0 work s work′
-    read-body = told-ok (scan (length ns) (polarity t)) body 63 0 0 work s work′ scans ok
+    pub read-body : ScannedAt (scan (length ns) (polarity t)) body d 0 0 work s work′
+    read-body = told-ok (scan (length ns) (polarity t)) body d 0 0 work s work′ scans ok
 
     abbrev pub form : Form
     form = read-body .form
 
     -- words follow the predicate
-    pub body-longer : (s .next ≡ length body → ⊥) → (room : ℕ) → bodyOutcome t ns body room ≡ refusal 2
+    pub body-longer : (s .next ≡ length body → ⊥) → (room : ℕ) → bodyOutcome d t ns body room ≡ refusal 2
     unfolding bodyOutcome
     body-longer n room = go (drop (0 + length (encode form)) body) (read-body .is)
       where
-        go : (x : List ℕ) → decode 63 pred body ≡ got form x → reducedIn t ns room (whole-of (decode 63 pred body)) ≡ refusal 2
+        go : (x : List ℕ) → decode d pred body ≡ got form x → reducedIn t ns room (whole-of (decode d pred body)) ≡ refusal 2
         go [] e =
-            let w = ap length (whole-pred body form e .0) in
+            let w = ap length (whole-pred body form d e .0) in
             let a = read-body .became .next in
             absurd (n (omega arith))
         go (w ∷ x) e = rw e
 
     module _ (all : s .next ≡ length body) where
-      is-body : decode 63 pred body ≡ got form []
+      is-body : decode d pred body ≡ got form []
       is-body = let a = read-body .became .next in read-body .is ∙ ap (λ (z : List ℕ). got form z) (gone body (0 + length (encode form)) (omega arith))
 
-      body-is : (body ≡ encode form) × Ok 63 pred form
-      body-is = whole-pred body form is-body
+      body-is : (body ≡ encode form) × Ok d pred form
+      body-is = whole-pred body form d is-body
 
       body-long : length body ≡ length (encode form)
       body-long = ap length (body-is .0)
@@ -126,7 +141,7 @@ module _ (t : ℕ) (ns body : List ℕ) (wl : ℕ) (h : Reducing t ns body wl) (
       abbrev scanOf : Scan
       scanOf = scan (length ns) (polarity t) form
 
-      outcome-is : (room : ℕ) (z : Scan) → scanOf ≡ z → bodyOutcome t ns body room ≡ ofResult room (reduce t ns z)
+      outcome-is : (room : ℕ) (z : Scan) → scanOf ≡ z → bodyOutcome d t ns body room ≡ ofResult room (reduce t ns z)
       unfolding bodyOutcome
       outcome-is room z e = rw (is-body, e)
 
@@ -134,10 +149,10 @@ module _ (t : ℕ) (ns body : List ℕ) (wl : ℕ) (h : Reducing t ns body wl) (
       became = read-body .became
 
       -- no equality is taken
-      pub none-taken : s .found ≡ Not → (room : ℕ) → bodyOutcome t ns body room ≡ refusal 9
+      pub none-taken : s .found ≡ Not → (room : ℕ) → bodyOutcome d t ns body room ≡ refusal 9
       none-taken e room = go scanOf refl (became .left)
         where
-          go : (z : Scan) → scanOf ≡ z → Left body 0 work z s work′ → bodyOutcome t ns body room ≡ refusal 9
+          go : (z : Scan) → scanOf ≡ z → Left body 0 work z s work′ → bodyOutcome d t ns body room ≡ refusal 9
           go (scanned (taken i x) g) q l = absurd (found-none body 0 work s work′ i x g l e)
           go (scanned nothing g) q l = outcome-is room (scanned nothing g) q
 
@@ -191,14 +206,66 @@ module _ (t : ℕ) (ns body : List ℕ) (wl : ℕ) (h : Reducing t ns body wl) (
               end-is-low true e l = omega arith
               end-is-low false e l = rw e l
 
-          took-ok : OkScan (length ns) 63 (scanned (taken i (k .by)) (k .left))
+          took-ok : OkScan (length ns) d (scanned (taken i (k .by)) (k .left))
           took-ok = let m = short-form in rw (k .is) at (scan-ok (body-is .1) (omega arith) (length ns) (polarity t))
 
           part-is : decode 63 expr (take (b - a) (drop a body)) ≡ got (k .by) []
-          part-is = whole (take (b - a) (drop a body)) (k .by) (part-words body (encode (k .by)) (drop b body) a b (k .there) (k .long)) (took-ok .0 .0)
+          part-is = whole (take (b - a) (drop a body)) (k .by) (part-words body (encode (k .by)) (drop b body) a b (k .there) (k .long)) (ok-deep (took-ok .0 .0) 63 most)
+
+          left-ok : Ok d pred (restOf (polarity t) (k .left))
+          left-ok = rest-deep d some-deep (polarity t) (k .left) (took-ok .1)
 
           rest-is : decode 63 pred (take stop work″) ≡ got (restOf (polarity t) (k .left)) []
-          rest-is = whole (take stop work″) (restOf (polarity t) (k .left)) left-over (rest-ok {d = 62} (polarity t) (k .left) (took-ok .1))
+          rest-is = whole (take stop work″) (restOf (polarity t) (k .left)) left-over (ok-deep left-ok 63 most)
+
+          -- it is as deep as the body was read
+          pub shallow : Shallow d (take stop work″)
+          shallow = record { some = some-deep; most = most; same = λ f e. go f (sym e ∙ rest-is) }
+            where
+              go : (f : Form) → _≡_ {A = Got} (got f []) (got (restOf (polarity t) (k .left)) []) → decode d pred (take stop work″) ≡ got f []
+              go f e =
+                  let q : f ≡ restOf (polarity t) (k .left) = cc in
+                  rw q (whole (take stop work″) (restOf (polarity t) (k .left)) left-over left-ok)
+
+          -- its marks, as the scan made them
+          module _ (ms ms′ : List ℕ) (x : Reading d body ms) (marks : ScanMarks (scan (length ns) (polarity t)) body d 0 0 ms ms′) where
+            left-marks : ms′ ≡ markLeft (k .left) 0 ms
+            unfolding MarksTold
+            left-marks = go (decode d pred body) is-body marks
+              where
+                go : (g : Got) → g ≡ got form [] → MarksTold (scan (length ns) (polarity t)) 0 g ms ms′ → ms′ ≡ markLeft (k .left) 0 ms
+                go (got f y) e q = let w : f ≡ form = cc in rw (w, k .is) at q
+                go no-form e q = absurd (clash cc)
+
+            pub stop-fits : stop ≤ length ms
+            stop-fits = let c = became .short in let m = body-long in let r = x .room in let p = some-words form in stop-by (s .gone) end-is (omega arith) (omega arith)
+              where
+                stop-by : (g : Bool) → stop ≡ pick g 1 (s .end) → 1 ≤ length ms → s .end ≤ length ms → stop ≤ length ms
+                stop-by true e l u = rw e l
+                stop-by false e l u = rw e u
+
+            -- what is left, or the word of an emptied body, ends at stop
+            rest-long : length (encode (restOf (polarity t) (k .left))) ≡ stop
+            unfolding Wrote encode
+            rest-long = go (k .left) (k .gone) (k .wrote)
+              where
+                go : (g : Option Form) → s .gone ≡ isGone g → Wrote 0 work (leftWords g) (s .end) work′ → length (encode (restOf (polarity t) g)) ≡ stop
+                go (some f) e w = sym (end-is ∙ (rw e (w .0) ∙ zero-add (length (encode f))))
+                go absent e w = ap length (sym (empty-words t)) ∙ sym (rw e at end-is)
+
+            marks-are : take stop ms′ ≡ mark (restOf (polarity t) (k .left)) 0 0 (replicate stop 0)
+            marks-are = ap (take stop) (left-marks ∙ (left-mark (polarity t) (k .left) ms ∙ ap (mark (restOf (polarity t) (k .left)) 0 0) (x .zeros))) ∙ front-marks (restOf (polarity t) (k .left)) stop (length ms) rest-long stop-fits
+
+            marks-long : length (take stop ms′) ≡ stop
+            marks-long = ap length marks-are ∙ (mark-long (restOf (polarity t) (k .left)) 0 0 (replicate stop 0) ∙ length-replicate stop 0)
+
+            pub rest-marking : RestMarking (take stop work″) (take stop ms′)
+            rest-marking = record { long = marks-long ∙ (sym rest-long ∙ ap length (sym left-over)); are = λ f e. go f (sym e ∙ rest-is) }
+              where
+                go : (f : Form) → _≡_ {A = Got} (got f []) (got (restOf (polarity t) (k .left)) []) → take stop ms′ ≡ mark f 0 0 (replicate (length (take stop ms′)) 0)
+                go f e =
+                    let q : f ≡ restOf (polarity t) (k .left) = cc in
+                    rw (q, marks-long) marks-are
 
           pub placing : Placing t ns i (take (b - a) (drop a body)) (take stop work″)
           placing =
@@ -221,9 +288,37 @@ module _ (t : ℕ) (ns body : List ℕ) (wl : ℕ) (h : Reducing t ns body wl) (
                 long = omega arith;
               }
 
-          pub placed-is : (room : ℕ) → placedOutcome t ns i (take (b - a) (drop a body)) (take stop work″) room ≡ bodyOutcome t ns body room
+          pub placed-is : (room : ℕ) → placedOutcome t ns i (take (b - a) (drop a body)) (take stop work″) room ≡ bodyOutcome d t ns body room
           unfolding placedOutcome
           placed-is room = rw (part-is, rest-is) (sym (outcome-is room (scanned (taken i (k .by)) (k .left)) (k .is)))
+
+-- a body that is a predicate as deep as it was read is the same read deeper
+module _ (d : ℕ) (most : d ≤ 63) (t : ℕ) (ns body : List ℕ) (room : ℕ) where
+  pub same-deeper : isBad (told (bodyOutcome d t ns body room)) ≡ false → bodyOutcome d t ns body room ≡ bodyOutcome 63 t ns body room
+  unfolding bodyOutcome
+  same-deeper e = go (decode d pred body) refl
+    where
+      go : (g : Got) → decode d pred body ≡ g → reducedIn t ns room (whole-of (decode d pred body)) ≡ reducedIn t ns room (whole-of (decode 63 pred body))
+      go (got f []) q =
+          let (w, o) = whole-pred body f d q in
+          rw (q, whole body f w (ok-deep o 63 most))
+      go (got f (y ∷ x)) q = let z = rw q at e in absurd (clash cc)
+      go no-form q = let z = rw q at e in absurd (clash cc)
+
+-- a refusal leaves the output as it was
+pub bad-refusal : (o : Outcome) (r : Answer) → r ≡ told o → isBad r ≡ true → (out : List ℕ) → written o out ≡ out
+bad-refusal (answer ws) r e b out = let z = rw e at b in absurd (clash cc)
+bad-refusal (refusal k) r e b out = refl
+
+-- what a second call answers after a first that left the output as it was
+pub told-again : (o : ℕ → Outcome) (r : Answer) (out out′ out″ : List ℕ) → out′ ≡ out → (r ≡ told (o (length out′))) × (out″ ≡ written (o (length out′)) out′) → (r ≡ told (o (length out))) × (out″ ≡ written (o (length out)) out)
+told-again o r out out′ out″ e h = rw e at h
+
+pub still-reducing : (t : ℕ) (ns body : List ℕ) (wl wl′ : ℕ) → wl′ ≡ wl → Reducing t ns body wl → Reducing t ns body wl′
+still-reducing t ns body wl wl′ e h = rw e h
+
+pub fresh-reading : (d : ℕ) (body : List ℕ) (n : ℕ) → 0 < d → d ≤ 63 → 2 * length body ≤ n → Reading d body (replicate n 0)
+fresh-reading d body n deep most room = record { some = deep; most = most; zeros = ap (λ (k : ℕ). replicate k 0) (sym (length-replicate n 0)); room = rw (length-replicate {A = ℕ} n 0) room }
 
 -- the head of a quantified predicate that a row begins with
 pub record HeadRead (row : List ℕ) (t p : ℕ) : Type 0 where
@@ -352,7 +447,7 @@ module _ (row : List ℕ) (wl room : ℕ) where
             let l = length-take (length row - p) (drop p row) in
             record { which = h .which; few = rw (h .are) (h .few); names = rw (h .are) (h .good); short = omega arith; enough = enough }
 
-        pub point-body : bodyOutcome t (take (p - 2) (drop 2 row)) (take (length row - p) (drop p row)) room ≡ pointOutcome row wl room
+        pub point-body : bodyOutcome 63 t (take (p - 2) (drop 2 row)) (take (length row - p) (drop p row)) room ≡ pointOutcome row wl room
         unfolding bodyOutcome pointOutcome formOf rowForm
         point-body = rw (h .are, rest-part row p, le-leb 16384 wl enough, le-leb (length row) 8192 short, row-whole row t p h) (go (whole-of (decode 63 pred (drop p row))))
           where

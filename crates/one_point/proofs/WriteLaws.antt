@@ -7,7 +7,7 @@ use native.Mathlib.Nat.{add-zero}
 use native.Mathlib.Numerals.{add-one}
 use native.Mathlib.Omega.{arith}
 use borrow.Author.Tests.{ne-eqb}
-use lib.ListN.{length, getD, take, drop, set}
+use lib.ListN.{length, getD, take, drop, set, length-drop}
 use lib.Seq.{take-suc, take-suc-set, take-set-lt, drop-set-lt, drop-drop, take-add, getD-at, getD-drop, getD-take, set-at, length-take-le}
 use Rattle.tree.specs.Form.{Form, node, Forms, none, more, count, encode, encodeAll}
 use Rattle.rules.specs.Scan.{negate, joined}
@@ -61,6 +61,15 @@ stands pos end out ws h w =
 pub moved : (pos end r : ℕ) (out ws out′ : List ℕ) → pos + 2 ≤ length out → Wrote (pos + 2) out ws end out → Wrote pos out (take (end - (pos + 2)) (drop (pos + 2) out)) r out′ → Wrote pos out ws r out′
 moved pos end r out ws out′ h w m = rw (stands (pos + 2) end out ws h w) at m
 
+-- where words that are moved down by two end
+pub moved-end : (pos end r : ℕ) (out out′ : List ℕ) → pos + 2 ≤ end → end ≤ length out → Wrote pos out (take (end - (pos + 2)) (drop (pos + 2) out)) r out′ → r + 2 ≡ end
+unfolding Wrote
+moved-end pos end r out out′ h k w =
+    let d = length-drop (pos + 2) out in
+    let l = length-take-le (end - (pos + 2)) (drop (pos + 2) out) (omega arith) in
+    let e = w .0 in
+    omega arith
+
 -- one word stored before them
 pub behind : (pos end t : ℕ) (out ws : List ℕ) → pos + 1 ≤ length out → Wrote (pos + 1) out ws end out → Wrote pos out (t ∷ ws) end (set out pos t)
 unfolding Wrote
@@ -94,7 +103,7 @@ module _ (pos end t : ℕ) (out : List ℕ) (room : pos + 2 ≤ length out) wher
   join-more k z y (more f (more g fs)) e w = (refl, rw (← e) (headed pos end t k out (encodeAll (more f (more g fs))) room w))
 
 -- negation
-first-word : (pos end t : ℕ) (out ws : List ℕ) → pos < length out → Wrote pos out (t ∷ ws) end out → getD out pos 0 ≡ t
+pub first-word : (pos end t : ℕ) (out ws : List ℕ) → pos < length out → Wrote pos out (t ∷ ws) end out → getD out pos 0 ≡ t
 unfolding Wrote
 first-word pos end t out ws h w =
     let l : length (take pos out) ≡ pos = length-take-le pos out (omega arith) in

@@ -2,4 +2,5 @@
 pub mod Writes
 pub mod Parts
 pub mod Scans
+pub mod Marks
 pub mod Reduce

@@ -1,5 +1,6 @@
 // The one-point rule: a quantified predicate is reduced by the first equality that its body offers.
 mod children;
+mod marks;
 pub mod one_point_inference;
 mod parts;
 mod reduce;

@@ -1,4 +1,5 @@
 // A body reduced by the equality that its scan takes.
+use crate::marks::raise;
 use crate::rest::put_rest;
 use crate::scan::scan_pred;
 use form::answer::Answer;
@@ -10,95 +11,28 @@ use replace::small::depth_left;
 use tree::tag::Tag;
 ghost use mathlib.Core.Path.{_≡_};
 ghost use mathlib.Core.List.{[], _∷_};
-ghost use Prim.Native.Nat.{_≤_};
-ghost use lib.ListN.{length, take};
+ghost use Prim.Native.Nat.{_*_, _≤_, _<_};
+ghost use lib.Dec.{ltb};
+ghost use lib.ListN.{length, take, replicate};
 ghost use Rattle.tree.specs.Form.{pick};
 ghost use Rattle.form.specs.Answer.{told, written};
-ghost use Rattle.one_point.specs.Internal.Reduce.{Placing, Marking, placedOutcome, RestLeaves, emptyWord, Reducing, bodyOutcome};
+ghost use Rattle.replace.specs.Internal.Pieces.{depthLeft};
+ghost use Rattle.one_point.specs.Internal.Reduce.{Placing, Shallow, Sure, RestMarking, placedOutcome, emptyWord, Reducing, Reading, bodyOutcome, isBad};
 ghost use Rattle.places.specs.Internal.Positions.{Cleared};
 
-// The target's place filled in the rest of a body, with the replacement's marks.
+// How deep a body is read first, so that what is left of it is sure to stay within the limits with a replacement up to 15 deep.
+pub struct Depth {
+    pub value: usize,
+}
+
+impl Depth {
+    pub const FIRST: u32 = 49;
+
+    pub const MOST: u32 = 63;
+}
+
+// The target's place filled in the rest of a body, which is read for its marks; the result is checked.
 fn place_deep(
-    tag: u32,
-    names: &[u32],
-    target: u32,
-    part: &[u32],
-    part_marks: &[u32],
-    rest: &[u32],
-    out: &mut [u32],
-) -> Answer
-    requires { ⌜ Placing tag (now names) target (now part) (now rest) × Marking (now part) (now «part_marks») ⌝ }
-    ensures { λ r. ⌜ r ≡ told (placedOutcome tag (now (names .entry)) target (now (part .entry)) (now (rest .entry)) (length (now (out .entry)))) ⌝ }
-    ensures { λ _. ⌜ now (out .exit) ≡ written (placedOutcome tag (now (names .entry)) target (now (part .entry)) (now (rest .entry)) (length (now (out .entry)))) (now (out .entry)) ⌝ }
-{
-    let mut marks = [0u32; 16384];
-    let Step::End(end) = pred_at(rest, &mut marks, 0, 63, target + 1) else {
-        return Answer::No(2);
-    };
-    let p = names.len() - 1 - (target as usize);
-    put_rest(tag, names, p, false, part, part_marks, rest, &marks, out)
-}
-
-// How deep the rest may be that is sure to stay within the limits when the part is put into it; 0 where none is.
-fn rest_depth(part: &[u32]) -> u32
-    ensures { λ r. ⌜ RestLeaves (now (part .entry)) r ⌝ }
-{
-    let d = depth_left(part);
-    if d == 0 {
-        return 0;
-    }
-    d - 1
-}
-
-// The same, with marks for the rest, which is read as deep as the part leaves it and, where it is deeper, as any.
-fn place_in(
-    tag: u32,
-    names: &[u32],
-    target: u32,
-    part: &[u32],
-    part_marks: &[u32],
-    rest: &[u32],
-    marks: &mut [u32],
-    out: &mut [u32],
-) -> Answer
-    requires { ⌜ Placing tag (now names) target (now part) (now rest) × Marking (now part) (now «part_marks») × Cleared (now rest) (now marks) ⌝ }
-    ensures { λ r. ⌜ r ≡ told (placedOutcome tag (now (names .entry)) target (now (part .entry)) (now (rest .entry)) (length (now (out .entry)))) ⌝ }
-    ensures { λ _. ⌜ now (out .exit) ≡ written (placedOutcome tag (now (names .entry)) target (now (part .entry)) (now (rest .entry)) (length (now (out .entry)))) (now (out .entry)) ⌝ }
-{
-    let left = rest_depth(part);
-    if left == 0 {
-        return place_deep(tag, names, target, part, part_marks, rest, out);
-    }
-    let Step::End(end) = pred_at(rest, marks, 0, left, target + 1) else {
-        return place_deep(tag, names, target, part, part_marks, rest, out);
-    };
-    let p = names.len() - 1 - (target as usize);
-    put_rest(tag, names, p, true, part, part_marks, rest, marks, out)
-}
-
-// The same, with marks for both.
-fn place_marked(
-    tag: u32,
-    names: &[u32],
-    target: u32,
-    part: &[u32],
-    part_marks: &mut [u32],
-    rest: &[u32],
-    marks: &mut [u32],
-    out: &mut [u32],
-) -> Answer
-    requires { ⌜ Placing tag (now names) target (now part) (now rest) × Cleared (now part) (now «part_marks») × Cleared (now rest) (now marks) ⌝ }
-    ensures { λ r. ⌜ r ≡ told (placedOutcome tag (now (names .entry)) target (now (part .entry)) (now (rest .entry)) (length (now (out .entry)))) ⌝ }
-    ensures { λ _. ⌜ now (out .exit) ≡ written (placedOutcome tag (now (names .entry)) target (now (part .entry)) (now (rest .entry)) (length (now (out .entry)))) (now (out .entry)) ⌝ }
-{
-    let Step::End(end) = expr_at(part, part_marks, 0, 63, 0) else {
-        return Answer::No(2);
-    };
-    place_in(tag, names, target, part, part_marks, rest, marks, out)
-}
-
-// The same, with marks for the rest of its own.
-fn place_rest(
     tag: u32,
     names: &[u32],
     target: u32,
@@ -111,91 +45,149 @@ fn place_rest(
     ensures { λ r. ⌜ r ≡ told (placedOutcome tag (now (names .entry)) target (now (part .entry)) (now (rest .entry)) (length (now (out .entry)))) ⌝ }
     ensures { λ _. ⌜ now (out .exit) ≡ written (placedOutcome tag (now (names .entry)) target (now (part .entry)) (now (rest .entry)) (length (now (out .entry)))) (now (out .entry)) ⌝ }
 {
-    if rest.len() <= 64 {
-        let mut marks = [0u32; 64];
-        return place_marked(tag, names, target, part, part_marks, rest, &mut marks, out);
-    }
-    if rest.len() <= 512 {
-        let mut marks = [0u32; 512];
-        return place_marked(tag, names, target, part, part_marks, rest, &mut marks, out);
-    }
-    if rest.len() <= 2048 {
-        let mut marks = [0u32; 2048];
-        return place_marked(tag, names, target, part, part_marks, rest, &mut marks, out);
-    }
+    let Step::End(part_end) = expr_at(part, part_marks, 0, Depth::MOST, 0) else {
+        return Answer::No(2);
+    };
     let mut marks = [0u32; 16384];
-    place_marked(tag, names, target, part, part_marks, rest, &mut marks, out)
+    let Step::End(rest_end) = pred_at(rest, &mut marks, 0, Depth::MOST, target + 1) else {
+        return Answer::No(2);
+    };
+    let p = names.len() - 1 - (target as usize);
+    put_rest(tag, names, p, false, part, part_marks, rest, &marks, out)
 }
 
-// The same, with marks for both of their own.
+// The same, where the result is sure to be within the limits, with the marks that the scan made.
+fn place_sure(
+    tag: u32,
+    names: &[u32],
+    target: u32,
+    part: &[u32],
+    part_marks: &mut [u32],
+    rest: &[u32],
+    marks: &mut [u32],
+    out: &mut [u32],
+) -> Answer
+    requires { ⌜ Placing tag (now names) target (now part) (now rest) × Cleared (now part) (now «part_marks») × RestMarking (now rest) (now marks) × Sure (now part) (now rest) ⌝ }
+    ensures { λ r. ⌜ r ≡ told (placedOutcome tag (now (names .entry)) target (now (part .entry)) (now (rest .entry)) (length (now (out .entry)))) ⌝ }
+    ensures { λ _. ⌜ now (out .exit) ≡ written (placedOutcome tag (now (names .entry)) target (now (part .entry)) (now (rest .entry)) (length (now (out .entry)))) (now (out .entry)) ⌝ }
+{
+    let Step::End(end) = expr_at(part, part_marks, 0, Depth::MOST, 0) else {
+        return Answer::No(2);
+    };
+    raise(marks, target + 1);
+    let p = names.len() - 1 - (target as usize);
+    put_rest(tag, names, p, true, part, part_marks, rest, marks, out)
+}
+
+// Whether what is at most so deep is sure to stay within the limits when the part is put into it.
+fn is_sure(part: &[u32], depth: u32) -> bool
+    ensures { λ r. ⌜ r ≡ ltb depth (depthLeft (now (part .entry))) ⌝ }
+{
+    depth < depth_left(part)
+}
+
+// The same for a rest that is at most so deep.
+fn place_marked(
+    tag: u32,
+    names: &[u32],
+    target: u32,
+    part: &[u32],
+    part_marks: &mut [u32],
+    rest: &[u32],
+    depth: u32,
+    marks: &mut [u32],
+    out: &mut [u32],
+) -> Answer
+    requires { ⌜ Placing tag (now names) target (now part) (now rest) × Cleared (now part) (now «part_marks») × RestMarking (now rest) (now marks) × Shallow depth (now rest) ⌝ }
+    ensures { λ r. ⌜ r ≡ told (placedOutcome tag (now (names .entry)) target (now (part .entry)) (now (rest .entry)) (length (now (out .entry)))) ⌝ }
+    ensures { λ _. ⌜ now (out .exit) ≡ written (placedOutcome tag (now (names .entry)) target (now (part .entry)) (now (rest .entry)) (length (now (out .entry)))) (now (out .entry)) ⌝ }
+{
+    if is_sure(part, depth) {
+        return place_sure(tag, names, target, part, part_marks, rest, marks, out);
+    }
+    place_deep(tag, names, target, part, part_marks, rest, out)
+}
+
+// The same, with marks for the part.
 fn place_long(
     tag: u32,
     names: &[u32],
     target: u32,
     part: &[u32],
     rest: &[u32],
+    depth: u32,
+    marks: &mut [u32],
     out: &mut [u32],
 ) -> Answer
-    requires { ⌜ Placing tag (now names) target (now part) (now rest) ⌝ }
+    requires { ⌜ Placing tag (now names) target (now part) (now rest) × RestMarking (now rest) (now marks) × Shallow depth (now rest) ⌝ }
     ensures { λ r. ⌜ r ≡ told (placedOutcome tag (now (names .entry)) target (now (part .entry)) (now (rest .entry)) (length (now (out .entry)))) ⌝ }
     ensures { λ _. ⌜ now (out .exit) ≡ written (placedOutcome tag (now (names .entry)) target (now (part .entry)) (now (rest .entry)) (length (now (out .entry)))) (now (out .entry)) ⌝ }
 {
-    if part.len() <= 64 {
-        let mut marks = [0u32; 64];
-        return place_rest(tag, names, target, part, &mut marks, rest, out);
-    }
     if part.len() <= 512 {
-        let mut marks = [0u32; 512];
-        return place_rest(tag, names, target, part, &mut marks, rest, out);
+        let mut part_marks = [0u32; 512];
+        return place_marked(
+            tag,
+            names,
+            target,
+            part,
+            &mut part_marks,
+            rest,
+            depth,
+            marks,
+            out,
+        );
     }
-    let mut marks = [0u32; 8192];
-    place_rest(tag, names, target, part, &mut marks, rest, out)
+    if part.len() <= 2048 {
+        let mut part_marks = [0u32; 2048];
+        return place_marked(
+            tag,
+            names,
+            target,
+            part,
+            &mut part_marks,
+            rest,
+            depth,
+            marks,
+            out,
+        );
+    }
+    let mut part_marks = [0u32; 8192];
+    place_marked(
+        tag,
+        names,
+        target,
+        part,
+        &mut part_marks,
+        rest,
+        depth,
+        marks,
+        out,
+    )
 }
 
-// The target's place filled in the rest of a body. Short rows stand apart, so that their call lays out no row for long ones.
+// The target's place filled in the rest of a body. A short part stands apart, so that its call lays out no row for long ones.
 fn place(
     tag: u32,
     names: &[u32],
     target: u32,
     part: &[u32],
     rest: &[u32],
+    depth: u32,
+    marks: &mut [u32],
     out: &mut [u32],
 ) -> Answer
-    requires { ⌜ Placing tag (now names) target (now part) (now rest) ⌝ }
+    requires { ⌜ Placing tag (now names) target (now part) (now rest) × RestMarking (now rest) (now marks) × Shallow depth (now rest) ⌝ }
     ensures { λ r. ⌜ r ≡ told (placedOutcome tag (now (names .entry)) target (now (part .entry)) (now (rest .entry)) (length (now (out .entry)))) ⌝ }
     ensures { λ _. ⌜ now (out .exit) ≡ written (placedOutcome tag (now (names .entry)) target (now (part .entry)) (now (rest .entry)) (length (now (out .entry)))) (now (out .entry)) ⌝ }
 {
     if part.len() <= 64 {
         let mut part_marks = [0u32; 64];
-        if rest.len() <= 64 {
-            let mut marks = [0u32; 64];
-            return place_marked(
-                tag,
-                names,
-                target,
-                part,
-                &mut part_marks,
-                rest,
-                &mut marks,
-                out,
-            );
+        if is_sure(part, depth) {
+            return place_sure(tag, names, target, part, &mut part_marks, rest, marks, out);
         }
-        if rest.len() <= 512 {
-            let mut marks = [0u32; 512];
-            return place_marked(
-                tag,
-                names,
-                target,
-                part,
-                &mut part_marks,
-                rest,
-                &mut marks,
-                out,
-            );
-        }
-        return place_long(tag, names, target, part, rest, out);
+        return place_long(tag, names, target, part, rest, depth, marks, out);
     }
-    place_long(tag, names, target, part, rest, out)
+    place_long(tag, names, target, part, rest, depth, marks, out)
 }
 
 // Where what is left of a body ends; an emptied body becomes true under 852 and false under 851.
@@ -215,19 +207,31 @@ fn rest_end(tag: u32, gone: bool, end: usize, work: &mut [u32]) -> usize
     1
 }
 
-// The body of a quantifier with these names, reduced by the first equality that its scan takes.
-pub(crate) fn reduce(
+// The body of a quantifier with these names, read so deep and reduced by the first equality that its scan takes; the marks of what is left of it
+// have a row.
+fn reduce_in(
     tag: u32,
     names: &[u32],
     body: &[u32],
+    depth: u32,
     work: &mut [u32],
+    marks: &mut [u32],
     out: &mut [u32],
 ) -> Answer
-    requires { ⌜ Reducing tag (now names) (now body) (length (now work)) ⌝ }
-    ensures { λ r. ⌜ r ≡ told (bodyOutcome tag (now (names .entry)) (now (body .entry)) (length (now (out .entry)))) ⌝ }
-    ensures { λ _. ⌜ now (out .exit) ≡ written (bodyOutcome tag (now (names .entry)) (now (body .entry)) (length (now (out .entry)))) (now (out .entry)) ⌝ }
+    requires { ⌜ Reducing tag (now names) (now body) (length (now work)) × Reading depth (now body) (now marks) ⌝ }
+    ensures { λ r. ⌜ r ≡ told (bodyOutcome depth tag (now (names .entry)) (now (body .entry)) (length (now (out .entry)))) ⌝ }
+    ensures { λ _. ⌜ now (out .exit) ≡ written (bodyOutcome depth tag (now (names .entry)) (now (body .entry)) (length (now (out .entry)))) (now (out .entry)) ⌝ }
 {
-    let s = scan_pred(body, 0, 63, names.len(), tag == Tag::EXISTS, work, 0);
+    let s = scan_pred(
+        body,
+        0,
+        depth,
+        names.len(),
+        tag == Tag::EXISTS,
+        work,
+        marks,
+        0,
+    );
     if !s.ok {
         return Answer::No(2);
     }
@@ -239,5 +243,94 @@ pub(crate) fn reduce(
         return Answer::No(9);
     };
     let stop = rest_end(tag, s.gone, s.end, work);
-    place(tag, names, target, &body[start..end], &work[..stop], out)
+    place(
+        tag,
+        names,
+        target,
+        &body[start..end],
+        &work[..stop],
+        depth,
+        &mut marks[..stop],
+        out,
+    )
+}
+
+// The same, with marks for any body.
+fn reduce_at(
+    tag: u32,
+    names: &[u32],
+    body: &[u32],
+    depth: u32,
+    work: &mut [u32],
+    out: &mut [u32],
+) -> Answer
+    requires { ⌜ Reducing tag (now names) (now body) (length (now work)) × (0 < depth) × (depth ≤ 63) ⌝ }
+    ensures { λ r. ⌜ r ≡ told (bodyOutcome depth tag (now (names .entry)) (now (body .entry)) (length (now (out .entry)))) ⌝ }
+    ensures { λ _. ⌜ now (out .exit) ≡ written (bodyOutcome depth tag (now (names .entry)) (now (body .entry)) (length (now (out .entry)))) (now (out .entry)) ⌝ }
+{
+    if body.len() <= 1024 {
+        let mut marks = [0u32; 2048];
+        return reduce_in(tag, names, body, depth, work, &mut marks, out);
+    }
+    if body.len() <= 4096 {
+        let mut marks = [0u32; 8192];
+        return reduce_in(tag, names, body, depth, work, &mut marks, out);
+    }
+    let mut marks = [0u32; 16384];
+    reduce_in(tag, names, body, depth, work, &mut marks, out)
+}
+
+// Whether the body was no predicate as deep as it was read.
+fn is_bad(r: Answer) -> bool
+    ensures { λ b. ⌜ b ≡ isBad r ⌝ }
+{
+    match r {
+        Answer::Done(n) => false,
+        Answer::No(k) => k == 2,
+    }
+}
+
+// The same, read again where it is deeper than the first time.
+fn reduce_long(tag: u32, names: &[u32], body: &[u32], work: &mut [u32], out: &mut [u32]) -> Answer
+    requires { ⌜ Reducing tag (now names) (now body) (length (now work)) ⌝ }
+    ensures { λ r. ⌜ r ≡ told (bodyOutcome 63 tag (now (names .entry)) (now (body .entry)) (length (now (out .entry)))) ⌝ }
+    ensures { λ _. ⌜ now (out .exit) ≡ written (bodyOutcome 63 tag (now (names .entry)) (now (body .entry)) (length (now (out .entry)))) (now (out .entry)) ⌝ }
+{
+    let r = reduce_at(tag, names, body, Depth::FIRST, work, out);
+    if is_bad(r) {
+        return reduce_at(tag, names, body, Depth::MOST, work, out);
+    }
+    r
+}
+
+// The body of a quantifier with these names, reduced by the first equality that its scan takes. Short bodies stand apart, so that their call lays
+// out no row for long ones.
+pub(crate) fn reduce(
+    tag: u32,
+    names: &[u32],
+    body: &[u32],
+    work: &mut [u32],
+    out: &mut [u32],
+) -> Answer
+    requires { ⌜ Reducing tag (now names) (now body) (length (now work)) ⌝ }
+    ensures { λ r. ⌜ r ≡ told (bodyOutcome 63 tag (now (names .entry)) (now (body .entry)) (length (now (out .entry)))) ⌝ }
+    ensures { λ _. ⌜ now (out .exit) ≡ written (bodyOutcome 63 tag (now (names .entry)) (now (body .entry)) (length (now (out .entry)))) (now (out .entry)) ⌝ }
+{
+    if body.len() <= 64 {
+        let mut marks = [0u32; 128];
+        let r = reduce_in(tag, names, body, Depth::FIRST, work, &mut marks, out);
+        if is_bad(r) {
+            return reduce_long(tag, names, body, work, out);
+        }
+        return r;
+    }
+    if body.len() <= 512 {
+        let mut marks = [0u32; 1024];
+        let r = reduce_in(tag, names, body, Depth::FIRST, work, &mut marks, out);
+        if is_bad(r) {
+            return reduce_long(tag, names, body, work, out);
+        }
+        return r;
+    }
+    reduce_long(tag, names, body, work, out)
 }

@@ -1,18 +1,19 @@
 // One point's scan of the body: the first equality that is taken, and what is left of the body.
 use crate::children::Stopped;
+use crate::children::mark_preds;
 use crate::children::one_more;
-use crate::children::skip_preds;
+use crate::marks::mark_pred;
 use crate::parts::accept;
 use crate::parts::copy_parts;
 use crate::parts::is_taken;
 use crate::parts::search_parts;
 use crate::writes::copy_part;
 use crate::writes::finish_junction;
+use crate::writes::finish_marks;
 use crate::writes::finish_not;
 use form::head::Step;
 use places::positions::both_pairs;
 use places::positions::skip_expr;
-use places::positions::skip_pred;
 use places::sides::Replacement;
 use places::sides::Sides;
 use tree::tag::Tag;
@@ -26,6 +27,7 @@ ghost use Rattle.rules.specs.Replacement.{Taken, nothing};
 ghost use Rattle.rules.specs.Scan.{scanned, scan, roleOf, junction};
 ghost use Rattle.one_point.specs.Internal.Parts.{TookIs};
 ghost use Rattle.one_point.specs.Internal.Scans.{Room, Entered, ScanTold, Sided, SidesTold, nextScan, SearchedKids};
+ghost use Rattle.one_point.specs.Internal.Marks.{Clean, ScanMarks, SidesMarks, SearchedMarks, RestMarks};
 ghost use Rattle.places.specs.Internal.Positions.{bothPairs};
 
 // Whether a predicate was read; where it ends in the row, the equality taken, whether the node is gone, and where what is left of it ends in
@@ -52,11 +54,19 @@ fn no_pred() -> Scanned
 }
 
 // A predicate that the scan does not enter.
-fn copy_pred(row: &[u32], at: usize, depth: u32, out: &mut [u32], pos: usize) -> Scanned
-    requires { ⌜ Room (now row) depth at pos (length (now out)) ⌝ }
+fn copy_pred(
+    row: &[u32],
+    at: usize,
+    depth: u32,
+    out: &mut [u32],
+    marks: &mut [u32],
+    pos: usize,
+) -> Scanned
+    requires { ⌜ Room (now row) depth at pos (length (now out)) × Clean (now row) at pos (now marks) ⌝ }
     ensures { λ r. ⌜ ScanTold (λ f. scanned nothing (some f)) (now (row .entry)) depth at pos (now (out .entry)) r (now (out .exit)) ⌝ }
+    ensures { λ _. ⌜ ScanMarks (λ f. scanned nothing (some f)) (now (row .entry)) depth at pos (now (marks .entry)) (now (marks .exit)) ⌝ }
 {
-    let Step::End(next) = skip_pred(row, at, depth) else {
+    let Step::End(next) = mark_pred(row, at, depth, marks, pos) else {
         return no_pred();
     };
     let end = copy_part(row, at, next, out, pos);
@@ -77,10 +87,12 @@ fn scan_part(
     next: usize,
     n: usize,
     out: &mut [u32],
+    marks: &mut [u32],
     pos: usize,
 ) -> Scanned
-    requires { ⌜ Sided (now row) at right next × (bothPairs (now row) (at + 1) right ≡ false) × (length (now row) ≤ 8192) × (n ≤ 32) × (pos + 2 * (next - at) ≤ length (now out)) ⌝ }
+    requires { ⌜ Sided (now row) at right next × (bothPairs (now row) (at + 1) right ≡ false) × (length (now row) ≤ 8192) × (n ≤ 32) × (pos + 2 * (next - at) ≤ length (now out)) × (pos ≤ length (now marks)) ⌝ }
     ensures { λ r. ⌜ SidesTold (now (row .entry)) at right next n pos (now (out .entry)) r (now (out .exit)) ⌝ }
+    ensures { λ _. ⌜ SidesMarks (now (row .entry)) at right next n pos (now (marks .entry)) (now (marks .exit)) ⌝ }
 {
     let sides = Sides {
         left: at + 1,
@@ -99,12 +111,23 @@ fn scan_part(
         };
     }
     let end = copy_part(row, at, next, out, pos);
+    mark_pred(row, at, 65, marks, pos);
     Scanned {
         ok: true,
         next: next,
         found: Replacement::Not,
         gone: false,
         end: end,
+    }
+}
+
+// The marks of what is left of an equality, read where it was written.
+fn mark_rest(out: &[u32], pos: usize, gone: bool, marks: &mut [u32])
+    requires { ⌜ (pos ≤ length (now out)) × (pos ≤ length (now marks)) ⌝ }
+    ensures { λ _. ⌜ RestMarks (now (out .entry)) pos gone (now (marks .entry)) (now (marks .exit)) ⌝ }
+{
+    if !gone {
+        mark_pred(out, pos, 65, marks, pos);
     }
 }
 
@@ -116,14 +139,17 @@ fn scan_parts(
     next: usize,
     n: usize,
     out: &mut [u32],
+    marks: &mut [u32],
     pos: usize,
 ) -> Scanned
-    requires { ⌜ Sided (now row) at right next × (length (now row) ≤ 8192) × (n ≤ 32) × (pos + 2 * (next - at) ≤ length (now out)) ⌝ }
+    requires { ⌜ Sided (now row) at right next × (length (now row) ≤ 8192) × (n ≤ 32) × (pos + 2 * (next - at) ≤ length (now out)) × (pos ≤ length (now marks)) ⌝ }
     ensures { λ r. ⌜ SidesTold (now (row .entry)) at right next n pos (now (out .entry)) r (now (out .exit)) ⌝ }
+    ensures { λ _. ⌜ SidesMarks (now (row .entry)) at right next n pos (now (marks .entry)) (now (marks .exit)) ⌝ }
 {
     let s = search_parts(row, at + 1, right, n, out, pos + 2);
     let c = copy_parts(row, s.left, s.right, s.todo, out, s.end, s.count);
     let l = finish_junction(out, pos, c.end, Tag::AND, c.count);
+    mark_rest(out, pos, l.gone, marks);
     let found = s.found;
     Scanned {
         ok: true,
@@ -141,10 +167,12 @@ fn scan_equality(
     depth: u32,
     n: usize,
     out: &mut [u32],
+    marks: &mut [u32],
     pos: usize,
 ) -> Scanned
-    requires { ⌜ Room (now row) depth at pos (length (now out)) × (n ≤ 32) × Entered (now row) depth at × (getD (now row) at 0 ≡ 101) ⌝ }
+    requires { ⌜ Room (now row) depth at pos (length (now out)) × (n ≤ 32) × Entered (now row) depth at × (getD (now row) at 0 ≡ 101) × Clean (now row) at pos (now marks) ⌝ }
     ensures { λ r. ⌜ ScanTold (scan n true) (now (row .entry)) depth at pos (now (out .entry)) r (now (out .exit)) ⌝ }
+    ensures { λ _. ⌜ ScanMarks (scan n true) (now (row .entry)) depth at pos (now (marks .entry)) (now (marks .exit)) ⌝ }
 {
     let Step::End(right) = skip_expr(row, at + 1, depth - 1) else {
         return no_pred();
@@ -153,9 +181,9 @@ fn scan_equality(
         return no_pred();
     };
     if both_pairs(row, at + 1, right) {
-        return scan_parts(row, at, right, next, n, out, pos);
+        return scan_parts(row, at, right, next, n, out, marks, pos);
     }
-    scan_part(row, at, right, next, n, out, pos)
+    scan_part(row, at, right, next, n, out, marks, pos)
 }
 
 fn start_of(gone: bool, pos: usize, end: usize) -> usize
@@ -175,10 +203,12 @@ pub(crate) fn scan_pred(
     n: usize,
     positive: bool,
     out: &mut [u32],
+    marks: &mut [u32],
     pos: usize,
 ) -> Scanned
-    requires { ⌜ Room (now row) depth at pos (length (now out)) × (n ≤ 32) ⌝ }
+    requires { ⌜ Room (now row) depth at pos (length (now out)) × (n ≤ 32) × Clean (now row) at pos (now marks) ⌝ }
     ensures { λ r. ⌜ ScanTold (scan n positive) (now (row .entry)) depth at pos (now (out .entry)) r (now (out .exit)) ⌝ }
+    ensures { λ _. ⌜ ScanMarks (scan n positive) (now (row .entry)) depth at pos (now (marks .entry)) (now (marks .exit)) ⌝ }
 {
     if depth == 0 {
         return no_pred();
@@ -188,24 +218,24 @@ pub(crate) fn scan_pred(
     }
     let tag = row[at];
     if tag == Tag::NOT {
-        return scan_not(row, at, depth, n, positive, out, pos);
+        return scan_not(row, at, depth, n, positive, out, marks, pos);
     }
     if positive {
         if tag == Tag::EQUAL {
-            return scan_equality(row, at, depth, n, out, pos);
+            return scan_equality(row, at, depth, n, out, marks, pos);
         }
         if tag == Tag::AND {
-            return scan_junction(row, at, depth, n, positive, out, pos);
+            return scan_junction(row, at, depth, n, positive, out, marks, pos);
         }
-        return copy_pred(row, at, depth, out, pos);
+        return copy_pred(row, at, depth, out, marks, pos);
     }
     if tag == Tag::OR {
-        return scan_junction(row, at, depth, n, positive, out, pos);
+        return scan_junction(row, at, depth, n, positive, out, marks, pos);
     }
     if tag == Tag::IMPLIES {
-        return scan_implies(row, at, depth, n, out, pos);
+        return scan_implies(row, at, depth, n, out, marks, pos);
     }
-    copy_pred(row, at, depth, out, pos)
+    copy_pred(row, at, depth, out, marks, pos)
 }
 
 // A not: its child with the other polarity, and what is left of it negated.
@@ -216,12 +246,14 @@ fn scan_not(
     n: usize,
     positive: bool,
     out: &mut [u32],
+    marks: &mut [u32],
     pos: usize,
 ) -> Scanned
-    requires { ⌜ Room (now row) depth at pos (length (now out)) × (n ≤ 32) × Entered (now row) depth at × (getD (now row) at 0 ≡ 8) ⌝ }
+    requires { ⌜ Room (now row) depth at pos (length (now out)) × (n ≤ 32) × Entered (now row) depth at × (getD (now row) at 0 ≡ 8) × Clean (now row) at pos (now marks) ⌝ }
     ensures { λ r. ⌜ ScanTold (scan n positive) (now (row .entry)) depth at pos (now (out .entry)) r (now (out .exit)) ⌝ }
+    ensures { λ _. ⌜ ScanMarks (scan n positive) (now (row .entry)) depth at pos (now (marks .entry)) (now (marks .exit)) ⌝ }
 {
-    let s = scan_pred(row, at + 1, depth - 1, n, !positive, out, pos + 1);
+    let s = scan_pred(row, at + 1, depth - 1, n, !positive, out, marks, pos + 1);
     if !s.ok {
         return s;
     }
@@ -235,7 +267,7 @@ fn scan_not(
             end: pos,
         };
     }
-    let end = finish_not(out, pos, s.end);
+    let end = finish_not(out, marks, pos, s.end);
     Scanned {
         ok: true,
         next: s.next,
@@ -253,13 +285,15 @@ fn scan_next(
     n: usize,
     found: Replacement,
     out: &mut [u32],
+    marks: &mut [u32],
     pos: usize,
 ) -> Scanned
-    requires { ⌜ Room (now row) depth at pos (length (now out)) × (n ≤ 32) ⌝ }
+    requires { ⌜ Room (now row) depth at pos (length (now out)) × (n ≤ 32) × Clean (now row) at pos (now marks) ⌝ }
     ensures { λ r. ⌜ ((x : Taken) → TookIs (now (row .entry)) x found → ScanTold (λ f. nextScan x (scan n false f) f) (now (row .entry)) depth at pos (now (out .entry)) r (now (out .exit))) ⌝ }
+    ensures { λ _. ⌜ ((x : Taken) → TookIs (now (row .entry)) x found → ScanMarks (λ f. nextScan x (scan n false f) f) (now (row .entry)) depth at pos (now (marks .entry)) (now (marks .exit))) ⌝ }
 {
     if is_taken(found) {
-        let c = copy_pred(row, at, depth, out, pos);
+        let c = copy_pred(row, at, depth, out, marks, pos);
         return Scanned {
             ok: c.ok,
             next: c.next,
@@ -268,7 +302,7 @@ fn scan_next(
             end: c.end,
         };
     }
-    scan_pred(row, at, depth, n, false, out, pos)
+    scan_pred(row, at, depth, n, false, out, marks, pos)
 }
 
 // An implication: without its left it is its right, without its right the negated left.
@@ -278,19 +312,21 @@ fn scan_implies(
     depth: u32,
     n: usize,
     out: &mut [u32],
+    marks: &mut [u32],
     pos: usize,
 ) -> Scanned
-    requires { ⌜ Room (now row) depth at pos (length (now out)) × (n ≤ 32) × Entered (now row) depth at × (getD (now row) at 0 ≡ 251) ⌝ }
+    requires { ⌜ Room (now row) depth at pos (length (now out)) × (n ≤ 32) × Entered (now row) depth at × (getD (now row) at 0 ≡ 251) × Clean (now row) at pos (now marks) ⌝ }
     ensures { λ r. ⌜ ScanTold (scan n false) (now (row .entry)) depth at pos (now (out .entry)) r (now (out .exit)) ⌝ }
+    ensures { λ _. ⌜ ScanMarks (scan n false) (now (row .entry)) depth at pos (now (marks .entry)) (now (marks .exit)) ⌝ }
 {
     out[pos] = Tag::IMPLIES;
-    let l = scan_pred(row, at + 1, depth - 1, n, true, out, pos + 1);
+    let l = scan_pred(row, at + 1, depth - 1, n, true, out, marks, pos + 1);
     if !l.ok {
         return l;
     }
     let taken = l.found;
     let start = start_of(l.gone, pos, l.end);
-    let r = scan_next(row, l.next, depth - 1, n, taken, out, start);
+    let r = scan_next(row, l.next, depth - 1, n, taken, out, marks, start);
     if !r.ok {
         return r;
     }
@@ -299,7 +335,7 @@ fn scan_implies(
     }
     if r.gone {
         let found = r.found;
-        let end = finish_not(out, pos, l.end);
+        let end = finish_not(out, marks, pos, l.end);
         return Scanned {
             ok: true,
             next: r.next,
@@ -321,10 +357,12 @@ fn search_children(
     positive: bool,
     count: u32,
     out: &mut [u32],
+    marks: &mut [u32],
     pos: usize,
 ) -> Stopped
-    requires { ⌜ Room (now row) depth at pos (length (now out)) × (n ≤ 32) × (at ≤ length (now row)) ⌝ }
+    requires { ⌜ Room (now row) depth at pos (length (now out)) × (n ≤ 32) × (at ≤ length (now row)) × Clean (now row) at pos (now marks) ⌝ }
     ensures { λ r. ⌜ SearchedKids (now (row .entry)) depth n positive at count pos (now (out .entry)) r (now (out .exit)) ⌝ }
+    ensures { λ r. ⌜ SearchedMarks (now (row .entry)) depth n positive at count pos (now (marks .entry)) r (now (marks .exit)) ⌝ }
 {
     let mut found = Replacement::Not;
     let mut q = at;
@@ -332,7 +370,7 @@ fn search_children(
     let mut w = pos;
     let mut k: u32 = 0;
     'search: while 0 < left {
-        let s = scan_pred(row, q, depth, n, positive, out, w);
+        let s = scan_pred(row, q, depth, n, positive, out, marks, w);
         if !s.ok {
             q = row.len();
             break 'search;
@@ -364,10 +402,12 @@ fn scan_junction(
     n: usize,
     positive: bool,
     out: &mut [u32],
+    marks: &mut [u32],
     pos: usize,
 ) -> Scanned
-    requires { ⌜ Room (now row) depth at pos (length (now out)) × (n ≤ 32) × Entered (now row) depth at × (roleOf (getD (now row) at 0) positive ≡ junction) ⌝ }
+    requires { ⌜ Room (now row) depth at pos (length (now out)) × (n ≤ 32) × Entered (now row) depth at × (roleOf (getD (now row) at 0) positive ≡ junction) × Clean (now row) at pos (now marks) ⌝ }
     ensures { λ r. ⌜ ScanTold (scan n positive) (now (row .entry)) depth at pos (now (out .entry)) r (now (out .exit)) ⌝ }
+    ensures { λ _. ⌜ ScanMarks (scan n positive) (now (row .entry)) depth at pos (now (marks .entry)) (now (marks .exit)) ⌝ }
 {
     if row.len() <= at + 1 {
         return no_pred();
@@ -377,13 +417,24 @@ fn scan_junction(
     if count < 2 {
         return no_pred();
     }
-    let s = search_children(row, at + 2, depth - 1, n, positive, count, out, pos + 2);
+    let s = search_children(
+        row,
+        at + 2,
+        depth - 1,
+        n,
+        positive,
+        count,
+        out,
+        marks,
+        pos + 2,
+    );
     let from = s.next;
-    let Step::End(next) = skip_preds(row, from, s.left, depth - 1) else {
+    let Step::End(next) = mark_preds(row, from, s.left, depth - 1, marks, s.end) else {
         return no_pred();
     };
     let end = copy_part(row, from, next, out, s.end);
     let l = finish_junction(out, pos, end, tag, s.count + s.left);
+    finish_marks(marks, pos, end, s.count + s.left);
     let found = s.found;
     Scanned {
         ok: true,

@@ -1,9 +1,9 @@
 -- What the parts of one point answer after the scan: the head of the reduced form, its one filled place, and the reduced body.
 use mathlib.Core.Path.{_≡_}
-use mathlib.Core.Bool.{Bool, true, _||_}
+use mathlib.Core.Bool.{Bool, true, false, _||_}
 use mathlib.Core.List.{List, []}
-use Prim.Native.Nat.{ℕ, _≤_, _<_, _+_}
-use lib.Dec.{eqb}
+use Prim.Native.Nat.{ℕ, _≤_, _<_, _+_, _*_}
+use lib.Dec.{eqb, ltb}
 use lib.ListN.{length, getD, drop, set, replicate}
 use Rattle.tree.specs.Form.{Form, pick}
 use Rattle.tree.specs.Tag.{expr, pred, own}
@@ -12,9 +12,11 @@ use Rattle.form.specs.Internal.Heads.{headAt}
 use Rattle.form.specs.declared.head.Head.{Head}
 use Rattle.form.specs.declared.head.Head.the-variants.{Kids, None as NoHead}
 use Rattle.form.specs.Answer.{Outcome, refusal, finish}
+use Rattle.form.specs.declared.answer.Answer.{Answer}
+use Rattle.form.specs.declared.answer.Answer.the-variants.{Done, No}
 use Rattle.reader.specs.Internal.Reads.{mark}
 use Rattle.reader.specs.declared.lists.Table.{Table}
-use Rattle.replace.specs.Internal.Pieces.{declaredIn, areNames, Leaves}
+use Rattle.replace.specs.Internal.Pieces.{declaredIn, areNames, depthLeft}
 use Rattle.rules.specs.Replacement.{above}
 use Rattle.rules.specs.Scan.{scan}
 use Rattle.rules.specs.Partial.{noPlaces, setPlace, instantiatePartial}
@@ -68,10 +70,22 @@ pub record Marking (part pm : List ℕ) : Type 0 where
   pub enough : length part ≤ length pm
   pub are : (e : Form) → decode 63 expr part ≡ got e [] → pm ≡ mark e 0 0 (replicate (length pm) 0)
 
--- a body at most r deep stays within the limits under one quantifier if the part is put into it
-pub record RestLeaves (part : List ℕ) (r : ℕ) : Type 0 where
-  pub most : r ≤ 63
-  pub left : 0 < r → Leaves part (r + 1)
+-- the rest is a predicate at most d deep
+pub record Shallow (d : ℕ) (rest : List ℕ) : Type 0 where
+  pub some : 0 < d
+  pub most : d ≤ 63
+  pub same : (f : Form) → decode 63 pred rest ≡ got f [] → decode d pred rest ≡ got f []
+
+-- the part put into the rest stays within the limits under one quantifier
+pub record Sure (part rest : List ℕ) : Type 0 where
+  pub deep : ℕ
+  pub shallow : Shallow deep rest
+  pub less : ltb deep (depthLeft part) ≡ true
+
+-- the marks of a predicate
+pub record RestMarking (rest ms : List ℕ) : Type 0 where
+  pub long : length ms ≡ length rest
+  pub are : (f : Form) → decode 63 pred rest ≡ got f [] → ms ≡ mark f 0 0 (replicate (length ms) 0)
 
 -- the word of an emptied body
 abbrev pub emptyWord : ℕ → ℕ
@@ -81,8 +95,20 @@ abbrev pub reducedIn : ℕ → List ℕ → ℕ → Whole → Outcome
 reducedIn t ns room (one f) = ofResult room (reduce t ns (scan (length ns) (polarity t) f))
 reducedIn t ns room not-one = refusal 2
 
-unfoldable pub bodyOutcome : ℕ → List ℕ → List ℕ → ℕ → Outcome
-bodyOutcome t ns body room = reducedIn t ns room (whole (decode 63 pred body))
+-- what a body that is read d deep becomes
+unfoldable pub bodyOutcome : ℕ → ℕ → List ℕ → List ℕ → ℕ → Outcome
+bodyOutcome d t ns body room = reducedIn t ns room (whole (decode d pred body))
+
+abbrev pub isBad : Answer → Bool
+isBad (Done n) = false
+isBad (No k) = eqb k 2
+
+-- a body can be read d deep, with new marks for what is left of it
+pub record Reading (d : ℕ) (body ms : List ℕ) : Type 0 where
+  pub some : 0 < d
+  pub most : d ≤ 63
+  pub zeros : ms ≡ replicate (length ms) 0
+  pub room : 2 * length body ≤ length ms
 
 pub record Reducing (t : ℕ) (ns body : List ℕ) (work : ℕ) : Type 0 where
   pub which : isQuantifier t ≡ true

@@ -1,33 +1,22 @@
 -- `one_point::reduce::place_marked` meets its contract. Assumes nothing.
-use mathlib.Core.List.{[]}
-use native.Mathlib.Omega.{arith}
-use Rattle.places.proofs.SidesLaws.{told-plain, told-marks, told-not-bad}
-use Rattle.one_point.proofs.PlaceLaws.{marking-of}
+use mathlib.Core.Path.{sym, _∙_}
 use borrow.Author.Needs.{needs}
 use Rattle.one_point.proofs.reduce.place_marked.Statement.{statement}
 use Rattle.one_point.proofs.reduce.place_marked.Tie as tie
 use Rattle.one_point.proofs.reduce.place_marked.Reads as reads
 use Rattle.one_point.proofs.reduce.place_marked.Lts as lts
-use Rattle.one_point.proofs.reduce.place_in.Reads as place-in-reads
-use Rattle.reader.proofs.reader.expr_at.Reads as expr-at-reads
+use Rattle.one_point.proofs.reduce.is_sure.Reads as is-sure-reads
+use Rattle.one_point.proofs.reduce.place_deep.Reads as place-deep-reads
+use Rattle.one_point.proofs.reduce.place_sure.Reads as place-sure-reads
 
-expr-at-requires : tie.Need-expr-at-requires
-expr-at-requires c κs = search needs
+is-sure-requires : tie.Need-is-sure-requires
+is-sure-requires c κs = search needs
 
-enum-known-end : tie.Need-enum-known-end
-enum-known-end c = search needs
-
-enum-told : tie.Need-enum-told
-enum-told c = search needs
+place-sure-requires : tie.Need-place-sure-requires
+place-sure-requires c κs = let b3 = c .before .before .before in let b4 = b3 .before in let b11 = b4 .before .before .before .before .before .before .before in (b11 .pre .0, b11 .pre .1, b11 .pre .2, record { deep = b11 .args .depth; shallow = b11 .pre .3; less = sym (b4 .is-sure .ensures) ∙ b3 .if1 .taken })
 
 same-length : tie.Need-same-length
 same-length c = search needs
-
-returns : tie.Need-returns
-returns c = absurd (told-not-bad 0 (c .before .before .before .before .before .before .before .before .before .before .before .before .pre .0 .by) _ [] _ _ _ (c .before .before .before .before .before .before .before .before .before .before .before .before .pre .0 .is-part) (told-plain _ _ _ _ _ _ _ _ (omega arith) (omega arith) (c .before .before .before .before .expr-at .ensures)) (c .enum-told .given .1))
-
-place-in-requires : tie.Need-place-in-requires
-place-in-requires c κs = (c .before .before .before .before .before .before .before .before .before .before .before .before .before .before .before .before .pre .0, marking-of (c .before .before .before .before .before .before .before .before .before .before .before .before .before .before .before .before .args .part .now) (c .before .before .before .before .before .before .before .before .before .before .before .before .before .before .before .before .args .part-marks .now) _ (c .before .before .before .before .before .before .before .before .before .before .before .before .before .before .before .before .pre .0 .by) (c .before .before .before .before .before .before .before .before .before .before .before .before .before .before .before .before .pre .1) (c .before .before .before .before .before .before .before .before .before .before .before .before .before .before .before .before .pre .0 .is-part) (told-marks 0 (c .before .before .before .before .before .before .before .before .before .before .before .before .before .before .before .before .pre .0 .by) _ [] _ _ _ (c .before .before .before .before .before .before .before .before .before .before .before .before .before .before .before .before .pre .0 .is-part) (told-plain _ _ _ _ _ _ _ _ (omega arith) (omega arith) (c .before .before .before .before .before .before .before .before .expr-at .ensures))) (c .before .before .before .before .before .before .before .before .expr-at .kept .1 .0), c .before .before .before .before .before .before .before .before .before .before .before .before .before .before .before .before .pre .2)
 
 same-length-2 : tie.Need-same-length-2
 same-length-2 c = search needs
@@ -35,8 +24,17 @@ same-length-2 c = search needs
 same-length-3 : tie.Need-same-length-3
 same-length-3 c = search needs
 
+returns : tie.Need-returns
+returns c = search needs
+
+place-deep-requires : tie.Need-place-deep-requires
+place-deep-requires c κs = search needs
+
 same-length-4 : tie.Need-same-length-4
 same-length-4 c = search needs
+
+same-length-5 : tie.Need-same-length-5
+same-length-5 c = search needs
 
 returns-2 : tie.Need-returns-2
 returns-2 c = search needs
@@ -45,13 +43,13 @@ pub place-marked-spec : {M : Type 1} → statement M
 place-marked-spec =
     tie.close
     (tie.spec
-    expr-at-requires
-    enum-known-end
-    enum-told
+    is-sure-requires
+    place-sure-requires
     same-length
-    returns
-    place-in-requires
     same-length-2
     same-length-3
+    returns
+    place-deep-requires
     same-length-4
+    same-length-5
     returns-2)

@@ -1,10 +1,14 @@
 -- `one_point::writes::finish_junction` meets its contract. Assumes nothing.
-use lib.ListN.{length-set}
+use mathlib.Core.Path.{refl}
 use native.Mathlib.Omega.{arith}
+use lib.ListN.{length-set}
 use Rattle.one_point.proofs.WriteLaws.{join-none, join-one, join-more}
 use borrow.Author.Needs.{needs}
 use Rattle.one_point.proofs.writes.finish_junction.Statement.{statement}
 use Rattle.one_point.proofs.writes.finish_junction.Tie as tie
+use Rattle.one_point.proofs.writes.finish_junction.Reads as reads
+use Rattle.one_point.proofs.writes.finish_junction.Lts as lts
+use Rattle.one_point.proofs.writes.move_down.Reads as move-down-reads
 
 returns : tie.Need-returns
 returns c = λ fs e w. join-none (c .before .before .args .pos) (c .before .before .args .end) (c .before .before .args .tag) (c .before .before .args .out .now) (omega arith) _ (c .if1 .taken) fs e
@@ -16,7 +20,7 @@ same-length : tie.Need-same-length
 same-length c = search needs
 
 returns-2 : tie.Need-returns-2
-returns-2 c = λ fs e w. join-one _ _ _ (c .before .before .before .before .before .before .before .args .out .now) (omega arith) _ (c .before .before .before .before .if2 .taken) _ _ (c .before .before .move-down .ensures) fs e w
+returns-2 c = let b4 = c .before .before .before .before in let b7 = b4 .before .before .before in λ fs e w. join-one _ _ _ (b7 .args .out .now) (omega arith) _ (b4 .if2 .taken) _ _ (c .before .before .move-down .ensures .0) fs e w
 
 mul-out : tie.Need-mul-out
 mul-out c = search needs
@@ -37,7 +41,7 @@ same-length-2 : tie.Need-same-length-2
 same-length-2 c = simp length-set
 
 returns-3 : tie.Need-returns-3
-returns-3 c = λ fs e w. join-more _ _ _ (c .before .before .before .args .out .now) (omega arith) _ (c .before .if1 .left) (c .if2 .left) fs e w
+returns-3 c = let b3 = c .before .before .before in λ fs e w. join-more _ _ _ (b3 .args .out .now) (omega arith) _ (c .before .if1 .left) (c .if2 .left) fs e w
 
 pub finish-junction-spec : {M : Type 1} → statement M
 finish-junction-spec =
