@@ -1,25 +1,25 @@
 -- One point after the scan: the place that is filled, the rest of the body, and the whole call. Assumes nothing.
 use mathlib.Core.Path.{_≡_, refl, ap, sym, _∙_}
-use mathlib.Core.Bool.{Bool, true}
+use mathlib.Core.Bool.{Bool, true, false}
 use mathlib.Core.List.{List, [], _∷_, _++_, append-nil, map}
 use Prim.Native.Nat.{ℕ, zero, suc, _+_, _-_, _≤_, _<_}
 use native.Mathlib.Nat.{zero-add}
 use native.Mathlib.Omega.{arith}
-use borrow.Author.Tests.{eq-eqb, ne-eqb, lt-ltb, ltb-true}
+use borrow.Author.Tests.{eq-eqb, ne-eqb, lt-ltb, le-ltb, ltb-true}
+use lib.Dec.{ltb}
 use lib.ListN.{length, getD, take, drop, set, replicate, length-replicate, getD-replicate}
 use lib.Seq.{drop-length}
-use Rattle.tree.specs.Form.{Form, encode}
+use Rattle.tree.specs.Form.{Form, pick, encode}
 use Rattle.tree.specs.Tag.{expr, pred, own}
-use Rattle.form.specs.Decode.{read, Got, got, decode}
+use Rattle.form.specs.Decode.{read, Got, got, no-form, decode}
 use Rattle.form.specs.Internal.Heads.{headAt}
 use Rattle.form.specs.declared.head.Head.{Head}
 use Rattle.form.specs.declared.head.Head.the-variants.{Kids, None as NoHead}
 use Rattle.form.specs.Answer.{finish}
-use Rattle.reader.specs.Internal.Reads.{mark, Told, decodeIn}
+use Rattle.reader.specs.Internal.Reads.{mark, decodeIn}
 use Rattle.form.specs.declared.head.Step.{Step}
-use Rattle.form.specs.declared.head.Step.the-variants.{End}
-use Rattle.form.proofs.DecodeLaws.{Ok, decode-encode, decode-sound}
-use Rattle.reader.proofs.ReaderLaws.{told-end}
+use Rattle.form.specs.declared.head.Step.the-variants.{End, Bad}
+use Rattle.form.proofs.DecodeLaws.{clash, Ok, decode-encode, decode-sound}
 use Rattle.shift.specs.Internal.Items.{items}
 use Rattle.shift.proofs.RowLaws.{itemsOf, marksOf, mark-front}
 use Rattle.replace.specs.Internal.Pieces.{part as part-of, declaredIn, Leaves, InRow, Ready, downPlan, depthLeft}
@@ -27,12 +27,12 @@ use Rattle.rules.proofs.OkLaws.{ok-deep}
 use Rattle.replace.proofs.InsideLaws.{Small}
 use Rattle.replace.proofs.SmallLaws.{small-form, leaves}
 use Rattle.replace.specs.Internal.Partial.{partialRow}
-use Rattle.one_point.specs.Internal.Reduce.{quantifierIn, oneTable, placedForm, placedOutcome, Placing, Marking, Sure, RestMarking}
+use Rattle.one_point.specs.Internal.Reduce.{quantifierIn, oneTable, placedForm, placedOutcome, Placing, Marking, Shallow, isGot, isSure, RestMarking}
 use Rattle.one_point.specs.Internal.Marks.{raiseMark, CanRaise}
 use Rattle.one_point.proofs.MarkLaws.{raised-are, marks-raise}
-use Rattle.places.specs.Internal.Positions.{Cleared}
+use Rattle.places.specs.Internal.Positions.{endAt, Cleared}
+use Rattle.one_point.proofs.ScanLaws.{ends-at, ends-not}
 use Rattle.one_point.specs.declared.one_point_inference.Quantifier.the-variants.{Of, None}
-use Rattle.places.proofs.SidesLaws.{told-plain}
 use Rattle.places.proofs.PlacesLaws.{place-from}
 use Rattle.one_point.proofs.PartialLaws.{first-filled, part-items}
 use Rattle.one_point.proofs.InsidePoint.{Fitting, point-row}
@@ -105,20 +105,6 @@ marking-of part pm pm′ f h is m l = record { enough = let e = h .enough in ome
 pub fresh-cleared : (row : List ℕ) (n : ℕ) → length row ≤ n → Cleared row (replicate n 0)
 fresh-cleared row n h = record { zeros = ap (λ (k : ℕ). replicate k 0) (sym (length-replicate n 0)); enough = rw length-replicate h }
 
--- a rest that is read as a predicate so deep
-module _ (u : ℕ) (few : u ≤ 65535) (deep : ℕ) (most : deep ≤ 63) (row : List ℕ) (f : Form) (is : decode 63 pred row ≡ got f []) (a b : List ℕ) (r : Step) (q : ℕ) (t : Told 0 u (decodeIn deep u pred row) a b r) (e : r ≡ End q) where
-  pub shallow-rest : Ok deep pred f × (b ≡ mark f 0 u a)
-  shallow-rest =
-      let (g, x, d, l, m) = told-end 0 u (decode deep pred row) a b r q (told-plain 0 deep u pred row a b r (omega arith) few t) e in
-      go g x d m
-    where
-      go : (g : Form) (x : List ℕ) → decode deep pred row ≡ got g x → b ≡ mark g 0 u a → Ok deep pred f × (b ≡ mark f 0 u a)
-      go g x d m =
-          let (w, o) = decode-sound deep pred row g x d in
-          let c : got g x ≡ got f [] = sym (decode-encode (ok-deep o 63 most) x) ∙ (ap (decode 63 pred) (sym w) ∙ is) in
-          let z : g ≡ f = cc in
-          (rw z at o, rw z at m)
-
 -- a replacement that leaves the rest so deep
 module _ (part : List ℕ) (f : Form) (is : decode 63 expr part ≡ got f []) (g : Form) where
   part-small : (m : ℕ) → m ≤ 62 → Leaves part (64 - m) → Small m f
@@ -134,15 +120,59 @@ module _ (part : List ℕ) (f : Form) (is : decode 63 expr part ≡ got f []) (g
       record { over = 63 - suc r; deep = suc r; small = part-small (63 - suc r) (omega arith) (rw (← q) x); ok = o; sum = omega arith }
 
 -- a part that is sure to stay within the limits in the rest
-pub sure-fitting : (part rest : List ℕ) (f g : Form) → decode 63 expr part ≡ got f [] → decode 63 pred rest ≡ got g [] → Sure part rest → Fitting f g
-sure-fitting part rest f g is-part is-rest s =
-    let x = leaves part (depthLeft part) refl in
-    let l = ltb-true (s .deep) (depthLeft part) (s .less) in
-    let h = s .shallow .some in
-    let m = x .most in
-    let ok = whole-pred rest g (s .deep) (s .shallow .same g is-rest) .1 in
-    let q : depthLeft part - 1 + 1 ≡ depthLeft part = omega arith in
-    fitting part f is-part g (depthLeft part - 1) (omega arith) (omega arith) (rw q x) (ok-deep ok (depthLeft part - 1) (omega arith))
+module _ (part rest : List ℕ) (f g : Form) (is-part : decode 63 expr part ≡ got f []) (is-rest : decode 63 pred rest ≡ got g []) where
+  fits-at : (r : ℕ) → r < depthLeft part → 0 < r → Ok r pred g → Fitting f g
+  fits-at r l h ok =
+      let x = leaves part (depthLeft part) refl in
+      let m = x .most in
+      let q : depthLeft part - 1 + 1 ≡ depthLeft part = omega arith in
+      fitting part f is-part g (depthLeft part - 1) (omega arith) (omega arith) (rw q x) (ok-deep ok (depthLeft part - 1) (omega arith))
+
+  read-at : (r : ℕ) → (0 < r → r < depthLeft part) → (h : Got) → decode r pred rest ≡ h → isGot h ≡ true → Fitting f g
+  unfolding decode
+  read-at zero l (got k x) e i = absurd (clash cc)
+  read-at zero l no-form e i = absurd (clash cc)
+  read-at (suc r) l (got k x) e i =
+      let m = leaves part (depthLeft part) refl .most in
+      let b = l (omega arith) in
+      let (w, o) = decode-sound (suc r) pred rest k x e in
+      let c : got k x ≡ got g [] = sym (decode-encode (ok-deep o 63 (omega arith)) x) ∙ (ap (decode 63 pred) (sym w) ∙ is-rest) in
+      let z : k ≡ g = cc in
+      fits-at (suc r) (l (omega arith)) (omega arith) (rw z at o)
+  read-at (suc r) l no-form e i = absurd (clash cc)
+
+  pub sure-fitting : (d : ℕ) → Shallow d rest → isSure d part rest ≡ true → Fitting f g
+  unfolding isSure
+  sure-fitting d s e = go (ltb d (depthLeft part)) refl e
+    where
+      go : (b : Bool) → ltb d (depthLeft part) ≡ b → pick b true (isGot (decode (depthLeft part - 1) pred rest)) ≡ true → Fitting f g
+      go true q e = fits-at d (ltb-true d (depthLeft part) q) (s .some) (whole-pred rest g d (s .same g is-rest) .1)
+      go false q e = read-at (depthLeft part - 1) (λ h. omega arith) (decode (depthLeft part - 1) pred rest) refl e
+
+-- how the code finds it out
+module _ (d : ℕ) (part rest : List ℕ) (r : ℕ) (is : r ≡ depthLeft part) where
+  pub sure-deep : d < r → true ≡ isSure d part rest
+  unfolding isSure
+  sure-deep h = rw (lt-ltb d (depthLeft part) (rw is at h)) refl
+
+  module _ (n : r ≤ d) where
+    sure-by : (b : Bool) → b ≡ isGot (decode (r - 1) pred rest) → b ≡ isSure d part rest
+    unfolding isSure
+    sure-by b e = rw (le-ltb d (depthLeft part) (rw is at n), ← is) e
+
+    pub sure-none : r ≡ 0 → false ≡ isSure d part rest
+    unfolding decode
+    sure-none z = sure-by false (rw z refl)
+
+    module _ (s : Step) (e : s ≡ endAt 0 (decodeIn (r - 1) 0 pred rest)) where
+      most : r - 1 ≤ 64
+      most = let x = leaves part r is .most in omega arith
+
+      pub sure-not : s ≡ Bad → false ≡ isSure d part rest
+      sure-not q = sure-by false (sym (ap isGot (ends-not rest (r - 1) pred 0 most s e q)))
+
+      pub sure-read : (p : ℕ) → s ≡ End p → true ≡ isSure d part rest
+      sure-read p q = sure-by true (sym (ap isGot (ends-at rest (r - 1) pred 0 most s e p q .is)))
 
 -- the target's place filled in the rest
 module _ (t : ℕ) (ns : List ℕ) (i : ℕ) (part rest : List ℕ) (h : Placing t ns i part rest) where

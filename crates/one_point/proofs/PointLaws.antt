@@ -32,6 +32,7 @@ use Rattle.rules.specs.Replacement.{Taken, taken, nothing}
 use Rattle.rules.specs.Scan.{Scan, scanned, scan}
 use Rattle.rules.specs.Point.{polarity, restOf, reduce, onePoint, ofResult, pointOutcome}
 use Rattle.places.specs.Internal.Wrote.{Wrote}
+use Rattle.places.specs.Internal.Positions.{Cleared}
 use Rattle.one_point.specs.Internal.Writes.{leftWords, isGone}
 use Rattle.one_point.specs.Internal.Parts.{TookIs}
 use Rattle.one_point.specs.Internal.Scans.{Left, Became, ScanTold}
@@ -313,6 +314,14 @@ bad-refusal (refusal k) r e b out = refl
 -- what a second call answers after a first that left the output as it was
 pub told-again : (o : ℕ → Outcome) (r : Answer) (out out′ out″ : List ℕ) → out′ ≡ out → (r ≡ told (o (length out′))) × (out″ ≡ written (o (length out′)) out′) → (r ≡ told (o (length out))) × (out″ ≡ written (o (length out)) out)
 told-again o r out out′ out″ e h = rw e at h
+
+-- marks for a body are marks for a part of it
+pub part-cleared : (body : List ℕ) (a b : ℕ) (ms : List ℕ) → Cleared body ms → b ≤ length body → Cleared (take (b - a) (drop a body)) ms
+part-cleared body a b ms c h =
+    let l = length-take (b - a) (drop a body) in
+    let d = length-drop a body in
+    let e = c .enough in
+    record { zeros = c .zeros; enough = omega arith }
 
 pub still-reducing : (t : ℕ) (ns body : List ℕ) (wl wl′ : ℕ) → wl′ ≡ wl → Reducing t ns body wl → Reducing t ns body wl′
 still-reducing t ns body wl wl′ e h = rw e h

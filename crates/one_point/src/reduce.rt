@@ -4,90 +4,52 @@ use crate::rest::put_rest;
 use crate::scan::scan_pred;
 use form::answer::Answer;
 use form::head::Step;
+use places::positions::skip_pred;
 use places::sides::Replacement;
 use reader::reader::expr_at;
-use reader::reader::pred_at;
 use replace::small::depth_left;
 use tree::tag::Tag;
 ghost use mathlib.Core.Path.{_≡_};
 ghost use mathlib.Core.List.{[], _∷_};
-ghost use Prim.Native.Nat.{_*_, _≤_, _<_};
-ghost use lib.Dec.{ltb};
-ghost use lib.ListN.{length, take, replicate};
+ghost use Prim.Native.Nat.{_≤_, _<_};
+ghost use lib.ListN.{length, take};
 ghost use Rattle.tree.specs.Form.{pick};
 ghost use Rattle.form.specs.Answer.{told, written};
-ghost use Rattle.replace.specs.Internal.Pieces.{depthLeft};
-ghost use Rattle.one_point.specs.Internal.Reduce.{Placing, Shallow, Sure, RestMarking, placedOutcome, emptyWord, Reducing, Reading, bodyOutcome, isBad};
+ghost use Rattle.one_point.specs.Internal.Reduce.{Placing, Shallow, isSure, RestMarking, placedOutcome, emptyWord, Reducing, Reading, bodyOutcome, isBad};
 ghost use Rattle.places.specs.Internal.Positions.{Cleared};
 
-// How deep a body is read first, so that what is left of it is sure to stay within the limits with a replacement up to 15 deep.
+// How deep a body is read first, so that what is left of it is sure to stay within the limits with a replacement up to 3 deep.
 pub struct Depth {
     pub value: usize,
 }
 
 impl Depth {
-    pub const FIRST: u32 = 49;
+    pub const FIRST: u32 = 61;
 
     pub const MOST: u32 = 63;
 }
 
-// The target's place filled in the rest of a body, which is read for its marks; the result is checked.
-fn place_deep(
-    tag: u32,
-    names: &[u32],
-    target: u32,
-    part: &[u32],
-    part_marks: &mut [u32],
-    rest: &[u32],
-    out: &mut [u32],
-) -> Answer
-    requires { ⌜ Placing tag (now names) target (now part) (now rest) × Cleared (now part) (now «part_marks») ⌝ }
-    ensures { λ r. ⌜ r ≡ told (placedOutcome tag (now (names .entry)) target (now (part .entry)) (now (rest .entry)) (length (now (out .entry)))) ⌝ }
-    ensures { λ _. ⌜ now (out .exit) ≡ written (placedOutcome tag (now (names .entry)) target (now (part .entry)) (now (rest .entry)) (length (now (out .entry)))) (now (out .entry)) ⌝ }
+// Whether what is left of a body that was read so deep is sure to stay within the limits with the part put into it; where the part is too deep for
+// any such body, it is read again.
+fn is_sure(part: &[u32], rest: &[u32], depth: u32) -> bool
+    ensures { λ r. ⌜ r ≡ isSure depth (now (part .entry)) (now (rest .entry)) ⌝ }
 {
-    let Step::End(part_end) = expr_at(part, part_marks, 0, Depth::MOST, 0) else {
-        return Answer::No(2);
+    let left = depth_left(part);
+    if depth < left {
+        return true;
+    }
+    if left == 0 {
+        return false;
+    }
+    let Step::End(end) = skip_pred(rest, 0, left - 1) else {
+        return false;
     };
-    let mut marks = [0u32; 16384];
-    let Step::End(rest_end) = pred_at(rest, &mut marks, 0, Depth::MOST, target + 1) else {
-        return Answer::No(2);
-    };
-    let p = names.len() - 1 - (target as usize);
-    put_rest(tag, names, p, false, part, part_marks, rest, &marks, out)
+    true
 }
 
-// The same, where the result is sure to be within the limits, with the marks that the scan made.
-fn place_sure(
-    tag: u32,
-    names: &[u32],
-    target: u32,
-    part: &[u32],
-    part_marks: &mut [u32],
-    rest: &[u32],
-    marks: &mut [u32],
-    out: &mut [u32],
-) -> Answer
-    requires { ⌜ Placing tag (now names) target (now part) (now rest) × Cleared (now part) (now «part_marks») × RestMarking (now rest) (now marks) × Sure (now part) (now rest) ⌝ }
-    ensures { λ r. ⌜ r ≡ told (placedOutcome tag (now (names .entry)) target (now (part .entry)) (now (rest .entry)) (length (now (out .entry)))) ⌝ }
-    ensures { λ _. ⌜ now (out .exit) ≡ written (placedOutcome tag (now (names .entry)) target (now (part .entry)) (now (rest .entry)) (length (now (out .entry)))) (now (out .entry)) ⌝ }
-{
-    let Step::End(end) = expr_at(part, part_marks, 0, Depth::MOST, 0) else {
-        return Answer::No(2);
-    };
-    raise(marks, target + 1);
-    let p = names.len() - 1 - (target as usize);
-    put_rest(tag, names, p, true, part, part_marks, rest, marks, out)
-}
-
-// Whether what is at most so deep is sure to stay within the limits when the part is put into it.
-fn is_sure(part: &[u32], depth: u32) -> bool
-    ensures { λ r. ⌜ r ≡ ltb depth (depthLeft (now (part .entry))) ⌝ }
-{
-    depth < depth_left(part)
-}
-
-// The same for a rest that is at most so deep.
-fn place_marked(
+// The target's place filled in the rest of a body, with its marks; those of the part have a row. The result is checked as a form where it is not sure
+// to be one.
+fn place(
     tag: u32,
     names: &[u32],
     target: u32,
@@ -102,92 +64,13 @@ fn place_marked(
     ensures { λ r. ⌜ r ≡ told (placedOutcome tag (now (names .entry)) target (now (part .entry)) (now (rest .entry)) (length (now (out .entry)))) ⌝ }
     ensures { λ _. ⌜ now (out .exit) ≡ written (placedOutcome tag (now (names .entry)) target (now (part .entry)) (now (rest .entry)) (length (now (out .entry)))) (now (out .entry)) ⌝ }
 {
-    if is_sure(part, depth) {
-        return place_sure(tag, names, target, part, part_marks, rest, marks, out);
-    }
-    place_deep(tag, names, target, part, part_marks, rest, out)
-}
-
-// The same, with marks for the part.
-fn place_long(
-    tag: u32,
-    names: &[u32],
-    target: u32,
-    part: &[u32],
-    rest: &[u32],
-    depth: u32,
-    marks: &mut [u32],
-    out: &mut [u32],
-) -> Answer
-    requires { ⌜ Placing tag (now names) target (now part) (now rest) × RestMarking (now rest) (now marks) × Shallow depth (now rest) ⌝ }
-    ensures { λ r. ⌜ r ≡ told (placedOutcome tag (now (names .entry)) target (now (part .entry)) (now (rest .entry)) (length (now (out .entry)))) ⌝ }
-    ensures { λ _. ⌜ now (out .exit) ≡ written (placedOutcome tag (now (names .entry)) target (now (part .entry)) (now (rest .entry)) (length (now (out .entry)))) (now (out .entry)) ⌝ }
-{
-    if part.len() <= 512 {
-        let mut part_marks = [0u32; 512];
-        return place_marked(
-            tag,
-            names,
-            target,
-            part,
-            &mut part_marks,
-            rest,
-            depth,
-            marks,
-            out,
-        );
-    }
-    if part.len() <= 2048 {
-        let mut part_marks = [0u32; 2048];
-        return place_marked(
-            tag,
-            names,
-            target,
-            part,
-            &mut part_marks,
-            rest,
-            depth,
-            marks,
-            out,
-        );
-    }
-    let mut part_marks = [0u32; 8192];
-    place_marked(
-        tag,
-        names,
-        target,
-        part,
-        &mut part_marks,
-        rest,
-        depth,
-        marks,
-        out,
-    )
-}
-
-// The target's place filled in the rest of a body. A short part stands apart, so that its call lays out no row for long ones.
-fn place(
-    tag: u32,
-    names: &[u32],
-    target: u32,
-    part: &[u32],
-    rest: &[u32],
-    depth: u32,
-    marks: &mut [u32],
-    out: &mut [u32],
-) -> Answer
-    requires { ⌜ Placing tag (now names) target (now part) (now rest) × RestMarking (now rest) (now marks) × Shallow depth (now rest) ⌝ }
-    ensures { λ r. ⌜ r ≡ told (placedOutcome tag (now (names .entry)) target (now (part .entry)) (now (rest .entry)) (length (now (out .entry)))) ⌝ }
-    ensures { λ _. ⌜ now (out .exit) ≡ written (placedOutcome tag (now (names .entry)) target (now (part .entry)) (now (rest .entry)) (length (now (out .entry)))) (now (out .entry)) ⌝ }
-{
-    if part.len() <= 64 {
-        let mut part_marks = [0u32; 64];
-        if is_sure(part, depth) {
-            return place_sure(tag, names, target, part, &mut part_marks, rest, marks, out);
-        }
-        return place_long(tag, names, target, part, rest, depth, marks, out);
-    }
-    place_long(tag, names, target, part, rest, depth, marks, out)
+    let Step::End(end) = expr_at(part, part_marks, 0, Depth::MOST, 0) else {
+        return Answer::No(2);
+    };
+    let sure = is_sure(part, rest, depth);
+    raise(marks, target + 1);
+    let p = names.len() - 1 - (target as usize);
+    put_rest(tag, names, p, sure, part, part_marks, rest, marks, out)
 }
 
 // Where what is left of a body ends; an emptied body becomes true under 852 and false under 851.
@@ -207,8 +90,8 @@ fn rest_end(tag: u32, gone: bool, end: usize, work: &mut [u32]) -> usize
     1
 }
 
-// The body of a quantifier with these names, read so deep and reduced by the first equality that its scan takes; the marks of what is left of it
-// have a row.
+// The body of a quantifier with these names, read so deep and reduced by the first equality that its scan takes. The marks of what is left of it, and
+// those of the replacement, have rows.
 fn reduce_in(
     tag: u32,
     names: &[u32],
@@ -216,9 +99,10 @@ fn reduce_in(
     depth: u32,
     work: &mut [u32],
     marks: &mut [u32],
+    part_marks: &mut [u32],
     out: &mut [u32],
 ) -> Answer
-    requires { ⌜ Reducing tag (now names) (now body) (length (now work)) × Reading depth (now body) (now marks) ⌝ }
+    requires { ⌜ Reducing tag (now names) (now body) (length (now work)) × Reading depth (now body) (now marks) × Cleared (now body) (now «part_marks») ⌝ }
     ensures { λ r. ⌜ r ≡ told (bodyOutcome depth tag (now (names .entry)) (now (body .entry)) (length (now (out .entry)))) ⌝ }
     ensures { λ _. ⌜ now (out .exit) ≡ written (bodyOutcome depth tag (now (names .entry)) (now (body .entry)) (length (now (out .entry)))) (now (out .entry)) ⌝ }
 {
@@ -248,6 +132,7 @@ fn reduce_in(
         names,
         target,
         &body[start..end],
+        part_marks,
         &work[..stop],
         depth,
         &mut marks[..stop],
@@ -255,7 +140,7 @@ fn reduce_in(
     )
 }
 
-// The same, with marks for any body.
+// The same, with rows for any body.
 fn reduce_at(
     tag: u32,
     names: &[u32],
@@ -270,14 +155,44 @@ fn reduce_at(
 {
     if body.len() <= 1024 {
         let mut marks = [0u32; 2048];
-        return reduce_in(tag, names, body, depth, work, &mut marks, out);
+        let mut part_marks = [0u32; 1024];
+        return reduce_in(
+            tag,
+            names,
+            body,
+            depth,
+            work,
+            &mut marks,
+            &mut part_marks,
+            out,
+        );
     }
     if body.len() <= 4096 {
         let mut marks = [0u32; 8192];
-        return reduce_in(tag, names, body, depth, work, &mut marks, out);
+        let mut part_marks = [0u32; 4096];
+        return reduce_in(
+            tag,
+            names,
+            body,
+            depth,
+            work,
+            &mut marks,
+            &mut part_marks,
+            out,
+        );
     }
     let mut marks = [0u32; 16384];
-    reduce_in(tag, names, body, depth, work, &mut marks, out)
+    let mut part_marks = [0u32; 8192];
+    reduce_in(
+        tag,
+        names,
+        body,
+        depth,
+        work,
+        &mut marks,
+        &mut part_marks,
+        out,
+    )
 }
 
 // Whether the body was no predicate as deep as it was read.
@@ -318,15 +233,35 @@ pub(crate) fn reduce(
 {
     if body.len() <= 64 {
         let mut marks = [0u32; 128];
-        let r = reduce_in(tag, names, body, Depth::FIRST, work, &mut marks, out);
+        let mut part_marks = [0u32; 64];
+        let r = reduce_in(
+            tag,
+            names,
+            body,
+            Depth::FIRST,
+            work,
+            &mut marks,
+            &mut part_marks,
+            out,
+        );
         if is_bad(r) {
             return reduce_long(tag, names, body, work, out);
         }
         return r;
     }
-    if body.len() <= 512 {
-        let mut marks = [0u32; 1024];
-        let r = reduce_in(tag, names, body, Depth::FIRST, work, &mut marks, out);
+    if body.len() <= 256 {
+        let mut marks = [0u32; 512];
+        let mut part_marks = [0u32; 256];
+        let r = reduce_in(
+            tag,
+            names,
+            body,
+            Depth::FIRST,
+            work,
+            &mut marks,
+            &mut part_marks,
+            out,
+        );
         if is_bad(r) {
             return reduce_long(tag, names, body, work, out);
         }

@@ -2,7 +2,7 @@
 use mathlib.Core.Path.{_≡_}
 use mathlib.Core.Bool.{Bool, true, false, _||_}
 use mathlib.Core.List.{List, []}
-use Prim.Native.Nat.{ℕ, _≤_, _<_, _+_, _*_}
+use Prim.Native.Nat.{ℕ, _≤_, _<_, _+_, _-_, _*_}
 use lib.Dec.{eqb, ltb}
 use lib.ListN.{length, getD, drop, set, replicate}
 use Rattle.tree.specs.Form.{Form, pick}
@@ -76,11 +76,13 @@ pub record Shallow (d : ℕ) (rest : List ℕ) : Type 0 where
   pub most : d ≤ 63
   pub same : (f : Form) → decode 63 pred rest ≡ got f [] → decode d pred rest ≡ got f []
 
--- the part put into the rest stays within the limits under one quantifier
-pub record Sure (part rest : List ℕ) : Type 0 where
-  pub deep : ℕ
-  pub shallow : Shallow deep rest
-  pub less : ltb deep (depthLeft part) ≡ true
+abbrev pub isGot : Got → Bool
+isGot (got f x) = true
+isGot no-form = false
+
+-- whether a rest at most d deep is sure to stay within the limits under one quantifier with the part put into it
+unfoldable pub isSure : ℕ → List ℕ → List ℕ → Bool
+isSure d part rest = pick (ltb d (depthLeft part)) true (isGot (decode (depthLeft part - 1) pred rest))
 
 -- the marks of a predicate
 pub record RestMarking (rest ms : List ℕ) : Type 0 where

@@ -1,5 +1,6 @@
 -- `one_point::reduce::reduce_at` meets its contract. Assumes nothing.
 use native.Mathlib.Omega.{arith}
+use Rattle.one_point.proofs.PlaceLaws.{fresh-cleared}
 use Rattle.one_point.proofs.PointLaws.{fresh-reading}
 use borrow.Author.Needs.{needs}
 use Rattle.one_point.proofs.reduce.reduce_at.Statement.{statement}
@@ -11,8 +12,11 @@ use Rattle.one_point.proofs.reduce.reduce_in.Reads as reduce-in-reads
 slice-aggregate-reduce-in : tie.Need-slice-aggregate-reduce-in
 slice-aggregate-reduce-in c = search needs
 
+slice-aggregate-reduce-in-2 : tie.Need-slice-aggregate-reduce-in-2
+slice-aggregate-reduce-in-2 c = search needs
+
 reduce-in-requires : tie.Need-reduce-in-requires
-reduce-in-requires c κs = let b3 = c .before .before .before in let b8 = b3 .before .before .before .before .before in (b8 .pre .0, fresh-reading _ _ 2048 (b8 .pre .1) (b8 .pre .2) (let h = b3 .if1 .taken in omega arith))
+reduce-in-requires c κs = let b4 = c .before .before .before .before in let b9 = b4 .before .before .before .before .before in (b9 .pre .0, fresh-reading _ _ 2048 (b9 .pre .1) (b9 .pre .2) (let h = b4 .if1 .taken in omega arith), fresh-cleared _ 1024 (b4 .if1 .taken))
 
 same-length : tie.Need-same-length
 same-length c = search needs
@@ -23,11 +27,14 @@ same-length-2 c = search needs
 returns : tie.Need-returns
 returns c = search needs
 
-slice-aggregate-reduce-in-2 : tie.Need-slice-aggregate-reduce-in-2
-slice-aggregate-reduce-in-2 c = search needs
+slice-aggregate-reduce-in-3 : tie.Need-slice-aggregate-reduce-in-3
+slice-aggregate-reduce-in-3 c = search needs
+
+slice-aggregate-reduce-in-4 : tie.Need-slice-aggregate-reduce-in-4
+slice-aggregate-reduce-in-4 c = search needs
 
 reduce-in-requires-2 : tie.Need-reduce-in-requires-2
-reduce-in-requires-2 c κs = let b3 = c .before .before .before in let b9 = b3 .before .before .before .before .before .before in (b9 .pre .0, fresh-reading _ _ 8192 (b9 .pre .1) (b9 .pre .2) (let h = b3 .if2 .taken in omega arith))
+reduce-in-requires-2 c κs = let b4 = c .before .before .before .before in let b10 = b4 .before .before .before .before .before .before in (b10 .pre .0, fresh-reading _ _ 8192 (b10 .pre .1) (b10 .pre .2) (let h = b4 .if2 .taken in omega arith), fresh-cleared _ 4096 (b4 .if2 .taken))
 
 same-length-3 : tie.Need-same-length-3
 same-length-3 c = search needs
@@ -38,11 +45,14 @@ same-length-4 c = search needs
 returns-2 : tie.Need-returns-2
 returns-2 c = search needs
 
-slice-aggregate-reduce-in-3 : tie.Need-slice-aggregate-reduce-in-3
-slice-aggregate-reduce-in-3 c = search needs
+slice-aggregate-reduce-in-5 : tie.Need-slice-aggregate-reduce-in-5
+slice-aggregate-reduce-in-5 c = search needs
+
+slice-aggregate-reduce-in-6 : tie.Need-slice-aggregate-reduce-in-6
+slice-aggregate-reduce-in-6 c = search needs
 
 reduce-in-requires-3 : tie.Need-reduce-in-requires-3
-reduce-in-requires-3 c κs = let b9 = c .before .before .before .before .before .before .before .before .before in (b9 .pre .0, fresh-reading _ _ 16384 (b9 .pre .1) (b9 .pre .2) (let h = b9 .pre .0 .short in omega arith))
+reduce-in-requires-3 c κs = let b10 = c .before .before .before .before .before .before .before .before .before .before in (b10 .pre .0, fresh-reading _ _ 16384 (b10 .pre .1) (b10 .pre .2) (let h = b10 .pre .0 .short in omega arith), fresh-cleared _ 8192 (b10 .pre .0 .short))
 
 same-length-5 : tie.Need-same-length-5
 same-length-5 c = search needs
@@ -58,16 +68,19 @@ reduce-at-spec =
     tie.close
     (tie.spec
     slice-aggregate-reduce-in
+    slice-aggregate-reduce-in-2
     reduce-in-requires
     same-length
     same-length-2
     returns
-    slice-aggregate-reduce-in-2
+    slice-aggregate-reduce-in-3
+    slice-aggregate-reduce-in-4
     reduce-in-requires-2
     same-length-3
     same-length-4
     returns-2
-    slice-aggregate-reduce-in-3
+    slice-aggregate-reduce-in-5
+    slice-aggregate-reduce-in-6
     reduce-in-requires-3
     same-length-5
     same-length-6
