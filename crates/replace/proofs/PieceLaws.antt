@@ -3,7 +3,7 @@ use mathlib.Core.Path.{_≡_, refl, ap, sym, _∙_}
 use mathlib.Core.Bool.{Bool, true, false}
 use mathlib.Core.List.{List, [], _∷_}
 use Prim.Native.Nat.{ℕ, zero, suc, _+_, _-_, _≤_, _<_}
-use native.Mathlib.Nat.{add-zero}
+use native.Mathlib.Nat.{add-zero, le-refl}
 use native.Mathlib.Omega.{arith}
 use borrow.Author.Tests.{le-leb, lt-leb, leb-true, leb-false, eq-eqb, ne-eqb}
 use lib.Dec.{leb, ltb, eqb}
@@ -60,6 +60,14 @@ filled-next ws i n h = rw (here ws i h, filled-word (getD ws i 0)) (omega arith)
 pub filled-end : (ws : List ℕ) (i n : ℕ) → length ws ≤ i → n + filledWords (drop i ws) ≡ n
 unfolding filledWords
 filled-end ws i n h = rw (gone ws i h) (omega arith)
+
+-- how many are inside a slot, from the innermost outwards
+pub falls-none : (ws : List ℕ) → 0 ≡ filledWords (drop (length ws) ws)
+unfolding filledWords
+falls-none ws = rw (gone ws (length ws) (le-refl (length ws)))
+
+pub falls-next : (ws : List ℕ) (s : ℕ) → s < length ws → (g r : ℕ) → g ≡ filledWords (drop (s + 1) ws) → r ≡ filledWords (getD ws s 0 ∷ []) → g + r ≡ filledWords (drop s ws)
+falls-next ws s low g r e q = rw (e, q, here ws s low, filled-word (getD ws s 0) (drop (s + 1) ws)) (omega arith)
 
 -- the words of the table that the plan uses
 pub used-first : (p : Plan) → Tabled p → length (take (p .table .n) (p .table .words)) ≡ p .table .n
