@@ -5,7 +5,7 @@ use mathlib.Core.List.{List, [], _∷_}
 use Prim.Native.Nat.{ℕ, zero, suc, _+_, _-_, _≤_, _<_}
 use native.Mathlib.Nat.{add-zero, le-refl}
 use native.Mathlib.Omega.{arith}
-use borrow.Author.Tests.{le-leb, lt-leb, leb-true, leb-false, eq-eqb, ne-eqb}
+use borrow.Author.Tests.{le-leb, lt-leb, leb-true, leb-false, le-ltb, eq-eqb, ne-eqb}
 use lib.Dec.{leb, ltb, eqb}
 use lib.ListN.{length, getD, take, drop, length-append, length-drop}
 use lib.Seq.{length-take-le}
@@ -109,6 +109,12 @@ module _ (p : Plan) (P : Piece → Type 0) (same : P Same) (index : (v : ℕ) �
   piece-all (Ident k t v) =
       pick-all (p .fills) _ _ (pick-all (eqb t 2) _ _ (fill-all k v (ltb v (k - p .table .n)) (leb (p .table .n) (v - (k - p .table .n))) refl) same)
       (pick-all (eqb t 1) _ _ (free-all k (spot v (take (p .table .n) (p .table .words))) _ refl) same)
+
+-- a dangling index whose place is filled becomes the expression, lifted by the declarations that are left
+pub part-is : (p : Plan) (k v b u : ℕ) → b ≡ k - p .table .n → b ≤ v → v - b < p .table .n → (getD (p .table .words) (p .table .n - 1 - (v - b)) 0 ≡ 0 → ⊥) → u ≡ k - p .gone
+    → Part (getD (p .table .starts) (p .table .n - 1 - (v - b)) 0) (getD (p .table .ends) (p .table .n - 1 - (v - b)) 0) u (p .down) ≡ fillPiece p k v
+unfolding fillPiece placePiece
+part-is p k v b u e low few full g = rw (← e, le-ltb v b low, lt-leb (p .table .n) (v - b) few, ne-eqb _ 0 full, g)
 
 -- where a piece lies, and how many words it has
 pub piece-fits : (p : Plan) (n : ℕ) → InRow p n → (x : Item) → Fits (pieceOf p x) n
