@@ -47,9 +47,9 @@ fn answer_of(
     match call {
         1 => shift::shift::shift_bound_identifiers(row, by, out),
         2 => subst::bind::bind_idents(list, row, out),
-        3 => replace::free::substitute_free_idents(list, row, work, out),
-        4 => replace::fill::instantiate(list, row, work, out),
-        5 => replace::prune::remove_unused_decls(row, out),
+        3 => listed::free::substitute_free_idents(list, row, work, out),
+        4 => listed::fill::instantiate(list, row, work, out),
+        5 => prune::prune::remove_unused_decls(row, out),
         6 => one_point::one_point_inference::one_point_inference(row, work, out),
         7 => subst::dangling::dangling_bound_indices(row, out),
         _ => Answer::No(99),

@@ -24,7 +24,7 @@ use Rattle.replace.specs.Internal.Pieces.{part, headWords, areNames, downPlan, 
 use Rattle.replace.proofs.BuildLaws.{emit-sure}
 use Rattle.rules.proofs.OkLaws.{ok-deep}
 use Rattle.replace.proofs.QuantLaws.{Quant, quant-tag}
-use Rattle.replace.proofs.PruneTree.{names-kept, node-names, quantify-ok}
+use Rattle.replace.proofs.OkLaws.{names-kept, node-names, quantify-ok}
 use Rattle.replace.proofs.InsideLaws.{Small, SmallPlaces, small-append, quant-body, names-take, names-drop, partial-body}
 use Rattle.rules.specs.Partial.{noPlaces, setPlace, front, lowerPlace, joinWith, putRound, instantiatePartial}
 use Rattle.replace.specs.Internal.Partial.{joins, innerNames, partialHead, partialRow}

@@ -15,7 +15,7 @@ use Rattle.form.specs.declared.answer.Kind.the-variants.{Predicate}
 use Rattle.form.specs.declared.answer.Answer.the-variants.{Done}
 use Rattle.form.proofs.DecodeLaws.{clash, Ok, decode-encode}
 use Rattle.form.proofs.RowLaws.{row-one, found-row}
-use Rattle.replace.proofs.FillLaws.{pred-sort}
+use Rattle.replace.proofs.QuantLaws.{pred-sort}
 use Rattle.rules.specs.Point.{onePoint, ofResult, pointOutcome}
 use Rattle.one_point.proofs.ShapeLaws.{Shaped, shaped-decode, point-shaped}
 

@@ -27,7 +27,7 @@ use Rattle.rules.specs.Fill.{quantified}
 use Rattle.replace.specs.Internal.Pieces.{declaredIn, areNames}
 use Rattle.replace.proofs.BuildLaws.{rest-part}
 use Rattle.replace.proofs.QuantLaws.{not-quant, tag-node, tag-heading}
-use Rattle.replace.proofs.PruneTree.{node-names}
+use Rattle.replace.proofs.OkLaws.{node-names}
 use Rattle.rules.specs.Replacement.{Taken, taken, nothing}
 use Rattle.rules.specs.Scan.{Scan, scanned, scan}
 use Rattle.rules.specs.Point.{polarity, restOf, reduce, onePoint, ofResult, pointOutcome}

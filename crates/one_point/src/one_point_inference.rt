@@ -5,7 +5,7 @@ use form::answer::Kind;
 use form::answer::Limit;
 use form::head::Head;
 use form::head::pred_head;
-use replace::fill::declared;
+use replace::heads::declared;
 ghost use mathlib.Core.Path.{_≡_};
 ghost use lib.ListN.{length};
 ghost use Rattle.form.specs.Answer.{told, written};

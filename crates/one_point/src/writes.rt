@@ -1,5 +1,5 @@
 // Words written into the output row: parts copied, and nodes rebuilt from what is left of their children.
-use replace::places::put_words;
+use replace::tables::put_words;
 use tree::tag::Tag;
 ghost use mathlib.Core.Path.{_≡_};
 ghost use mathlib.Core.List.{List};

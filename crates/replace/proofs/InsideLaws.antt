@@ -29,7 +29,7 @@ use Rattle.replace.specs.Internal.Pieces.{areNames}
 use Rattle.rules.proofs.OkLaws.{ok-deep}
 use Rattle.replace.proofs.FillTree.{count-both, kept-reverse, lowPlace}
 use Rattle.replace.proofs.QuantLaws.{Quant, tag-heading}
-use Rattle.replace.proofs.PruneTree.{few-names, names-kept, node-names, quantify-ok}
+use Rattle.replace.proofs.OkLaws.{few-names, names-kept, node-names, quantify-ok}
 
 -- a walk whose expressions are at most m + 1 deep makes a tree at most m deeper, if each is so wherever a test holds at a depth that occurs
 module _ (K m : ℕ) (p : ℕ → Outer → Bool) (act : ℕ → Outer → Form) (ok-act : (k : ℕ) (x : Outer) → k ≤ K → p k x ≡ true → Ok (suc m) expr (act k x)) where

@@ -3,6 +3,7 @@ use mathlib.Core.Path.{_≡_, refl, ap, _∙_}
 use mathlib.Core.List.{List, [], _∷_, _++_, append-nil, map}
 use Prim.Native.Nat.{ℕ, zero, suc, _+_, _-_, _≤_, _<_}
 use native.Mathlib.Omega.{arith}
+use borrow.Author.Tests.{le-leb, lt-leb}
 use lib.ListN.{length, getD, take, drop, set, length-append, length-drop}
 use lib.Seq.{take-at, getD-drop}
 use Rattle.tree.specs.Form.{Form, encode}
@@ -11,7 +12,7 @@ use Rattle.form.proofs.HeadLaws.{here, gone}
 use Rattle.shift.specs.Internal.Items.{store}
 use Rattle.shift.proofs.ItemLaws.{store-append, store-front}
 use Rattle.rules.specs.Fill.{quantify, keptNames}
-use Rattle.replace.specs.Internal.Pieces.{keptWords, headWords}
+use Rattle.replace.specs.Internal.Pieces.{keptWords, headWords, keptHead}
 use Rattle.replace.proofs.FillTree.{wordFor}
 
 pub kept-yes : (w n : ℕ) → w ≡ 0 → keptWords (w ∷ []) (n ∷ []) ≡ n ∷ []
@@ -95,3 +96,23 @@ pub encode-quantify : (t : ℕ) (ks : List ℕ) (g : Form) → headWords t ks ++
 unfolding headWords encode
 encode-quantify t [] g = refl
 encode-quantify t (k ∷ ks) g = rw append-nil
+
+-- the head where there are few words, a name for each and room for it
+module _ (ws row : List ℕ) (room : ℕ) where
+  pub head-many : 32 < length ws → [] ≡ keptHead ws row room
+  unfolding keptHead
+  head-many h = rw (lt-leb (length ws) 32 h)
+
+  module _ (few : length ws ≤ 32) where
+    pub head-short : length row < 2 + length ws → [] ≡ keptHead ws row room
+    unfolding keptHead
+    head-short h = rw (le-leb (length ws) 32 few, lt-leb (2 + length ws) (length row) h)
+
+    module _ (named : 2 + length ws ≤ length row) where
+      pub head-tight : room < 2 + length ws → [] ≡ keptHead ws row room
+      unfolding keptHead
+      head-tight h = rw (le-leb (length ws) 32 few, le-leb (2 + length ws) (length row) named, lt-leb (2 + length ws) room h)
+
+      pub head-kept : 2 + length ws ≤ room → headWords (getD row 0 0) (keptWords ws (drop 2 row)) ≡ keptHead ws row room
+      unfolding keptHead
+      head-kept h = rw (le-leb (length ws) 32 few, le-leb (2 + length ws) (length row) named, le-leb (2 + length ws) room h)

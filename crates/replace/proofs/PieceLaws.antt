@@ -3,9 +3,9 @@ use mathlib.Core.Path.{_≡_, refl, ap, sym, _∙_}
 use mathlib.Core.Bool.{Bool, true, false}
 use mathlib.Core.List.{List, [], _∷_}
 use Prim.Native.Nat.{ℕ, zero, suc, _+_, _-_, _≤_, _<_}
-use native.Mathlib.Nat.{add-zero}
+use native.Mathlib.Nat.{add-zero, le-refl}
 use native.Mathlib.Omega.{arith}
-use borrow.Author.Tests.{le-leb, lt-leb, leb-true, leb-false, eq-eqb, ne-eqb}
+use borrow.Author.Tests.{le-leb, lt-leb, leb-true, leb-false, le-ltb, eq-eqb, ne-eqb}
 use lib.Dec.{leb, ltb, eqb}
 use lib.ListN.{length, getD, take, drop, length-append, length-drop}
 use lib.Seq.{length-take-le}
@@ -61,6 +61,14 @@ pub filled-end : (ws : List ℕ) (i n : ℕ) → length ws ≤ i → n + filledW
 unfolding filledWords
 filled-end ws i n h = rw (gone ws i h) (omega arith)
 
+-- how many are inside a slot, from the innermost outwards
+pub falls-none : (ws : List ℕ) → 0 ≡ filledWords (drop (length ws) ws)
+unfolding filledWords
+falls-none ws = rw (gone ws (length ws) (le-refl (length ws)))
+
+pub falls-next : (ws : List ℕ) (s : ℕ) → s < length ws → (g r : ℕ) → g ≡ filledWords (drop (s + 1) ws) → r ≡ filledWords (getD ws s 0 ∷ []) → g + r ≡ filledWords (drop s ws)
+falls-next ws s low g r e q = rw (e, q, here ws s low, filled-word (getD ws s 0) (drop (s + 1) ws)) (omega arith)
+
 -- the words of the table that the plan uses
 pub used-first : (p : Plan) → Tabled p → length (take (p .table .n) (p .table .words)) ≡ p .table .n
 used-first p h =
@@ -101,6 +109,12 @@ module _ (p : Plan) (P : Piece → Type 0) (same : P Same) (index : (v : ℕ) �
   piece-all (Ident k t v) =
       pick-all (p .fills) _ _ (pick-all (eqb t 2) _ _ (fill-all k v (ltb v (k - p .table .n)) (leb (p .table .n) (v - (k - p .table .n))) refl) same)
       (pick-all (eqb t 1) _ _ (free-all k (spot v (take (p .table .n) (p .table .words))) _ refl) same)
+
+-- a dangling index whose place is filled becomes the expression, lifted by the declarations that are left
+pub part-is : (p : Plan) (k v b u : ℕ) → b ≡ k - p .table .n → b ≤ v → v - b < p .table .n → (getD (p .table .words) (p .table .n - 1 - (v - b)) 0 ≡ 0 → ⊥) → u ≡ k - p .gone
+    → Part (getD (p .table .starts) (p .table .n - 1 - (v - b)) 0) (getD (p .table .ends) (p .table .n - 1 - (v - b)) 0) u (p .down) ≡ fillPiece p k v
+unfolding fillPiece placePiece
+part-is p k v b u e low few full g = rw (← e, le-ltb v b low, lt-leb (p .table .n) (v - b) few, ne-eqb _ 0 full, g)
 
 -- where a piece lies, and how many words it has
 pub piece-fits : (p : Plan) (n : ℕ) → InRow p n → (x : Item) → Fits (pieceOf p x) n

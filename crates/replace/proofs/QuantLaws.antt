@@ -10,14 +10,16 @@ use lib.Dec.{leb, eqb, ltb}
 use lib.ListN.{length, getD, take, drop, replicate, length-append, take-append-drop}
 use lib.Seq.{drop-at}
 use Rattle.tree.specs.Form.{free, bound, Form, leaf, node, Forms, none, more, pick, between, encode, encodeAll}
-use Rattle.tree.specs.Tag.{pred, ask, kids, own, ownOf, shapeOf, predTags, sorts}
-use Rattle.form.specs.Decode.{Head, head, bad, addWord, addName, only, names, read, isLeaf}
+use Rattle.tree.specs.Tag.{Sort, pred, ask, kids, own, ownOf, shapeOf, predTags, sorts}
+use Rattle.form.specs.Decode.{Head, head, bad, addWord, addName, only, names, read, isLeaf, Whole, one, not-one, rowForm, found, asSort, formOf}
+use Rattle.form.specs.declared.answer.Kind.the-variants.{Predicate}
 use Rattle.reader.specs.Internal.Reads.{mark}
 use Rattle.form.proofs.DecodeLaws.{clash, Ok, ok-node, OkAll, ok-none, ok-more}
 use Rattle.shift.specs.Internal.Items.{items, apart}
 use Rattle.rules.proofs.WalkLaws.{and-left, and-right}
 use Rattle.shift.proofs.RowLaws.{itemsOf, marksOf, zeros, zeros-length, items-encode, only-mark}
 use Rattle.shift.proofs.WordwiseLaws.{apart-encode}
+use Rattle.shift.proofs.CheckedLaws.{Checked}
 use Rattle.rules.specs.Fill.{quantifier, other, quantified}
 use Rattle.replace.specs.Internal.Pieces.{declaredIn}
 
@@ -238,3 +240,32 @@ module _ (f : Form) (y : Quant f) where
 
   pub quant-items : (n : ℕ) (m : List ℕ) → n ≡ length (y .decls) → take (length (encode f)) m ≡ mark f 0 0 (replicate (length (encode f)) 0) → items (drop (2 + n) (encode f)) (drop (2 + n) m) ≡ itemsOf n (y .body)
   quant-items n m e k = rw (← marks-front m k) (rw add-zero at (quant-items-in n 0 (drop (length (encode f)) m) e))
+
+-- the row's form
+pub pred-sort : (row : List ℕ) (s : Sort) (f : Form) → formOf Predicate row ≡ found s f → s ≡ pred
+unfolding formOf
+pred-sort row s f e = go (rowForm pred row) e
+  where
+    go : (w : Whole) → asSort pred w ≡ found s f → s ≡ pred
+    go (one g) e = cc
+    go not-one e = absurd (clash cc)
+
+module _ (row m : List ℕ) (k : ℕ) (x : Checked Predicate row m k) where
+  pub form-ok : Ok 64 pred (x .form)
+  form-ok = rw (pred-sort row (x .sort) (x .form) (x .is-found)) at (x .ok)
+
+  pub no-quant : (n : ℕ) → n ≡ declaredIn row → n ≡ 0 → quantified (x .form) ≡ other
+  no-quant n e z = not-quant form-ok (ap declaredIn (sym (x .words)) ∙ (sym e ∙ z))
+
+  pub the-quant : (n : ℕ) → n ≡ declaredIn row → (n ≡ 0 → ⊥) → Quant (x .form)
+  the-quant n e z = let h : declaredIn (encode (x .form)) ≡ n = ap declaredIn (sym (x .words)) ∙ sym e in is-quant form-ok (pos n h z)
+    where
+      pos : (n : ℕ) → declaredIn (encode (x .form)) ≡ n → (n ≡ 0 → ⊥) → 0 < declaredIn (encode (x .form))
+      pos zero h z = absurd (z refl)
+      pos (suc n) h z = omega arith
+
+  pub the-count : (n : ℕ) → n ≡ declaredIn row → (q : Quant (x .form)) → n ≡ length (q .decls)
+  the-count n e q = e ∙ (ap declaredIn (x .words) ∙ quant-count (x .form) q)
+
+  pub the-length : (q : Quant (x .form)) → 2 + length (q .decls) ≤ length row
+  the-length q = rw (x .words) (quant-long (x .form) q)

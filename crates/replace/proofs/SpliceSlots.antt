@@ -3,22 +3,25 @@ use mathlib.Core.Path.{_≡_, refl, ap, sym, _∙_}
 use mathlib.Core.Bool.{Bool, true, false, not, _&&_}
 use mathlib.Core.List.{List, [], _∷_}
 use Prim.Native.Nat.{ℕ, zero, suc, _+_, _-_, _%_, _≤_, _<_}
+use native.Mathlib.Nat.{le-refl}
 use native.Mathlib.Omega.{arith}
-use borrow.Author.Tests.{eqb-true, eqb-false, eq-eqb, ne-eqb, leb-true, leb-false, le-leb}
+use borrow.Author.Tests.{eqb-true, eqb-false, ne-eqb, leb-true, leb-false}
 use lib.Dec.{leb, ltb, eqb}
 use lib.ListN.{length, getD, take, drop, set, replicate}
 use lib.Seq.{getD-take, getD-set-same, getD-set-other}
 use Rattle.tree.specs.Form.{pick}
 use Rattle.form.proofs.DecodeLaws.{clash}
-use Rattle.form.proofs.HeadLaws.{here}
-use Rattle.shift.specs.Internal.Items.{wordItem}
+use Rattle.shift.specs.Internal.Items.{wordItem, slotOf, slotFor, store}
+use Rattle.shift.proofs.SlotLaws.{slot-is, slot-most}
+use Rattle.shift.proofs.WordwiseLaws.{mark-over, apart-on}
 use Rattle.shift.specs.declared.items.Item.the-variants.{Plain, Ident}
-use Rattle.replace.specs.Internal.Pieces.{spot, filledWords, freePiece, placePiece, fillPiece, pieceOf, planFor, Tabled, slotOf}
-use Rattle.replace.specs.Internal.Splice.{Becomes, Slots, Keys, keyOf, nameSpot}
+use Rattle.replace.specs.Internal.Pieces.{pieceWords, spot, filledWords, freePiece, placePiece, fillPiece, pieceOf, planFor, Tabled}
+use Rattle.replace.specs.Internal.Splice.{Becomes, Slots, Keys, keyOf, nameSpot, Filling, Freeing}
 use Rattle.replace.specs.declared.pieces.Piece.{Piece}
 use Rattle.replace.specs.declared.pieces.Piece.the-variants.{Same, Index, Part}
 use Rattle.replace.specs.declared.pieces.Rule.{Rule}
 use Rattle.replace.proofs.PieceLaws.{used-first}
+use Rattle.replace.proofs.SpliceLaws.{Storing, is-marked, word-room, word-next, part-inside, part-room, part-next}
 
 pub zeros-at : (n i : ℕ) → _≡_ {A = ℕ} (getD (replicate n 0) i 0) 0
 zeros-at zero i = refl
@@ -102,13 +105,13 @@ module _ (rule : Rule) (words starts ends : List ℕ) (is-fill : rule .fills ≡
         let h : s - 1 ≡ i = omega arith in
         (rw h refl, omega arith, omega arith)
 
-  pub fill-word : (m t v s y : ℕ) → s ≡ slotOf (rule .n) (rule .n + 1) (wordItem m t v) → getD cuts s 0 ≡ 0 → y ≡ v - getD falls s 0 → Becomes (pieceOf (planFor rule words starts ends) (wordItem m t v)) v y
+  fill-word : (m t v s y : ℕ) → s ≡ slotOf (rule .n) (rule .n + 1) (wordItem m t v) → getD cuts s 0 ≡ 0 → y ≡ v - getD falls s 0 → Becomes (pieceOf (planFor rule words starts ends) (wordItem m t v)) v y
   unfolding wordItem slotOf pieceOf
   fill-word zero t v s y e z q = stays v y _ q (rw e other-fall)
   fill-word (suc k) t v s y e z q =
       rw (piece-found k t v) (word-by k t v (eqb t 2) (ltb v (k - rule .n)) (leb (rule .n) (j k t v)) (eqb (getD words (i k t v) 0) 0) refl refl y (rw e at z) (rw e at q))
 
-  pub fill-part : (m t v s : ℕ) → s ≡ slotOf (rule .n) (rule .n + 1) (wordItem m t v) → (getD cuts s 0 ≡ 0 → ⊥)
+  fill-part : (m t v s : ℕ) → s ≡ slotOf (rule .n) (rule .n + 1) (wordItem m t v) → (getD cuts s 0 ≡ 0 → ⊥)
       → (pieceOf (planFor rule words starts ends) (wordItem m t v) ≡ Part (getD starts (s - 1) 0) (getD ends (s - 1) 0) (m - 1 - rule .gone) (rule .down)) × (0 < s) × (s ≤ rule .n) × (0 < m)
   unfolding wordItem slotOf
   fill-part zero t v s e z = absurd (z (rw e other-cut))
@@ -116,6 +119,61 @@ module _ (rule : Rule) (words starts ends : List ℕ) (is-fill : rule .fills ≡
       let (a, b, c) = part-by k t v (eqb t 2) (ltb v (k - rule .n)) (leb (rule .n) (j k t v)) (eqb (getD words (i k t v) 0) 0) refl refl s e z in
       let h : suc k - 1 ≡ k = omega arith in
       (rw h (piece-found k t v ∙ a), b, c, omega arith)
+
+-- the loop that fills places, at a word whose slot is s
+module _ {rule : Rule} {words starts ends cuts falls list lm row marks : List ℕ} {start at : ℕ} {out₀ : List ℕ} (f : Filling rule words starts ends cuts falls list lm row marks start at (length out₀))
+    {out : List ℕ} {i q x s : ℕ} (st : Storing (planFor rule words starts ends) list lm row marks start at out₀ out i q x) (low : i + 1 < length row)
+    (e : s ≡ slotFor (rule .n) (rule .n + 1) (getD marks i 0) (getD row i 0) (getD row (i + 1) 0)) where
+  pub slot-low : s < 34
+  slot-low =
+      let m = f .splices .ready .tabled .few in
+      let l = slot-most (rule .n) (rule .n + 1) (rule .n + 1) (getD marks i 0) (getD row i 0) (getD row (i + 1) 0) s (omega arith) (le-refl (rule .n + 1)) e in
+      omega arith
+
+  slot-item : s ≡ slotOf (rule .n) (rule .n + 1) (wordItem (getD marks i 0) (getD row i 0) (getD row (i + 1) 0))
+  slot-item =
+      slot-is (rule .n) (rule .n + 1) (getD marks i 0) (getD row i 0) (getD row (i + 1) 0) s
+      (mark-over (rule .n) i row marks (apart-on (rule .n) row marks start i (st .on) (f .splices .apart-on)) low (is-marked (f .splices) st low)) e
+
+  module _ (z : getD cuts s 0 ≡ 0) where
+    becomes : (v : ℕ) → v ≡ getD row (i + 1) 0 - getD falls s 0 → Becomes (pieceOf (planFor rule words starts ends) (wordItem (getD marks i 0) (getD row i 0) (getD row (i + 1) 0))) (getD row (i + 1) 0) v
+    becomes v g = fill-word rule words starts ends (f .is-fill) (f .splices .ready .tabled) cuts falls (f .slots) (getD marks i 0) (getD row i 0) (getD row (i + 1) 0) s v slot-item z g
+
+    pub fill-room : q < length out
+    fill-room = word-room (f .splices) st low _ (becomes _ refl)
+
+    pub fill-next : (v : ℕ) → v ≡ getD row (i + 1) 0 - getD falls s 0 → Storing (planFor rule words starts ends) list lm row marks start at out₀ (set out q x) (i + 1) (q + 1) v
+    fill-next v g = word-next (f .splices) st low v (becomes v g)
+
+  module _ (z : getD cuts s 0 ≡ 0 → ⊥) where
+    place : (pieceOf (planFor rule words starts ends) (wordItem (getD marks i 0) (getD row i 0) (getD row (i + 1) 0)) ≡ Part (getD starts (s - 1) 0) (getD ends (s - 1) 0) (getD marks i 0 - 1 - rule .gone) (rule .down))
+        × (0 < s) × (s ≤ rule .n) × (0 < getD marks i 0)
+    place = fill-part rule words starts ends (f .is-fill) (f .splices .ready .tabled) cuts falls (f .slots) (getD marks i 0) (getD row i 0) (getD row (i + 1) 0) s slot-item z
+
+    pub place-slot : (0 < s) × (s - 1 < length starts) × (s - 1 < length ends) × (s - 1 < 32)
+    place-slot =
+        let t = f .splices .ready .tabled in
+        let a = place .1 in
+        let b = place .2 in
+        let m = t .few in
+        let g = t .starts in
+        let h = t .ends in
+        (a, omega arith, omega arith, omega arith)
+
+    pub place-mark : 0 < getD marks i 0
+    place-mark = place .3
+
+    pub place-inside : (getD starts (s - 1) 0 ≤ getD ends (s - 1) 0) × (getD ends (s - 1) 0 ≤ length list)
+    place-inside = part-inside (f .splices) st low _ _ _ _ (place .0)
+
+    pub place-room : q + (getD ends (s - 1) 0 - getD starts (s - 1) 0) ≤ length out
+    place-room = part-room (f .splices) st low _ _ _ _ (place .0)
+
+    pub place-next : (u : ℕ) → u ≡ getD marks i 0 - 1 - rule .gone → (out′ : List ℕ) → out′ ≡ store out q (pieceWords list lm (Part (getD starts (s - 1) 0) (getD ends (s - 1) 0) u (rule .down)) (Plain 0)) → length out′ ≡ length out
+        → (v : ℕ) → v ≡ getD row (i + 2) 0 → Storing (planFor rule words starts ends) list lm row marks start at out₀ out′ (i + 2) (q + (getD ends (s - 1) 0 - getD starts (s - 1) 0)) v
+    place-next u g out′ w k v h =
+        part-next (f .splices) st low (getD starts (s - 1) 0) (getD ends (s - 1) 0) u (rule .down)
+        (place .0 ∙ ap (λ z. Part (getD starts (s - 1) 0) (getD ends (s - 1) 0) z (rule .down)) (sym g)) out′ w k v h
 
 -- a name that no key has is not listed
 not-listed : (ws keys : List ℕ) (v : ℕ) → ((i : ℕ) → i < length ws → getD keys (getD ws i 0 % 64) 0 ≡ 1) → getD keys (v % 64) 0 ≡ 0 → spot v ws ≡ length ws
@@ -188,7 +246,7 @@ module _ (rule : Rule) (words starts ends : List ℕ) (is-free : rule .fills ≡
   name-test k true = rw (ne-eqb (suc k) 0 (λ z. omega arith))
   name-test k false = refl
 
-  pub free-word : (m t v b : ℕ) → b ≡ nameSpot (take (rule .n) words) m t v → rule .n ≤ b → Becomes (pieceOf (planFor rule words starts ends) (wordItem m t v)) v v
+  free-word : (m t v b : ℕ) → b ≡ nameSpot (take (rule .n) words) m t v → rule .n ≤ b → Becomes (pieceOf (planFor rule words starts ends) (wordItem m t v)) v v
   unfolding wordItem nameSpot pieceOf
   free-word zero t v b e l = refl
   free-word (suc k) t v b e l =
@@ -200,7 +258,7 @@ module _ (rule : Rule) (words starts ends : List ℕ) (is-free : rule .fills ≡
   entry-by true false s e k n i r q h l = rw h
   entry-by false c s e k n i r q h l = absurd (omega arith)
 
-  pub free-part : (m t v b : ℕ) → b ≡ nameSpot (take (rule .n) words) m t v → b < rule .n
+  free-part : (m t v b : ℕ) → b ≡ nameSpot (take (rule .n) words) m t v → b < rule .n
       → (pieceOf (planFor rule words starts ends) (wordItem m t v) ≡ Part (getD starts b 0) (getD ends b 0) (m - 1) (rule .down)) × (0 < m)
   unfolding wordItem nameSpot
   free-part zero t v b e l =
@@ -216,3 +274,34 @@ module _ (rule : Rule) (words starts ends : List ℕ) (is-free : rule .fills ≡
         rw z (free-found k t v ∙ entry-by (eqb t 1) (leb (rule .n) (spot v (take (rule .n) words))) (λ x. getD starts x 0) (λ x. getD ends x 0) k (rule .n) (spot v (take (rule .n) words)) b refl h l),
         omega arith,
       )
+
+-- the loop that replaces names, at a word that stands at b in the list
+module _ {rule : Rule} {words starts ends keys list lm row marks : List ℕ} {start at : ℕ} {out₀ : List ℕ} (f : Freeing rule words starts ends keys list lm row marks start at (length out₀))
+    {out : List ℕ} {i q b : ℕ} (st : Storing (planFor rule words starts ends) list lm row marks start at out₀ out i q (getD row i 0)) (low : i + 1 < length row)
+    (e : b ≡ nameSpot (take (rule .n) words) (getD marks i 0) (getD row i 0) (getD row (i + 1) 0)) where
+  module _ (z : rule .n ≤ b) where
+    stays-word : Becomes (pieceOf (planFor rule words starts ends) (wordItem (getD marks i 0) (getD row i 0) (getD row (i + 1) 0))) (getD row (i + 1) 0) (getD row (i + 1) 0)
+    stays-word = free-word rule words starts ends (f .is-free) (f .splices .ready .tabled) (getD marks i 0) (getD row i 0) (getD row (i + 1) 0) b e z
+
+    pub free-room : q < length out
+    free-room = word-room (f .splices) st low _ stays-word
+
+    pub free-next : Storing (planFor rule words starts ends) list lm row marks start at out₀ (set out q (getD row i 0)) (i + 1) (q + 1) (getD row (i + 1) 0)
+    free-next = word-next (f .splices) st low _ stays-word
+
+  module _ (z : b < rule .n) where
+    listed : (pieceOf (planFor rule words starts ends) (wordItem (getD marks i 0) (getD row i 0) (getD row (i + 1) 0)) ≡ Part (getD starts b 0) (getD ends b 0) (getD marks i 0 - 1) (rule .down)) × (0 < getD marks i 0)
+    listed = free-part rule words starts ends (f .is-free) (f .splices .ready .tabled) (getD marks i 0) (getD row i 0) (getD row (i + 1) 0) b e z
+
+    pub entry-mark : 0 < getD marks i 0
+    entry-mark = listed .1
+
+    pub entry-inside : (getD starts b 0 ≤ getD ends b 0) × (getD ends b 0 ≤ length list)
+    entry-inside = part-inside (f .splices) st low _ _ _ _ (listed .0)
+
+    pub entry-room : q + (getD ends b 0 - getD starts b 0) ≤ length out
+    entry-room = part-room (f .splices) st low _ _ _ _ (listed .0)
+
+    pub entry-next : (out′ : List ℕ) → out′ ≡ store out q (pieceWords list lm (Part (getD starts b 0) (getD ends b 0) (getD marks i 0 - 1) (rule .down)) (Plain 0)) → length out′ ≡ length out
+        → Storing (planFor rule words starts ends) list lm row marks start at out₀ out′ (i + 2) (q + (getD ends b 0 - getD starts b 0)) (getD row (i + 2) 0)
+    entry-next out′ w k = part-next (f .splices) st low _ _ _ _ (listed .0) out′ w k _ refl

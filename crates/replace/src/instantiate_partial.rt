@@ -1,8 +1,8 @@
 // A body filled under the declarations in front and those that stay, joined with its own quantifier where only a front stands and the operator
 // is the same.
 use crate::emit::copy;
-use crate::places::fill_places;
 use crate::splice::word_at;
+use crate::tables::fill_places;
 use form::answer::Answer;
 ghost use mathlib.Core.Path.{_≡_};
 ghost use mathlib.Core.Bool.{_&&_};

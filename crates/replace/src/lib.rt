@@ -1,14 +1,10 @@
-// Replacements that change a form's length: free substitution, filling of declarations, pruning.
+// Replacements that change a form's length: what a plan puts for its words, and the places of a table filled under a head.
 mod build;
 mod emit;
-pub mod fill;
-pub mod free;
+pub mod heads;
 pub mod instantiate_partial;
 mod length;
-mod marks;
-mod pieces;
-pub mod places;
-pub mod prune;
-mod slots;
+pub mod pieces;
 pub mod small;
 mod splice;
+pub mod tables;

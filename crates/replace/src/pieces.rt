@@ -59,7 +59,7 @@ pub(crate) fn index_of(names: &[u32], m: u32) -> usize
     i
 }
 
-pub(crate) fn one_if(w: u32) -> u32
+pub fn one_if(w: u32) -> u32
     ensures { λ r. ⌜ r ≡ filledWords (w ∷ []) ⌝ }
 {
     if w == 0 {

@@ -89,7 +89,7 @@ pub fn depth_left(row: &[u32]) -> u32
 }
 
 // How deep a form may be that is sure to stay one when the first n parts of the list are put into it; 0 where none is.
-pub(crate) fn depth_left_by(starts: &[usize; 32], ends: &[usize; 32], n: usize, list: &[u32]) -> u32
+pub fn depth_left_by(starts: &[usize; 32], ends: &[usize; 32], n: usize, list: &[u32]) -> u32
     ensures { λ r. ⌜ r ≡ depthLeftBy (now (starts .entry)) (now (ends .entry)) n (now (list .entry)) ⌝ }
 {
     if Table::LIMIT < n {

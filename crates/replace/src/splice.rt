@@ -7,18 +7,18 @@ use crate::pieces::less;
 use crate::pieces::one_if;
 use crate::pieces::write_piece;
 use crate::pieces::write_pieces;
-use crate::slots::slot_of;
 use shift::items::Item;
+use shift::slots::slot_of;
 use tree::tag::Tag;
 ghost use mathlib.Core.Path.{_≡_};
 ghost use mathlib.Core.Bool.{true, false, _&&_};
 ghost use Prim.Native.Nat.{_+_, _-_, _≤_};
 ghost use lib.Dec.{leb, ltb};
-ghost use lib.ListN.{length, getD, take, drop, set, replicate};
+ghost use lib.ListN.{length, getD, drop, set, replicate};
 ghost use Rattle.tree.specs.Form.{pick};
-ghost use Rattle.shift.specs.Internal.Items.{items, rewritten, store};
+ghost use Rattle.shift.specs.Internal.Items.{items, rewritten, apart, store};
 ghost use Rattle.replace.specs.Internal.Pieces.{planned, sizes, planFor, Ready};
-ghost use Rattle.replace.specs.Internal.Splice.{pairOk, pairs, Slots, Keys, keyOf, nameSpot, Splicing};
+ghost use Rattle.replace.specs.Internal.Splice.{pairOk, Slots, Keys, keyOf, nameSpot, Filling, Freeing};
 
 // Whether a mark and the one after it can be those of a form under more than lo declarations.
 fn pair_ok(lo: u32, m: u32, k: u32) -> bool
@@ -49,7 +49,7 @@ pub(crate) fn word_at(row: &[u32], at: usize) -> u32
 
 // Whether the marks from `from` on, where words are, stand apart as far as the row goes, and are over lo: one pass that takes several words at a time.
 fn are_apart(lo: u32, row: &[u32], marks: &[u32], from: usize) -> bool
-    ensures { λ r. ⌜ r ≡ (ltb from (length (now (row .entry))) && (leb (length (now (row .entry))) (length (now (marks .entry))) && pairs lo (drop from (now (row .entry))) (drop from (now (marks .entry))))) ⌝ }
+    ensures { λ r. ⌜ r ≡ (ltb from (length (now (row .entry))) && (leb (length (now (row .entry))) (length (now (marks .entry))) && apart lo (drop from (now (row .entry))) (drop from (now (marks .entry))))) ⌝ }
 {
     if row.len() <= from {
         return false;
@@ -98,7 +98,7 @@ fn write_filled(
     out: &mut [u32],
     at: usize,
 ) -> usize
-    requires { ⌜ Splicing (rule .n) (planFor rule (now words) (now starts) (now ends)) (now list) (now «list_marks») (now row) (now marks) from at (length (now out)) × (rule .fills ≡ true) × Slots (take (rule .n) (now words)) (rule .gone) (now cuts) (now falls) × (length (now cuts) ≡ 34) × (length (now falls) ≡ 34) ⌝ }
+    requires { ⌜ Filling rule (now words) (now starts) (now ends) (now cuts) (now falls) (now list) (now «list_marks») (now row) (now marks) from at (length (now out)) ⌝ }
     ensures { λ r. ⌜ r ≡ at + sizes (planFor rule (now (words .entry)) (now (starts .entry)) (now (ends .entry))) (items (drop from (now (row .entry))) (drop from (now (marks .entry)))) ⌝ }
     ensures { λ _. ⌜ now (out .exit) ≡ store (now (out .entry)) at (rewritten (planned (planFor rule (now (words .entry)) (now (starts .entry)) (now (ends .entry))) (now (list .entry)) (now («list_marks» .entry))) (items (drop from (now (row .entry))) (drop from (now (marks .entry))))) ⌝ }
 {
@@ -197,7 +197,7 @@ fn write_freed(
     out: &mut [u32],
     at: usize,
 ) -> usize
-    requires { ⌜ Splicing 0 (planFor rule (now words) (now starts) (now ends)) (now list) (now «list_marks») (now row) (now marks) from at (length (now out)) × (rule .fills ≡ false) × Keys (take (rule .n) (now words)) (now keys) × (length (now keys) ≡ 65) ⌝ }
+    requires { ⌜ Freeing rule (now words) (now starts) (now ends) (now keys) (now list) (now «list_marks») (now row) (now marks) from at (length (now out)) ⌝ }
     ensures { λ r. ⌜ r ≡ at + sizes (planFor rule (now (words .entry)) (now (starts .entry)) (now (ends .entry))) (items (drop from (now (row .entry))) (drop from (now (marks .entry)))) ⌝ }
     ensures { λ _. ⌜ now (out .exit) ≡ store (now (out .entry)) at (rewritten (planned (planFor rule (now (words .entry)) (now (starts .entry)) (now (ends .entry))) (now (list .entry)) (now («list_marks» .entry))) (items (drop from (now (row .entry))) (drop from (now (marks .entry))))) ⌝ }
 {

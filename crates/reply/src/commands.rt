@@ -87,10 +87,10 @@ pub(crate) fn run_command(
 {
     match head {
         Head::Shift => shift::shift::shift_bound_identifiers(row, offset, result),
-        Head::Free => replace::free::substitute_free_idents(list, row, work, result),
+        Head::Free => listed::free::substitute_free_idents(list, row, work, result),
         Head::Bind => subst::bind::bind_idents(list, row, result),
-        Head::Fill => replace::fill::instantiate(list, row, work, result),
-        Head::Prune => replace::prune::remove_unused_decls(row, result),
+        Head::Fill => listed::fill::instantiate(list, row, work, result),
+        Head::Prune => prune::prune::remove_unused_decls(row, result),
         Head::Point => one_point::one_point_inference::one_point_inference(row, work, result),
         Head::Member => member::rewrite_in_compset::rewrite_in_compset(row, work, result),
     }

@@ -5,3 +5,4 @@ pub mod SameLengthLaws
 pub mod SignedLaws
 pub mod WordwiseLaws
 pub mod ShiftLaws
+pub mod SlotLaws

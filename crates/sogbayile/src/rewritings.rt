@@ -2,11 +2,11 @@
 use crate::code::code_of;
 use crate::code::part_code;
 use form::answer::Limit;
+use listed::fill::instantiate;
+use listed::free::substitute_free_idents;
 use member::rewrite_in_compset::rewrite_in_compset;
 use one_point::one_point_inference::one_point_inference;
-use replace::fill::instantiate;
-use replace::free::substitute_free_idents;
-use replace::prune::remove_unused_decls;
+use prune::prune::remove_unused_decls;
 use shift::shift::shift_bound_identifiers;
 use subst::bind::bind_idents;
 use subst::dangling::dangling_bound_indices;

@@ -5,25 +5,22 @@ use mathlib.Core.Bool.{Bool, true, false, not, _&&_}
 use mathlib.Core.List.{List, [], _∷_, _++_}
 use Prim.Native.Nat.{ℕ, zero, suc, _+_, _-_, _*_, _/_, _≤_, _<_, max}
 use lib.Dec.{leb, ltb, eqb}
-use lib.ListN.{length, getD, take, drop, replicate}
+use lib.ListN.{length, getD, take, drop}
 use Rattle.tree.specs.Form.{pick, between}
-use Rattle.tree.specs.Tag.{expr, pred}
-use Rattle.form.specs.Decode.{decode, whole, Found, found, missing, asSort, formOf}
+use Rattle.tree.specs.Tag.{expr}
+use Rattle.form.specs.Decode.{decode, whole, Found, found, missing, formOf}
 use Rattle.form.specs.Answer.{Outcome, answer, needs, isOne}
-use Rattle.reader.specs.Internal.Reads.{asExpr}
 pub use Rattle.reader.specs.Internal.Reads.{tableOf}
 use Rattle.form.specs.declared.answer.Kind.{Kind}
-use Rattle.form.specs.declared.answer.Kind.the-variants.{Expression, Predicate}
+use Rattle.form.specs.declared.answer.Kind.the-variants.{Predicate}
 use Rattle.reader.specs.declared.lists.Table.{Table}
-use Rattle.shift.specs.Internal.Items.{items, sizeOf, wordsOf, rewritten, allItems, allBelow, movedWords}
+use Rattle.shift.specs.Internal.Items.{items, sizeOf, wordsOf, rewritten, allBelow, movedWords}
 use Rattle.shift.specs.declared.items.Item.{Item}
 use Rattle.shift.specs.declared.items.Item.the-variants.{Plain, Ident}
 use Rattle.replace.specs.declared.pieces.Piece.{Piece}
 use Rattle.replace.specs.declared.pieces.Piece.the-variants.{Same, Index, Part}
 use Rattle.replace.specs.declared.pieces.Plan.{Plan}
 use Rattle.replace.specs.declared.pieces.Rule.{Rule}
-use Rattle.replace.specs.declared.marks.Reading.{Reading}
-use Rattle.replace.specs.declared.marks.Reading.the-variants.{Taken, Refused}
 
 -- the words from s up to e
 unfoldable pub part : ℕ → ℕ → List ℕ → List ℕ
@@ -139,15 +136,6 @@ shortWords ws room = needs 7 (leb (length ws) 8192) (fitted ws room)
 unfoldable pub emitted : Bool → Kind → List ℕ → ℕ → Outcome
 emitted sure kind ws room = needs 7 (pick sure (leb (length ws) 8192) (isFound (formOf kind ws))) (fitted ws room)
 
--- a row as a form at most d deep, and how it was read: whether so, or only as any form
-unfoldable pub shallowForm : ℕ → Kind → List ℕ → Found
-shallowForm d kind row = let s = pick (asExpr kind row) expr pred in asSort s (whole (decode d s row))
-
-abbrev pub readingOf : Found → Found → Reading
-readingOf (found s f) o = Taken true
-readingOf missing (found s f) = Taken false
-readingOf missing missing = Refused
-
 -- exactly one expression at most d deep; the words from s up to e, where there are any
 unfoldable pub deepPart : ℕ → List ℕ → Bool
 deepPart d ws = isOne (whole (decode d expr ws))
@@ -190,11 +178,6 @@ replacedWords head p list lm row marks = head ++ rewritten (planned p list lm) (
 unfoldable pub replaced : Bool → Kind → List ℕ → Plan → List ℕ → List ℕ → List ℕ → List ℕ → ℕ → Outcome
 replaced sure kind head p list lm row marks room = emitted sure kind (replacedWords head p list lm row marks) room
 
--- the kind as which a row of either kind was read
-abbrev pub kindFor : Bool → Kind
-kindFor true = Expression
-kindFor false = Predicate
-
 -- names become the entries of a table
 abbrev pub freePlan : Table → Plan
 freePlan t = record { table = t; fills = false; gone = 0; down = 0 }
@@ -214,6 +197,10 @@ unfoldable pub headWords : ℕ → List ℕ → List ℕ
 headWords t [] = []
 headWords t (k ∷ ks) = t ∷ suc (length ks) ∷ k ∷ ks
 
+-- that of a row, with the names that are kept, where there are at most 32 words, a name for each and room for the head; none elsewhere
+unfoldable pub keptHead : List ℕ → List ℕ → ℕ → List ℕ
+keptHead ws row room = pick (leb (length ws) 32 && (leb (2 + length ws) (length row) && leb (2 + length ws) room)) (headWords (getD row 0 0) (keptWords ws (drop 2 row))) []
+
 -- names of declarations
 abbrev pub areNames : List ℕ → Bool
 areNames [] = true
@@ -223,66 +210,16 @@ areNames (n ∷ ns) = between 0 65535 n && areNames ns
 unfoldable pub declaredIn : List ℕ → ℕ
 declaredIn row = pick (ltb (length row) 2) 0 (pick (eqb (getD row 0 0) 851) (getD row 1 0) (pick (eqb (getD row 0 0) 852) (getD row 1 0) 0))
 
--- a quantified row filled by the places of a table
-unfoldable pub filledRow : Bool → List ℕ → List ℕ → List ℕ → List ℕ → Table → ℕ → Outcome
-filledRow sure list lm row marks t room =
-    replaced sure Predicate (headWords (getD row 0 0) (keptWords (take (t .n) (t .words)) (drop 2 row))) (fillPlan t) list lm (drop (2 + t .n) row) (drop (2 + t .n) marks) room
-
--- an item that is not index j of a body round which n declarations are open
-unfoldable pub notIndex : ℕ → ℕ → Item → Bool
-notIndex n j (Plain w) = true
-notIndex n j (Ident k t v) = pick (eqb t 2) (pick (ltb v (k - n)) true (not (eqb j (v - (k - n))))) true
-
--- words of the inner ones of n declarations, from the outermost on: 0 where the items use it
-unfoldable pub cleared : ℕ → List ℕ → List Item → List ℕ
-cleared n [] xs = []
-cleared n (w ∷ ws) xs = pick (allItems (notIndex n (length ws)) xs) w 0 ∷ cleared n ws xs
-
--- 1 for each of n declarations that the items never use
-unfoldable pub usedWords : ℕ → List Item → List ℕ
-usedWords n xs = cleared n (replicate n 1) xs
-
--- of the words of declarations, from the outermost on, those that are inside index j and not 0
-unfoldable pub fallsAt : List ℕ → ℕ → ℕ
-fallsAt ws j = filledWords (drop (length ws - j) ws)
-
--- the slot of the declaration whose index an item is: 1 for the outermost of n, n for the innermost, 0 for one further out; o for any other item
-unfoldable pub slotOf : ℕ → ℕ → Item → ℕ
-slotOf n o (Plain w) = o
-slotOf n o (Ident k t v) = pick (eqb t 2) (pick (ltb v (k - n)) o (n - (v - (k - n)))) o
-
--- how many of the words are inside a slot and not 0, as a table
-unfoldable pub Falls : List ℕ → List ℕ → Type 0
-Falls ws fs = (s : ℕ) → s ≤ length ws → getD fs s 0 ≡ filledWords (drop s ws)
-
--- the word v behind a tag t whose mark is m, fallen
-unfoldable pub fallAt : List ℕ → ℕ → ℕ → ℕ → ℕ
-fallAt ws zero t v = v
-fallAt ws (suc k) t v = let b = k - length ws in pick (eqb t 2) (pick (ltb v b) v (v - fallsAt ws (v - b))) v
-
--- an item of the body, its index fallen by the declarations inside it whose word is not 0
-unfoldable pub fallItem : List ℕ → Item → Item
-fallItem ws (Plain w) = Plain w
-fallItem ws (Ident k t v) = let b = k - length ws in Ident k t (pick (eqb t 2) (pick (ltb v b) v (v - fallsAt ws (v - b))) v)
-
-abbrev pub fallenWords : List ℕ → Item → List ℕ
-fallenWords ws x = wordsOf (fallItem ws x)
-
--- a quantified row without the declarations whose word is not 0, and the answer: 9 where no word is
-unfoldable pub droppedRow : List ℕ → List ℕ → List ℕ → List ℕ
-droppedRow ws row marks =
-    headWords (getD row 0 0) (keptWords ws (drop 2 row)) ++ rewritten (fallenWords ws) (items (drop (2 + length ws) row) (drop (2 + length ws) marks))
-
-unfoldable pub droppedOutcome : List ℕ → List ℕ → List ℕ → ℕ → Outcome
-droppedOutcome ws row marks room = needs 9 (not (eqb (filledWords ws) 0)) (needs 14 (leb (length (droppedRow ws row marks)) room) (answer (droppedRow ws row marks)))
-
 -- whether the first n parts lie in a row of so many words; whether a table's parts stand in the list row, and all of it is marked
 unfoldable pub partsIn : List ℕ → List ℕ → ℕ → ℕ → Bool
 partsIn starts ends words zero = true
 partsIn starts ends words (suc n) = leb (getD starts n 0) (getD ends n 0) && (leb (getD ends n 0) words && partsIn starts ends words n)
 
+abbrev pub readyParts : ℕ → List ℕ → List ℕ → ℕ → ℕ → Bool
+readyParts n starts ends words marks = leb n 32 && (leb words marks && partsIn starts ends words n)
+
 unfoldable pub isReady : Table → List ℕ → List ℕ → Bool
-isReady t list lm = leb (t .n) 32 && (leb (length list) (length lm) && partsIn (t .starts) (t .ends) (length list) (t .n))
+isReady t list lm = readyParts (t .n) (t .starts) (t .ends) (length list) (length lm)
 
 -- the plan that fills by the places of a table, whose expressions are moved down; what it puts under a head, where the table is ready
 abbrev pub downPlan : Table → ℕ → Plan
@@ -290,3 +227,7 @@ downPlan t d = record { table = t; fills = true; gone = filledWords (take (t .n)
 
 unfoldable pub placedRow : Bool → List ℕ → Table → ℕ → List ℕ → List ℕ → List ℕ → List ℕ → ℕ → Outcome
 placedRow sure head t d list lm row marks room = needs 7 (isReady t list lm) (replaced sure Predicate head (downPlan t d) list lm row marks room)
+
+-- what the entries of a table put for the names of a row, where the table is ready
+unfoldable pub freedRow : Bool → Kind → Table → List ℕ → List ℕ → List ℕ → List ℕ → ℕ → Outcome
+freedRow sure kind t list lm row marks room = needs 7 (isReady t list lm) (replaced sure kind [] (freePlan t) list lm row marks room)

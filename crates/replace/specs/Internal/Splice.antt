@@ -5,14 +5,15 @@ use mathlib.Core.Option.{Option, none as absent, some}
 use mathlib.Core.List.{List, [], _∷_, _++_}
 use Prim.Native.Nat.{ℕ, _+_, _-_, _%_, _≤_, _<_}
 use lib.Dec.{ltb, eqb}
-use lib.ListN.{length, getD, drop}
+use lib.ListN.{length, getD, take, drop}
 use Rattle.tree.specs.Form.{pick}
 use Rattle.shift.specs.Internal.Items.{items, apart, wordItem}
-use Rattle.replace.specs.Internal.Pieces.{pieceWords, pieceOf, spot, sizes, filledWords, Ready}
+use Rattle.replace.specs.Internal.Pieces.{pieceWords, pieceOf, spot, sizes, filledWords, planFor, Ready}
 use Rattle.shift.specs.declared.items.Item.the-variants.{Plain}
 use Rattle.replace.specs.declared.pieces.Piece.{Piece}
 use Rattle.replace.specs.declared.pieces.Piece.the-variants.{Same, Index, Part}
 use Rattle.replace.specs.declared.pieces.Plan.{Plan}
+use Rattle.replace.specs.declared.pieces.Rule.{Rule}
 
 -- what is put for a word w with the mark m and the word that follows
 abbrev pub nextPiece : Plan → ℕ → ℕ → List ℕ → Piece
@@ -37,19 +38,9 @@ spliced p list lm (some x) (w ∷ ws) ms =
     let c = nextPiece p (getD ms 0 0) w ws in
     putFor list lm c x ++ spliced p list lm (nextWord c ws) ws (drop 1 ms)
 
--- no two marks stand side by side, and each is over lo, as far as the row goes
+-- a mark and the next one, neither of which tells that the marks do not stand apart
 unfoldable pub pairOk : ℕ → ℕ → ℕ → Bool
 pairOk lo m k = eqb m 0 || (ltb lo m && eqb k 0)
-
-abbrev pub pairIn : ℕ → ℕ → List ℕ → List ℕ → Bool
-pairIn lo m [] ms = true
-pairIn lo m (v ∷ ws) [] = false
-pairIn lo m (v ∷ ws) (k ∷ ms) = pairOk lo m k
-
-unfoldable pub pairs : ℕ → List ℕ → List ℕ → Bool
-pairs lo [] ms = true
-pairs lo (w ∷ ws) [] = false
-pairs lo (w ∷ ws) (m ∷ ms) = pairIn lo m ws ms && pairs lo ws ms
 
 -- for the places of n declarations by slots: the word of each, and how many inside it are filled; nothing for the slot past them
 pub record Slots (ws : List ℕ) (gone : ℕ) (cuts falls : List ℕ) : Type 0 where
@@ -86,3 +77,18 @@ pub record Splicing (lo : ℕ) (p : Plan) (list lm row marks : List ℕ) (start 
   pub long : length row ≤ length marks
   pub apart-on : apart lo (drop start row) (drop start marks) ≡ true
   pub fits : at + sizes p (items (drop start row) (drop start marks)) ≤ room
+
+-- and its places are filled by the tables of the slots
+pub record Filling (rule : Rule) (words starts ends cuts falls list lm row marks : List ℕ) (start at room : ℕ) : Type 0 where
+  pub splices : Splicing (rule .n) (planFor rule words starts ends) list lm row marks start at room
+  pub is-fill : rule .fills ≡ true
+  pub slots : Slots (take (rule .n) words) (rule .gone) cuts falls
+  pub cuts-long : length cuts ≡ 34
+  pub falls-long : length falls ≡ 34
+
+-- or its names replaced, by the keys of the listed ones
+pub record Freeing (rule : Rule) (words starts ends keys list lm row marks : List ℕ) (start at room : ℕ) : Type 0 where
+  pub splices : Splicing 0 (planFor rule words starts ends) list lm row marks start at room
+  pub is-free : rule .fills ≡ false
+  pub known : Keys (take (rule .n) words) keys
+  pub keys-long : length keys ≡ 65

@@ -75,6 +75,15 @@ wordItems m t [] ms = []
 wordItems m t (w ∷ ws) [] = wordItem m t w ∷ wordItems 0 w ws []
 wordItems m t (w ∷ ws) (k ∷ ms) = wordItem m t w ∷ wordItems k w ws ms
 
+-- the slot of the declaration whose index an item is: 1 for the outermost of n, n for the innermost, 0 for one further out; o for any other item
+unfoldable pub slotOf : ℕ → ℕ → Item → ℕ
+slotOf n o (Plain w) = o
+slotOf n o (Ident k t v) = pick (eqb t 2) (pick (ltb v (k - n)) o (n - (v - (k - n)))) o
+
+-- that of a word v behind a tag t whose mark is m; o too where n declarations or more are not open
+unfoldable pub slotFor : ℕ → ℕ → ℕ → ℕ → ℕ → ℕ
+slotFor n o m t v = pick (ltb n m) (slotOf n o (wordItem m t v)) o
+
 -- l with the words of a list stored from i on, as far as there is room
 unfoldable pub store : List ℕ → ℕ → List ℕ → List ℕ
 store l i [] = l

@@ -13,7 +13,10 @@ fit-work-requires : tie.Need-fit-work-requires
 fit-work-requires c κs = search needs
 
 replace-built-requires : tie.Need-replace-built-requires
-replace-built-requires c κs = (c .before .before .before .before .before .before .before .before .before .before .before .before .before .pre, work-short (planFor (c .before .before .before .before .before .before .before .before .before .before .before .before .before .args .rule) (c .before .before .before .before .before .before .before .before .before .before .before .before .before .args .words .now) (c .before .before .before .before .before .before .before .before .before .before .before .before .before .args .starts .now) (c .before .before .before .before .before .before .before .before .before .before .before .before .before .args .ends .now)) (c .before .before .before .before .before .before .before .before .before .before .before .before .before .args .row .now) (c .before .before .before .before .before .before .before .before .before .before .before .before .before .args .marks .now) (c .before .before .before .before .before .before .before .before .before .before .before .before .before .args .from) _ _ _ (c .before .before .before .words-between .ensures) (sym (c .before .before .fit-work .ensures) ∙ c .before .if1 .taken))
+replace-built-requires c κs =
+    let b3 = c .before .before .before in
+    let b13 = b3 .before .before .before .before .before .before .before .before .before .before in
+    (b13 .pre, work-short (planFor (b13 .args .rule) (b13 .args .words .now) (b13 .args .starts .now) (b13 .args .ends .now)) (b13 .args .row .now) (b13 .args .marks .now) (b13 .args .from) _ _ _ (b3 .words-between .ensures) (sym (c .before .before .fit-work .ensures) ∙ c .before .if1 .taken))
 
 same-length : tie.Need-same-length
 same-length c = search needs

@@ -29,22 +29,58 @@ inner-start-requires c κs = search needs
 mul-write-head : tie.Need-mul-write-head
 mul-write-head c =
     let b3 = c .before .before .before in let b11 = b3 .before .before .before .before .before .before .before .before in
-    let f = fits-all (length (b11 .args .front .now)) (length (b11 .args .stay .now)) _ _ (sym (c .before .before .has-room .ensures) ∙ not-false _ (c .before .if1 .left)) in let g = inner-low (b11 .args .tag) (b11 .args .row .now) _ _ (b3 .inner-end .result) (b3 .inner-end .ensures) (f .2) in let f0 = f .0 in let f1 = f .1 in let f2 = f .2 in let f3 = f .3 in let g0 = g .0 in let g1 = g .1 in let s = c .inner-start .ensures in omega arith
+    let f = fits-all (length (b11 .args .front .now)) (length (b11 .args .stay .now)) _ _ (sym (c .before .before .has-room .ensures) ∙ not-false _ (c .before .if1 .left)) in
+    let g = inner-low (b11 .args .tag) (b11 .args .row .now) _ _ (b3 .inner-end .result) (b3 .inner-end .ensures) (f .2) in
+    let f0 = f .0 in
+    let f1 = f .1 in
+    let f2 = f .2 in
+    let f3 = f .3 in
+    let g0 = g .0 in
+    let g1 = g .1 in
+    let s = c .inner-start .ensures in
+    omega arith
 
 sub-write-head : tie.Need-sub-write-head
 sub-write-head c =
     let b3 = c .before .before .before in let b11 = b3 .before .before .before .before .before .before .before .before in
-    let f = fits-all (length (b11 .args .front .now)) (length (b11 .args .stay .now)) _ _ (sym (c .before .before .has-room .ensures) ∙ not-false _ (c .before .if1 .left)) in let g = inner-low (b11 .args .tag) (b11 .args .row .now) _ _ (b3 .inner-end .result) (b3 .inner-end .ensures) (f .2) in let f0 = f .0 in let f1 = f .1 in let f2 = f .2 in let f3 = f .3 in let g0 = g .0 in let g1 = g .1 in let s = c .inner-start .ensures in omega arith
+    let f = fits-all (length (b11 .args .front .now)) (length (b11 .args .stay .now)) _ _ (sym (c .before .before .has-room .ensures) ∙ not-false _ (c .before .if1 .left)) in
+    let g = inner-low (b11 .args .tag) (b11 .args .row .now) _ _ (b3 .inner-end .result) (b3 .inner-end .ensures) (f .2) in
+    let f0 = f .0 in
+    let f1 = f .1 in
+    let f2 = f .2 in
+    let f3 = f .3 in
+    let g0 = g .0 in
+    let g1 = g .1 in
+    let s = c .inner-start .ensures in
+    omega arith
 
 part-write-head-start : tie.Need-part-write-head-start
 part-write-head-start c =
     let b3 = c .before .before .before in let b11 = b3 .before .before .before .before .before .before .before .before in
-    let f = fits-all (length (b11 .args .front .now)) (length (b11 .args .stay .now)) _ _ (sym (c .before .before .has-room .ensures) ∙ not-false _ (c .before .if1 .left)) in let g = inner-low (b11 .args .tag) (b11 .args .row .now) _ _ (b3 .inner-end .result) (b3 .inner-end .ensures) (f .2) in let f0 = f .0 in let f1 = f .1 in let f2 = f .2 in let f3 = f .3 in let g0 = g .0 in let g1 = g .1 in let s = c .inner-start .ensures in omega arith
+    let f = fits-all (length (b11 .args .front .now)) (length (b11 .args .stay .now)) _ _ (sym (c .before .before .has-room .ensures) ∙ not-false _ (c .before .if1 .left)) in
+    let g = inner-low (b11 .args .tag) (b11 .args .row .now) _ _ (b3 .inner-end .result) (b3 .inner-end .ensures) (f .2) in
+    let f0 = f .0 in
+    let f1 = f .1 in
+    let f2 = f .2 in
+    let f3 = f .3 in
+    let g0 = g .0 in
+    let g1 = g .1 in
+    let s = c .inner-start .ensures in
+    omega arith
 
 part-write-head-end : tie.Need-part-write-head-end
 part-write-head-end c =
     let b3 = c .before .before .before in let b11 = b3 .before .before .before .before .before .before .before .before in
-    let f = fits-all (length (b11 .args .front .now)) (length (b11 .args .stay .now)) _ _ (sym (c .before .before .has-room .ensures) ∙ not-false _ (c .before .if1 .left)) in let g = inner-low (b11 .args .tag) (b11 .args .row .now) _ _ (b3 .inner-end .result) (b3 .inner-end .ensures) (f .2) in let f0 = f .0 in let f1 = f .1 in let f2 = f .2 in let f3 = f .3 in let g0 = g .0 in let g1 = g .1 in let s = c .inner-start .ensures in omega arith
+    let f = fits-all (length (b11 .args .front .now)) (length (b11 .args .stay .now)) _ _ (sym (c .before .before .has-room .ensures) ∙ not-false _ (c .before .if1 .left)) in
+    let g = inner-low (b11 .args .tag) (b11 .args .row .now) _ _ (b3 .inner-end .result) (b3 .inner-end .ensures) (f .2) in
+    let f0 = f .0 in
+    let f1 = f .1 in
+    let f2 = f .2 in
+    let f3 = f .3 in
+    let g0 = g .0 in
+    let g1 = g .1 in
+    let s = c .inner-start .ensures in
+    omega arith
 
 slice-aggregate-write-head : tie.Need-slice-aggregate-write-head
 slice-aggregate-write-head c = search needs
@@ -52,13 +88,25 @@ slice-aggregate-write-head c = search needs
 write-head-requires : tie.Need-write-head-requires
 write-head-requires c κs =
     let b2 = c .before .before in let b3 = b2 .before in let b4 = b3 .before in let b5 = b4 .before in let b13 = b5 .before .before .before .before .before .before .before .before in
-    let f = fits-all (length (b13 .args .front .now)) (length (b13 .args .stay .now)) _ _ (sym (b4 .has-room .ensures) ∙ not-false _ (b3 .if1 .left)) in let g = inner-low (b13 .args .tag) (b13 .args .row .now) _ _ (b5 .inner-end .result) (b5 .inner-end .ensures) (f .2) in let f0 = f .0 in let f1 = f .1 in let f2 = f .2 in let f3 = f .3 in let g0 = g .0 in let g1 = g .1 in let s = b2 .inner-start .ensures in let k = length-take (b5 .inner-end .result - b2 .inner-start .result) (drop (b2 .inner-start .result) (b13 .args .row .now)) in (omega arith, omega arith)
+    let f = fits-all (length (b13 .args .front .now)) (length (b13 .args .stay .now)) _ _ (sym (b4 .has-room .ensures) ∙ not-false _ (b3 .if1 .left)) in
+    let g = inner-low (b13 .args .tag) (b13 .args .row .now) _ _ (b5 .inner-end .result) (b5 .inner-end .ensures) (f .2) in
+    let f0 = f .0 in
+    let f1 = f .1 in
+    let f2 = f .2 in
+    let f3 = f .3 in
+    let g0 = g .0 in
+    let g1 = g .1 in
+    let s = b2 .inner-start .ensures in
+    let k = length-take (b5 .inner-end .result - b2 .inner-start .result) (drop (b2 .inner-start .result) (b13 .args .row .now)) in
+    (omega arith, omega arith)
 
 array-share-prefix-head : tie.Need-array-share-prefix-head
 array-share-prefix-head c = search needs
 
 slice-aggregate-fill-places : tie.Need-slice-aggregate-fill-places
-slice-aggregate-fill-places c = sym (length-take-le _ _ (built-fits (c .before .before .write-head .kept .1 .1 .1 .1 .0) refl (c .before .before .write-head .ensures .0)))
+slice-aggregate-fill-places c =
+    let b2 = c .before .before in
+    sym (length-take-le _ _ (built-fits (b2 .write-head .kept .1 .1 .1 .1 .0) refl (b2 .write-head .ensures .0)))
 
 is-sure-under-requires : tie.Need-is-sure-under-requires
 is-sure-under-requires c κs = search needs

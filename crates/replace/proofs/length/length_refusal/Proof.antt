@@ -21,7 +21,11 @@ always-fit-requires : tie.Need-always-fit-requires
 always-fit-requires c κs = rw (c .before .before .longest-part .ensures) (longest-two _ _ _)
 
 returns : tie.Need-returns
-returns c = always-short (planFor (c .before .before .before .before .before .before .before .before .before .before .args .rule) (c .before .before .before .before .before .before .before .before .before .before .args .words .now) (c .before .before .before .before .before .before .before .before .before .before .args .starts .now) (c .before .before .before .before .before .before .before .before .before .before .args .ends .now)) (c .before .before .before .before .before .before .before .before .before .before .args .row .now) (c .before .before .before .before .before .before .before .before .before .before .args .marks .now) (c .before .before .before .before .before .before .before .before .before .before .args .from) (c .before .before .before .before .before .before .before .before .before .before .args .head) (c .before .before .before .before .before .before .before .before .before .before .args .room) _ _ (c .before .before .before .words-between .ensures) (c .before .before .before .before .longest-part .ensures) (rw (c .before .before .smaller .ensures) at (sym (c .before .always-fit .ensures) ∙ c .if1 .taken))
+returns c =
+    let b3 = c .before .before .before in
+    let b4 = b3 .before in
+    let b10 = b4 .before .before .before .before .before .before in
+    always-short (planFor (b10 .args .rule) (b10 .args .words .now) (b10 .args .starts .now) (b10 .args .ends .now)) (b10 .args .row .now) (b10 .args .marks .now) (b10 .args .from) (b10 .args .head) (b10 .args .room) _ _ (b3 .words-between .ensures) (b4 .longest-part .ensures) (rw (c .before .before .smaller .ensures) at (sym (c .before .always-fit .ensures) ∙ c .if1 .taken))
 
 words-needed-requires : tie.Need-words-needed-requires
 words-needed-requires c κs = search needs
@@ -36,10 +40,14 @@ add-if4 : tie.Need-add-if4
 add-if4 c = search needs
 
 returns-4 : tie.Need-returns-4
-returns-4 c = let e = capped-low _ _ (c .before .before .before .words-needed .ensures) (c .before .before .if2 .left) in refusal-room _ _ (omega arith) (omega arith)
+returns-4 c =
+    let b3 = c .before .before .before in
+    let e = capped-low _ _ (b3 .words-needed .ensures) (c .before .before .if2 .left) in refusal-room _ _ (omega arith) (omega arith)
 
 returns-5 : tie.Need-returns-5
-returns-5 c = let e = capped-low _ _ (c .before .before .before .words-needed .ensures) (c .before .before .if2 .left) in refusal-none _ _ (omega arith) (omega arith)
+returns-5 c =
+    let b3 = c .before .before .before in
+    let e = capped-low _ _ (b3 .words-needed .ensures) (c .before .before .if2 .left) in refusal-none _ _ (omega arith) (omega arith)
 
 pub length-refusal-spec : {M : Type 1} → statement M
 length-refusal-spec =

@@ -2,7 +2,7 @@
 use mathlib.Core.Path.{sym}
 use borrow.Author.Tests.{lt-ltb, le-ltb, le-leb, lt-leb, eq-eqb, ne-eqb}
 use Rattle.replace.specs.Internal.Pieces.{placePiece, fillPiece, planFor}
-use Rattle.replace.proofs.PieceLaws.{used-first, used-few}
+use Rattle.replace.proofs.PieceLaws.{used-first, used-few, part-is}
 use borrow.Author.Needs.{needs}
 use Rattle.replace.proofs.pieces.fill_piece.Statement.{statement}
 use Rattle.replace.proofs.pieces.fill_piece.Tie as tie
@@ -75,8 +75,12 @@ less-requires-4 : tie.Need-less-requires-4
 less-requires-4 c κs = search needs
 
 returns-4 : tie.Need-returns-4
-unfolding fillPiece placePiece
-returns-4 c = rw (← c .before .before .before .before .before .before .before .less .ensures, le-ltb _ _ (c .before .before .before .before .before .before .if1 .left), lt-leb _ _ (c .before .before .before .before .before .if2 .left), ne-eqb _ _ (c .before .before .before .if3 .left), ← c .less4 .ensures)
+returns-4 c =
+    let b3 = c .before .before .before in
+    let b5 = b3 .before .before in
+    let b6 = b5 .before in
+    let b7 = b6 .before in
+    part-is _ _ _ _ _ (b7 .less .ensures) (b6 .if1 .left) (b5 .if2 .left) (b3 .if3 .left) (c .less4 .ensures)
 
 pub fill-piece-spec : {M : Type 1} → statement M
 fill-piece-spec =

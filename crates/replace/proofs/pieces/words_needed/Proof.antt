@@ -36,19 +36,40 @@ enum-told : tie.Need-enum-told Inv-loop μ-loop
 enum-told c = search needs
 
 returns : tie.Need-returns Inv-loop μ-loop
-returns c = let b3 = c .before .before .before in let b11 = b3 .before .before .before .before .before .before .before .before in sym (b3 .before .before .loop .inv .0 ∙ needed-over (planFor (b11 .args .rule) (b11 .args .words .now) (b11 .args .starts .now) (b11 .args .ends .now)) _ (plain-same (c .before .enum-told .given .1) (planFor (b11 .args .rule) (b11 .args .words .now) (b11 .args .starts .now) (b11 .args .ends .now))) (plain-size (c .before .enum-told .given .1)) (b11 .args .row .now) (b11 .args .marks .now) _ (b3 .before .loop-test .taken) (b3 .item-at .ensures) _ (b3 .before .before .loop .inv .1) (omega arith))
+returns c =
+    let b3 = c .before .before .before in
+    let b4 = b3 .before in
+    let b5 = b4 .before in
+    let b11 = b5 .before .before .before .before .before .before in
+    let plan = planFor (b11 .args .rule) (b11 .args .words .now) (b11 .args .starts .now) (b11 .args .ends .now) in
+    sym (b5 .loop .inv .0 ∙ needed-over plan _ (plain-same (c .before .enum-told .given .1) plan) (plain-size (c .before .enum-told .given .1)) (b11 .args .row .now) (b11 .args .marks .now) _ (b4 .loop-test .taken) (b3 .item-at .ensures) _ (b5 .loop .inv .1) (omega arith))
 
 add-n : tie.Need-add-n Inv-loop μ-loop
 add-n c = omega arith
 
 add-i : tie.Need-add-i Inv-loop μ-loop
-add-i c = let s = size-in _ (c .before .before .before .before .before .before .before .before .before .before .before .args .marks .now) _ (c .before .before .before .before .loop-test .taken) (c .before .before .before .item-at .ensures) in let e = plain-step (c .before .enum-told .given .1) in omega arith
+add-i c =
+    let b3 = c .before .before .before in
+    let b4 = b3 .before in
+    let b11 = b4 .before .before .before .before .before .before .before in
+    let s = size-in _ (b11 .args .marks .now) _ (b4 .loop-test .taken) (b3 .item-at .ensures) in let e = plain-step (c .before .enum-told .given .1) in omega arith
 
 loop-less : tie.Need-loop-less Inv-loop μ-loop
-loop-less c = let s = size-in _ (c .before .before .before .before .before .before .before .before .before .before .before .args .marks .now) _ (c .before .before .before .before .loop-test .taken) (c .before .before .before .item-at .ensures) in let e = plain-step (c .before .enum-told .given .1) in omega arith
+loop-less c =
+    let b3 = c .before .before .before in
+    let b4 = b3 .before in
+    let b11 = b4 .before .before .before .before .before .before .before in
+    let s = size-in _ (b11 .args .marks .now) _ (b4 .loop-test .taken) (b3 .item-at .ensures) in let e = plain-step (c .before .enum-told .given .1) in omega arith
 
 loop-again : tie.Need-loop-again Inv-loop μ-loop
-loop-again c = let b3 = c .before .before .before in let b11 = b3 .before .before .before .before .before .before .before .before in (b3 .before .before .loop .inv .0 ∙ (needed-next (planFor (b11 .args .rule) (b11 .args .words .now) (b11 .args .starts .now) (b11 .args .ends .now)) _ (plain-same (c .before .enum-told .given .1) (planFor (b11 .args .rule) (b11 .args .words .now) (b11 .args .starts .now) (b11 .args .ends .now))) (plain-size (c .before .enum-told .given .1)) (b11 .args .row .now) (b11 .args .marks .now) _ (b3 .before .loop-test .taken) (b3 .item-at .ensures) _ ∙ rw (plain-step (c .before .enum-told .given .1))), omega arith)
+loop-again c =
+    let b3 = c .before .before .before in
+    let b4 = b3 .before in
+    let b5 = b4 .before in
+    let b11 = b5 .before .before .before .before .before .before in (
+      b5 .loop .inv .0 ∙ (needed-next (planFor (b11 .args .rule) (b11 .args .words .now) (b11 .args .starts .now) (b11 .args .ends .now)) _ (plain-same (c .before .enum-told .given .1) (planFor (b11 .args .rule) (b11 .args .words .now) (b11 .args .starts .now) (b11 .args .ends .now))) (plain-size (c .before .enum-told .given .1)) (b11 .args .row .now) (b11 .args .marks .now) _ (b4 .loop-test .taken) (b3 .item-at .ensures) _ ∙ rw (plain-step (c .before .enum-told .given .1))),
+      omega arith,
+    )
 
 piece-of-requires : tie.Need-piece-of-requires Inv-loop μ-loop
 piece-of-requires c κs = c .before .before .before .before .before .before .before .before .before .before .before .pre
@@ -60,22 +81,48 @@ sub-if2 : tie.Need-sub-if2 Inv-loop μ-loop
 sub-if2 c = omega arith
 
 returns-2 : tie.Need-returns-2 Inv-loop μ-loop
-returns-2 c = let b4 = c .before .before .before .before in let b7 = b4 .before .before .before in let b14 = b7 .before .before .before .before .before .before .before in sym (b7 .before .loop .inv .0 ∙ needed-over (planFor (b14 .args .rule) (b14 .args .words .now) (b14 .args .starts .now) (b14 .args .ends .now)) _ (c .before .before .piece-of .ensures) (c .before .piece-size .ensures) (b14 .args .row .now) (b14 .args .marks .now) _ (b7 .loop-test .taken) (sym (b4 .it .given .1) ∙ b4 .before .before .item-at .ensures) _ (b7 .before .loop .inv .1) (c .if2 .taken))
+returns-2 c =
+    let b4 = c .before .before .before .before in
+    let b6 = b4 .before .before in
+    let b7 = b6 .before in
+    let b8 = b7 .before in
+    let b14 = b8 .before .before .before .before .before .before in
+    sym (b8 .loop .inv .0 ∙ needed-over (planFor (b14 .args .rule) (b14 .args .words .now) (b14 .args .starts .now) (b14 .args .ends .now)) _ (c .before .before .piece-of .ensures) (c .before .piece-size .ensures) (b14 .args .row .now) (b14 .args .marks .now) _ (b7 .loop-test .taken) (sym (b4 .it .given .1) ∙ b6 .item-at .ensures) _ (b8 .loop .inv .1) (c .if2 .taken))
 
 add-n-2 : tie.Need-add-n-2 Inv-loop μ-loop
 add-n-2 c = omega arith
 
 add-i-2 : tie.Need-add-i-2 Inv-loop μ-loop
-add-i-2 c = let s = size-in _ (c .before .before .before .before .before .before .before .before .before .before .before .before .before .before .args .marks .now) _ (c .before .before .before .before .before .before .before .loop-test .taken) (c .before .before .before .before .before .before .item-at .ensures) in let e = ident-step (c .before .before .before .before .it .given .1) in omega arith
+add-i-2 c =
+    let b4 = c .before .before .before .before in
+    let b6 = b4 .before .before in
+    let b7 = b6 .before in
+    let b14 = b7 .before .before .before .before .before .before .before in
+    let s = size-in _ (b14 .args .marks .now) _ (b7 .loop-test .taken) (b6 .item-at .ensures) in let e = ident-step (b4 .it .given .1) in omega arith
 
 loop-less-2 : tie.Need-loop-less-2 Inv-loop μ-loop
-loop-less-2 c = let s = size-in _ (c .before .before .before .before .before .before .before .before .before .before .before .before .before .before .args .marks .now) _ (c .before .before .before .before .before .before .before .loop-test .taken) (c .before .before .before .before .before .before .item-at .ensures) in let e = ident-step (c .before .before .before .before .it .given .1) in omega arith
+loop-less-2 c =
+    let b4 = c .before .before .before .before in
+    let b6 = b4 .before .before in
+    let b7 = b6 .before in
+    let b14 = b7 .before .before .before .before .before .before .before in
+    let s = size-in _ (b14 .args .marks .now) _ (b7 .loop-test .taken) (b6 .item-at .ensures) in let e = ident-step (b4 .it .given .1) in omega arith
 
 loop-again-2 : tie.Need-loop-again-2 Inv-loop μ-loop
-loop-again-2 c = let b4 = c .before .before .before .before in let b7 = b4 .before .before .before in let b14 = b7 .before .before .before .before .before .before .before in (b7 .before .loop .inv .0 ∙ (needed-next (planFor (b14 .args .rule) (b14 .args .words .now) (b14 .args .starts .now) (b14 .args .ends .now)) _ (c .before .before .piece-of .ensures) (c .before .piece-size .ensures) (b14 .args .row .now) (b14 .args .marks .now) _ (b7 .loop-test .taken) (sym (b4 .it .given .1) ∙ b4 .before .before .item-at .ensures) _ ∙ rw ident-size), omega arith)
+loop-again-2 c =
+    let b4 = c .before .before .before .before in
+    let b6 = b4 .before .before in
+    let b7 = b6 .before in
+    let b8 = b7 .before in
+    let b14 = b8 .before .before .before .before .before .before in (
+      b8 .loop .inv .0 ∙ (needed-next (planFor (b14 .args .rule) (b14 .args .words .now) (b14 .args .starts .now) (b14 .args .ends .now)) _ (c .before .before .piece-of .ensures) (c .before .piece-size .ensures) (b14 .args .row .now) (b14 .args .marks .now) _ (b7 .loop-test .taken) (sym (b4 .it .given .1) ∙ b6 .item-at .ensures) _ ∙ rw ident-size),
+      omega arith,
+    )
 
 returns-3 : tie.Need-returns-3 Inv-loop μ-loop
-returns-3 c = sym (c .before .loop .inv .0 ∙ needed-end _ (c .before .before .before .before .before .before .before .args .row .now) (c .before .before .before .before .before .before .before .args .marks .now) _ _ (c .loop-test .left) (c .before .loop .inv .1))
+returns-3 c =
+    let b7 = c .before .before .before .before .before .before .before in
+    sym (c .before .loop .inv .0 ∙ needed-end _ (b7 .args .row .now) (b7 .args .marks .now) _ _ (c .loop-test .left) (c .before .loop .inv .1))
 
 pub words-needed-spec : {M : Type 1} → statement M
 words-needed-spec =

@@ -43,13 +43,30 @@ size-of-requires : tie.Need-size-of-requires Inv-loop μ-loop
 size-of-requires c κs = search needs
 
 add-i : tie.Need-add-i Inv-loop μ-loop
-add-i c = let s = size-in _ (c .before .before .before .before .before .before .before .before .before .before .before .before .args .marks .now) _ (c .before .before .before .before .before .before .before .loop-test .taken) (c .before .before .before .before .before .before .item-at .ensures) in let e = c .size-of .ensures in omega arith
+add-i c =
+    let b6 = c .before .before .before .before .before .before in
+    let b7 = b6 .before in
+    let b12 = b7 .before .before .before .before .before in
+    let s = size-in _ (b12 .args .marks .now) _ (b7 .loop-test .taken) (b6 .item-at .ensures) in let e = c .size-of .ensures in omega arith
 
 loop-less : tie.Need-loop-less Inv-loop μ-loop
-loop-less c = let b6 = c .before .before .before .before .before .before in let b12 = b6 .before .before .before .before .before .before in let s = size-in _ (b12 .args .marks .now) _ (b6 .before .loop-test .taken) (b6 .item-at .ensures) in let e = c .size-of .ensures in let p = size-pos (b6 .item-at .result) in omega arith
+loop-less c =
+    let b6 = c .before .before .before .before .before .before in
+    let b7 = b6 .before in
+    let b12 = b7 .before .before .before .before .before in
+    let s = size-in _ (b12 .args .marks .now) _ (b7 .loop-test .taken) (b6 .item-at .ensures) in let e = c .size-of .ensures in let p = size-pos (b6 .item-at .result) in omega arith
 
 loop-again : tie.Need-loop-again Inv-loop μ-loop
-loop-again c = let b3 = c .before .before .before in let b6 = b3 .before .before .before in let b12 = b6 .before .before .before .before .before .before in (b6 .before .before .loop .inv .0 ∙ (store-next (b12 .args .row .now) (b12 .args .marks .now) _ (b6 .before .loop-test .taken) (b6 .item-at .ensures) (movedWords (b12 .args .up) (b12 .args .down)) _ _ _ (b12 .args .at + (b6 .before .before .loop .i + sizeOf (b6 .item-at .result))) (rw (b3 .before .move-item .ensures) at (b3 .put-item .ensures)) (let e = keeps (b12 .args .up) (b12 .args .down) (b6 .item-at .result) in omega arith) ∙ rw (c .size-of .ensures)), b3 .put-item .kept .0 ∙ b6 .before .before .loop .inv .1)
+loop-again c =
+    let b3 = c .before .before .before in
+    let b4 = b3 .before in
+    let b6 = b4 .before .before in
+    let b7 = b6 .before in
+    let b8 = b7 .before in
+    let b12 = b8 .before .before .before .before in (
+      b8 .loop .inv .0 ∙ (store-next (b12 .args .row .now) (b12 .args .marks .now) _ (b7 .loop-test .taken) (b6 .item-at .ensures) (movedWords (b12 .args .up) (b12 .args .down)) _ _ _ (b12 .args .at + (b8 .loop .i + sizeOf (b6 .item-at .result))) (rw (b4 .move-item .ensures) at (b3 .put-item .ensures)) (let e = keeps (b12 .args .up) (b12 .args .down) (b6 .item-at .result) in omega arith) ∙ rw (c .size-of .ensures)),
+      b3 .put-item .kept .0 ∙ b8 .loop .inv .1,
+    )
 
 same-length : tie.Need-same-length Inv-loop μ-loop
 same-length c = c .before .loop .inv .1

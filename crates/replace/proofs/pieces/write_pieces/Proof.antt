@@ -40,37 +40,115 @@ put-item-requires : tie.Need-put-item-requires Inv-loop μ-loop
 put-item-requires c κs = search needs
 
 add-p : tie.Need-add-p Inv-loop μ-loop
-add-p c = let z = rw (plain-step (c .before .before .before .before .enum-told .given .1)) at (sizes-step (planFor (c .before .before .before .before .before .before .before .before .before .before .before .before .before .before .before .before .before .args .rule) (c .before .before .before .before .before .before .before .before .before .before .before .before .before .before .before .before .before .args .words .now) (c .before .before .before .before .before .before .before .before .before .before .before .before .before .before .before .before .before .args .starts .now) (c .before .before .before .before .before .before .before .before .before .before .before .before .before .before .before .before .before .args .ends .now)) _ (plain-same (c .before .before .before .before .enum-told .given .1) (planFor (c .before .before .before .before .before .before .before .before .before .before .before .before .before .before .before .before .before .args .rule) (c .before .before .before .before .before .before .before .before .before .before .before .before .before .before .before .before .before .args .words .now) (c .before .before .before .before .before .before .before .before .before .before .before .before .before .before .before .before .before .args .starts .now) (c .before .before .before .before .before .before .before .before .before .before .before .before .before .before .before .before .before .args .ends .now))) (plain-size (c .before .before .before .before .enum-told .given .1)) (c .before .before .before .before .before .before .before .before .before .before .before .before .before .before .before .before .before .args .row .now) (c .before .before .before .before .before .before .before .before .before .before .before .before .before .before .before .before .before .args .marks .now) _ (c .before .before .before .before .before .before .before .loop-test .taken) (c .before .before .before .before .before .before .item-at .ensures)) in omega arith
+add-p c =
+    let z =
+    (
+    let b4 = c .before .before .before .before in
+    let b6 = b4 .before .before in
+    let b7 = b6 .before in
+    let b17 = b7 .before .before .before .before .before .before .before .before .before .before in
+    let plan = planFor (b17 .args .rule) (b17 .args .words .now) (b17 .args .starts .now) (b17 .args .ends .now) in
+    rw (plain-step (b4 .enum-told .given .1)) at (sizes-step plan _ (plain-same (b4 .enum-told .given .1) plan) (plain-size (b4 .enum-told .given .1)) (b17 .args .row .now) (b17 .args .marks .now) _ (b7 .loop-test .taken) (b6 .item-at .ensures))
+    ) in
+    omega arith
 
 add-i : tie.Need-add-i Inv-loop μ-loop
-add-i c = let s = size-in _ (c .before .before .before .before .before .before .before .before .before .before .before .before .before .before .before .before .before .args .marks .now) _ (c .before .before .before .before .before .before .before .loop-test .taken) (c .before .before .before .before .before .before .item-at .ensures) in let e = plain-step (c .before .before .before .before .enum-told .given .1) in omega arith
+add-i c =
+    let s =
+    (
+    let b6 = c .before .before .before .before .before .before in
+    let b7 = b6 .before in
+    let b17 = b7 .before .before .before .before .before .before .before .before .before .before in
+    size-in _ (b17 .args .marks .now) _ (b7 .loop-test .taken) (b6 .item-at .ensures)
+    ) in
+    let e = plain-step (c .before .before .before .before .enum-told .given .1) in
+    omega arith
 
 loop-less : tie.Need-loop-less Inv-loop μ-loop
-loop-less c = let s = size-in _ (c .before .before .before .before .before .before .before .before .before .before .before .before .before .before .before .before .before .args .marks .now) _ (c .before .before .before .before .before .before .before .loop-test .taken) (c .before .before .before .before .before .before .item-at .ensures) in let e = plain-step (c .before .before .before .before .enum-told .given .1) in omega arith
+loop-less c =
+    let b4 = c .before .before .before .before in
+    let b6 = b4 .before .before in
+    let b7 = b6 .before in
+    let b17 = b7 .before .before .before .before .before .before .before .before .before .before in
+    let s = size-in _ (b17 .args .marks .now) _ (b7 .loop-test .taken) (b6 .item-at .ensures) in let e = plain-step (b4 .enum-told .given .1) in omega arith
 
 loop-again : tie.Need-loop-again Inv-loop μ-loop
-loop-again c = let b4 = c .before .before .before .before in let b7 = b4 .before .before .before in let b17 = b7 .before .before .before .before .before .before .before .before .before .before in let z = rw (plain-step (b4 .enum-told .given .1)) at (sizes-step (planFor (b17 .args .rule) (b17 .args .words .now) (b17 .args .starts .now) (b17 .args .ends .now)) _ (plain-same (b4 .enum-told .given .1) (planFor (b17 .args .rule) (b17 .args .words .now) (b17 .args .starts .now) (b17 .args .ends .now))) (plain-size (b4 .enum-told .given .1)) (b17 .args .row .now) (b17 .args .marks .now) _ (b7 .loop-test .taken) (b4 .before .before .item-at .ensures)) in (b7 .before .loop .inv .0 ∙ (store-next (b17 .args .row .now) (b17 .args .marks .now) _ (b7 .loop-test .taken) (b4 .before .before .item-at .ensures) (planned (planFor (b17 .args .rule) (b17 .args .words .now) (b17 .args .starts .now) (b17 .args .ends .now)) (b17 .args .list .now) (b17 .args .list-marks .now)) _ _ _ (b7 .before .loop .p + 1) (rw (plain-words (b4 .enum-told .given .1) (planFor (b17 .args .rule) (b17 .args .words .now) (b17 .args .starts .now) (b17 .args .ends .now)) (b17 .args .list .now) (b17 .args .list-marks .now)) at (c .before .before .put-item .ensures)) (ap (λ (n : ℕ). b7 .before .loop .p + n) (planned-size (planFor (b17 .args .rule) (b17 .args .words .now) (b17 .args .starts .now) (b17 .args .ends .now)) _ (plain-same (b4 .enum-told .given .1) (planFor (b17 .args .rule) (b17 .args .words .now) (b17 .args .starts .now) (b17 .args .ends .now))) (plain-size (b4 .enum-told .given .1)) _ _ (b17 .pre .0 .in-row))) ∙ rw (plain-step (b4 .enum-told .given .1))), let k = c .before .before .put-item .kept .0 in omega arith, c .before .before .put-item .kept .0 ∙ b7 .before .loop .inv .2, omega arith)
+loop-again c =
+    let b2 = c .before .before in
+    let b4 = b2 .before .before in
+    let b6 = b4 .before .before in
+    let b7 = b6 .before in
+    let b8 = b7 .before in
+    let b17 = b8 .before .before .before .before .before .before .before .before .before in
+    let plan = planFor (b17 .args .rule) (b17 .args .words .now) (b17 .args .starts .now) (b17 .args .ends .now) in
+    let z = rw (plain-step (b4 .enum-told .given .1)) at (sizes-step plan _ (plain-same (b4 .enum-told .given .1) plan) (plain-size (b4 .enum-told .given .1)) (b17 .args .row .now) (b17 .args .marks .now) _ (b7 .loop-test .taken) (b6 .item-at .ensures)) in (
+      b8 .loop .inv .0 ∙ (store-next (b17 .args .row .now) (b17 .args .marks .now) _ (b7 .loop-test .taken) (b6 .item-at .ensures) (planned plan (b17 .args .list .now) (b17 .args .list-marks .now)) _ _ _ (b8 .loop .p + 1) (rw (plain-words (b4 .enum-told .given .1) plan (b17 .args .list .now) (b17 .args .list-marks .now)) at (b2 .put-item .ensures)) (ap (λ (n : ℕ). b8 .loop .p + n) (planned-size plan _ (plain-same (b4 .enum-told .given .1) plan) (plain-size (b4 .enum-told .given .1)) _ _ (b17 .pre .0 .in-row))) ∙ rw (plain-step (b4 .enum-told .given .1))),
+      let k = b2 .put-item .kept .0 in omega arith,
+      b2 .put-item .kept .0 ∙ b8 .loop .inv .2,
+      omega arith,
+    )
 
 piece-of-requires : tie.Need-piece-of-requires Inv-loop μ-loop
-piece-of-requires c κs = c .before .before .before .before .before .before .before .before .before .before .before .before .before .before .pre .0 .tabled
+piece-of-requires c κs =
+    let b14 = c .before .before .before .before .before .before .before .before .before .before .before .before .before .before in
+    b14 .pre .0 .tabled
 
 write-piece-requires : tie.Need-write-piece-requires Inv-loop μ-loop
-write-piece-requires c κs = let b3 = c .before .before .before in let b6 = b3 .before .before .before in let b16 = b6 .before .before .before .before .before .before .before .before .before .before in (rw (c .before .piece-of .ensures) (piece-fits _ _ (b16 .pre .0 .in-row) _), (b16 .pre .0 .marked, let z = sizes-step (planFor (b16 .args .rule) (b16 .args .words .now) (b16 .args .starts .now) (b16 .args .ends .now)) _ (c .before .piece-of .ensures) refl (b16 .args .row .now) (b16 .args .marks .now) _ (b6 .loop-test .taken) (sym (b3 .it .given .1) ∙ b3 .before .before .item-at .ensures) in omega arith))
+write-piece-requires c κs =
+    let b3 = c .before .before .before in
+    let b5 = b3 .before .before in
+    let b6 = b5 .before in
+    let b16 = b6 .before .before .before .before .before .before .before .before .before .before in (
+      rw (c .before .piece-of .ensures) (piece-fits _ _ (b16 .pre .0 .in-row) _),
+      (b16 .pre .0 .marked, let z = sizes-step (planFor (b16 .args .rule) (b16 .args .words .now) (b16 .args .starts .now) (b16 .args .ends .now)) _ (c .before .piece-of .ensures) refl (b16 .args .row .now) (b16 .args .marks .now) _ (b6 .loop-test .taken) (sym (b3 .it .given .1) ∙ b5 .item-at .ensures) in omega arith),
+    )
 
 piece-size-requires : tie.Need-piece-size-requires Inv-loop μ-loop
 piece-size-requires c κs = search needs
 
 add-p-2 : tie.Need-add-p-2 Inv-loop μ-loop
-add-p-2 c = let b5 = c .before .before .before .before .before in let b9 = b5 .before .before .before .before in let b20 = b9 .before .before .before .before .before .before .before .before .before .before .before in let z = rw ident-size at (sizes-step (planFor (b20 .args .rule) (b20 .args .words .now) (b20 .args .starts .now) (b20 .args .ends .now)) _ (b5 .piece-of .ensures) (c .piece-size .ensures) (b20 .args .row .now) (b20 .args .marks .now) _ (b9 .before .loop-test .taken) (sym (b5 .before .before .it .given .1) ∙ b9 .item-at .ensures)) in let f = b20 .good .1 .1 .1 .1 .1 .1 .1 .1 .1 .0 .0 in omega arith
+add-p-2 c =
+    let b5 = c .before .before .before .before .before in
+    let b7 = b5 .before .before in
+    let b9 = b7 .before .before in
+    let b10 = b9 .before in
+    let b20 = b10 .before .before .before .before .before .before .before .before .before .before in
+    let z = rw ident-size at (sizes-step (planFor (b20 .args .rule) (b20 .args .words .now) (b20 .args .starts .now) (b20 .args .ends .now)) _ (b5 .piece-of .ensures) (c .piece-size .ensures) (b20 .args .row .now) (b20 .args .marks .now) _ (b10 .loop-test .taken) (sym (b7 .it .given .1) ∙ b9 .item-at .ensures)) in
+    let f = b20 .good .1 .1 .1 .1 .1 .1 .1 .1 .1 .0 .0 in
+    omega arith
 
 add-i-2 : tie.Need-add-i-2 Inv-loop μ-loop
-add-i-2 c = let b7 = c .before .before .before .before .before .before .before in let b10 = b7 .before .before .before in let b20 = b10 .before .before .before .before .before .before .before .before .before .before in let s = size-in _ (b20 .args .marks .now) _ (b10 .loop-test .taken) (b7 .before .before .item-at .ensures) in let e = ident-step (b7 .it .given .1) in let f = b20 .good .1 .1 .1 .1 .1 .1 .0 .0 in omega arith
+add-i-2 c =
+    let b7 = c .before .before .before .before .before .before .before in
+    let b9 = b7 .before .before in
+    let b10 = b9 .before in
+    let b20 = b10 .before .before .before .before .before .before .before .before .before .before in
+    let s = size-in _ (b20 .args .marks .now) _ (b10 .loop-test .taken) (b9 .item-at .ensures) in let e = ident-step (b7 .it .given .1) in let f = b20 .good .1 .1 .1 .1 .1 .1 .0 .0 in omega arith
 
 loop-less-2 : tie.Need-loop-less-2 Inv-loop μ-loop
-loop-less-2 c = let b7 = c .before .before .before .before .before .before .before in let b10 = b7 .before .before .before in let b20 = b10 .before .before .before .before .before .before .before .before .before .before in let s = size-in _ (b20 .args .marks .now) _ (b10 .loop-test .taken) (b7 .before .before .item-at .ensures) in let e = ident-step (b7 .it .given .1) in omega arith
+loop-less-2 c =
+    let b7 = c .before .before .before .before .before .before .before in
+    let b9 = b7 .before .before in
+    let b10 = b9 .before in
+    let b20 = b10 .before .before .before .before .before .before .before .before .before .before in
+    let s = size-in _ (b20 .args .marks .now) _ (b10 .loop-test .taken) (b9 .item-at .ensures) in let e = ident-step (b7 .it .given .1) in omega arith
 
 loop-again-2 : tie.Need-loop-again-2 Inv-loop μ-loop
-loop-again-2 c = let b3 = c .before .before .before in let b7 = b3 .before .before .before .before in let b10 = b7 .before .before .before in let b20 = b10 .before .before .before .before .before .before .before .before .before .before in let z = rw ident-size at (sizes-step (planFor (b20 .args .rule) (b20 .args .words .now) (b20 .args .starts .now) (b20 .args .ends .now)) _ (b3 .before .before .piece-of .ensures) (c .piece-size .ensures) (b20 .args .row .now) (b20 .args .marks .now) _ (b10 .loop-test .taken) (sym (b7 .it .given .1) ∙ b7 .before .before .item-at .ensures)) in (b10 .before .loop .inv .0 ∙ (store-next (b20 .args .row .now) (b20 .args .marks .now) _ (b10 .loop-test .taken) (sym (b7 .it .given .1) ∙ b7 .before .before .item-at .ensures) (planned (planFor (b20 .args .rule) (b20 .args .words .now) (b20 .args .starts .now) (b20 .args .ends .now)) (b20 .args .list .now) (b20 .args .list-marks .now)) _ _ _ (b10 .before .loop .p + c .piece-size .result) (rw (b3 .before .before .piece-of .ensures) at (b3 .write-piece .ensures)) (ap (λ (n : ℕ). b10 .before .loop .p + n) (planned-size (planFor (b20 .args .rule) (b20 .args .words .now) (b20 .args .starts .now) (b20 .args .ends .now)) _ (b3 .before .before .piece-of .ensures) (c .piece-size .ensures) _ _ (b20 .pre .0 .in-row))) ∙ rw ident-size), let k = b3 .write-piece .kept .1 .1 .1 .1 .0 in omega arith, b3 .write-piece .kept .1 .1 .1 .1 .0 ∙ b10 .before .loop .inv .2, omega arith)
+loop-again-2 c =
+    let b3 = c .before .before .before in
+    let b5 = b3 .before .before in
+    let b7 = b5 .before .before in
+    let b9 = b7 .before .before in
+    let b10 = b9 .before in
+    let b11 = b10 .before in
+    let b20 = b11 .before .before .before .before .before .before .before .before .before in
+    let plan = planFor (b20 .args .rule) (b20 .args .words .now) (b20 .args .starts .now) (b20 .args .ends .now) in
+    let z = rw ident-size at (sizes-step plan _ (b5 .piece-of .ensures) (c .piece-size .ensures) (b20 .args .row .now) (b20 .args .marks .now) _ (b10 .loop-test .taken) (sym (b7 .it .given .1) ∙ b9 .item-at .ensures)) in (
+      b11 .loop .inv .0 ∙ (store-next (b20 .args .row .now) (b20 .args .marks .now) _ (b10 .loop-test .taken) (sym (b7 .it .given .1) ∙ b9 .item-at .ensures) (planned plan (b20 .args .list .now) (b20 .args .list-marks .now)) _ _ _ (b11 .loop .p + c .piece-size .result) (rw (b5 .piece-of .ensures) at (b3 .write-piece .ensures)) (ap (λ (n : ℕ). b11 .loop .p + n) (planned-size plan _ (b5 .piece-of .ensures) (c .piece-size .ensures) _ _ (b20 .pre .0 .in-row))) ∙ rw ident-size),
+      let k = b3 .write-piece .kept .1 .1 .1 .1 .0 in omega arith,
+      b3 .write-piece .kept .1 .1 .1 .1 .0 ∙ b11 .loop .inv .2,
+      omega arith,
+    )
 
 same-length : tie.Need-same-length Inv-loop μ-loop
 same-length c = c .before .loop .inv .2

@@ -19,7 +19,9 @@ are-apart-requires : tie.Need-are-apart-requires
 are-apart-requires c κs = search needs
 
 write-pieces-requires : tie.Need-write-pieces-requires
-write-pieces-requires c κs = (c .before .before .before .before .before .before .before .before .before .before .before .pre .0 .0, c .before .before .before .before .before .before .before .before .before .before .before .pre .1)
+write-pieces-requires c κs =
+    let b11 = c .before .before .before .before .before .before .before .before .before .before .before in
+    (b11 .pre .0 .0, b11 .pre .1)
 
 same-length : tie.Need-same-length
 same-length c = c .before .before .write-pieces .kept .1 .1 .1 .1 .1 .1 .1 .1 .1 .0
@@ -28,7 +30,9 @@ returns : tie.Need-returns
 returns c = c .before .before .write-pieces .ensures
 
 slice-aggregate-set-keys : tie.Need-slice-aggregate-set-keys
-slice-aggregate-set-keys c = sym (used-first (planFor (c .before .before .before .before .before .before .before .before .before .before .before .args .rule) (c .before .before .before .before .before .before .before .before .before .before .before .args .words .now) (c .before .before .before .before .before .before .before .before .before .before .before .args .starts .now) (c .before .before .before .before .before .before .before .before .before .before .before .args .ends .now)) (c .before .before .before .before .before .before .before .before .before .before .before .pre .0 .0 .tabled))
+slice-aggregate-set-keys c =
+    let b11 = c .before .before .before .before .before .before .before .before .before .before .before in
+    sym (used-first (planFor (b11 .args .rule) (b11 .args .words .now) (b11 .args .starts .now) (b11 .args .ends .now)) (b11 .pre .0 .0 .tabled))
 
 slice-aggregate-set-keys-2 : tie.Need-slice-aggregate-set-keys-2
 slice-aggregate-set-keys-2 c = search needs
@@ -40,7 +44,17 @@ slice-aggregate-write-freed : tie.Need-slice-aggregate-write-freed
 slice-aggregate-write-freed c = sym (c .before .before .set-keys .kept .1 .0)
 
 write-freed-requires : tie.Need-write-freed-requires
-write-freed-requires c κs = ((splicing 0 (planFor (c .before .before .before .before .before .before .before .before .before .before .before .before .before .before .before .before .args .rule) (c .before .before .before .before .before .before .before .before .before .before .before .before .before .before .before .before .args .words .now) (c .before .before .before .before .before .before .before .before .before .before .before .before .before .before .before .before .args .starts .now) (c .before .before .before .before .before .before .before .before .before .before .before .before .before .before .before .before .args .ends .now)) (c .before .before .before .before .before .before .before .before .before .before .before .before .before .before .before .before .args .list .now) (c .before .before .before .before .before .before .before .before .before .before .before .before .before .before .before .before .args .list-marks .now) (c .before .before .before .before .before .before .before .before .before .before .before .before .before .before .before .before .args .row .now) (c .before .before .before .before .before .before .before .before .before .before .before .before .before .before .before .before .args .marks .now) (c .before .before .before .before .before .before .before .before .before .before .before .before .before .before .before .before .args .from) (c .before .before .before .before .before .before .before .before .before .before .before .before .before .before .before .before .args .at) _ (c .before .before .before .before .before .before .before .before .before .before .before .before .before .before .before .before .pre .0 .0) (c .before .before .before .before .before .before .before .before .before .before .before .before .before .before .before .before .pre .1) _ (c .before .before .before .before .before .before .before .are-apart .ensures) (not-no _ (c .before .before .before .before .before .before .if1 .left))), c .before .before .before .before .before .before .before .before .before .before .before .before .before .before .before .before .pre .0 .1, c .before .before .before .set-keys .ensures, c .before .before .before .set-keys .kept .1 .0)
+write-freed-requires c κs =
+    let b3 = c .before .before .before in
+    let b6 = b3 .before .before .before in
+    let b7 = b6 .before in
+    let b16 = b7 .before .before .before .before .before .before .before .before .before in
+    record {
+      splices = splicing 0 _ _ _ _ _ _ _ _ (b16 .pre .0 .0) (b16 .pre .1) _ (b7 .are-apart .ensures) (not-no _ (b6 .if1 .left));
+      is-free = b16 .pre .0 .1;
+      known = b3 .set-keys .ensures;
+      keys-long = b3 .set-keys .kept .1 .0;
+    }
 
 same-length-2 : tie.Need-same-length-2
 same-length-2 c = c .before .before .write-freed .kept .1 .1 .1 .1 .1 .1 .1 .1 .1 .1 .0

@@ -43,7 +43,13 @@ loop-less : tie.Need-loop-less Inv-loop μ-loop
 loop-less c = let l = c .before .loop-test .taken in omega arith
 
 loop-again : tie.Need-loop-again Inv-loop μ-loop
-loop-again c = (key-more (c .before .before .before .args .words .now) (c .before .before .loop .keys) (c .before .before .loop .i) (c .before .before .loop .inv .0) (let l = c .before .before .loop .inv .2 in omega arith), getD-set-other (c .before .before .loop .keys) (getD (c .before .before .before .args .words .now) (c .before .before .loop .i) 0 % 64) 64 1 0 (λ e. omega arith) ∙ c .before .before .loop .inv .1, length-set (c .before .before .loop .keys) (getD (c .before .before .before .args .words .now) (c .before .before .loop .i) 0 % 64) 1 ∙ c .before .before .loop .inv .2)
+loop-again c =
+    let b2 = c .before .before in
+    let b3 = b2 .before in (
+      key-more (b3 .args .words .now) (b2 .loop .keys) (b2 .loop .i) (b2 .loop .inv .0) (let l = b2 .loop .inv .2 in omega arith),
+      getD-set-other (b2 .loop .keys) (getD (b3 .args .words .now) (b2 .loop .i) 0 % 64) 64 1 0 (λ e. omega arith) ∙ b2 .loop .inv .1,
+      length-set (b2 .loop .keys) (getD (b3 .args .words .now) (b2 .loop .i) 0 % 64) 1 ∙ b2 .loop .inv .2,
+    )
 
 same-length : tie.Need-same-length Inv-loop μ-loop
 same-length c = c .before .loop .inv .2 ∙ sym (ap length (c .before .before .pre))

@@ -23,10 +23,17 @@ shared-slice-read-put-decimal : tie.Need-shared-slice-read-put-decimal
 shared-slice-read-put-decimal c = search needs
 
 put-decimal-requires : tie.Need-put-decimal-requires
-put-decimal-requires c κs = let e : c .before .before .before .before .put-byte .result ≡ c .before .before .before .before .before .before .before .before .args .o + 1 = wrote-end _ _ _ _ _ (c .before .before .before .before .put-byte .ensures) in omega arith
+put-decimal-requires c κs =
+    let b4 = c .before .before .before .before in
+    let b8 = b4 .before .before .before .before in
+    let e : b4 .put-byte .result ≡ b8 .args .o + 1 = wrote-end _ _ _ _ _ (b4 .put-byte .ensures) in omega arith
 
 put-byte-requires-2 : tie.Need-put-byte-requires-2
-put-byte-requires-2 c κs = let e : c .before .before .before .before .before .before .before .before .put-byte .result ≡ c .before .before .before .before .before .before .before .before .before .before .before .before .args .o + 1 = wrote-end _ _ _ _ _ (c .before .before .before .before .before .before .before .before .put-byte .ensures) in let f = wrote-end _ _ _ _ _ (c .before .before .before .put-decimal .ensures) in let g = decimal-few (getD (c .before .before .before .before .before .before .before .before .before .before .before .before .args .row .now) (c .before .before .before .before .before .before .before .before .before .before .before .before .args .at) 0) in omega arith
+put-byte-requires-2 c κs =
+    let b3 = c .before .before .before in
+    let b8 = b3 .before .before .before .before .before in
+    let b12 = b8 .before .before .before .before in
+    let e : b8 .put-byte .result ≡ b12 .args .o + 1 = wrote-end _ _ _ _ _ (b8 .put-byte .ensures) in let f = wrote-end _ _ _ _ _ (b3 .put-decimal .ensures) in let g = decimal-few (getD (b12 .args .row .now) (b12 .args .at) 0) in omega arith
 
 add-put-decimal : tie.Need-add-put-decimal
 add-put-decimal c = search needs
@@ -38,16 +45,42 @@ shared-slice-read-put-decimal-2 : tie.Need-shared-slice-read-put-decimal-2
 shared-slice-read-put-decimal-2 c = search needs
 
 put-decimal-requires-2 : tie.Need-put-decimal-requires-2
-put-decimal-requires-2 c κs = let e : c .before .before .before .before .before .before .before .before .before .before .before .before .before .put-byte .result ≡ c .before .before .before .before .before .before .before .before .before .before .before .before .before .before .before .before .before .args .o + 1 = wrote-end _ _ _ _ _ (c .before .before .before .before .before .before .before .before .before .before .before .before .before .put-byte .ensures) in let f = wrote-end _ _ _ _ _ (c .before .before .before .before .before .before .before .before .put-decimal .ensures) in let g = decimal-few (getD (c .before .before .before .before .before .before .before .before .before .before .before .before .before .before .before .before .before .args .row .now) (c .before .before .before .before .before .before .before .before .before .before .before .before .before .before .before .before .before .args .at) 0) in let h : c .before .before .before .before .put-byte2 .result ≡ c .before .before .before .before .before .before .before .before .put-decimal .result + 1 = wrote-end _ _ _ _ _ (c .before .before .before .before .put-byte2 .ensures) in omega arith
+put-decimal-requires-2 c κs =
+    let b4 = c .before .before .before .before in
+    let b8 = b4 .before .before .before .before in
+    let b13 = b8 .before .before .before .before .before in
+    let b17 = b13 .before .before .before .before in
+    let e : b13 .put-byte .result ≡ b17 .args .o + 1 = wrote-end _ _ _ _ _ (b13 .put-byte .ensures) in
+    let f = wrote-end _ _ _ _ _ (b8 .put-decimal .ensures) in
+    let g = decimal-few (getD (b17 .args .row .now) (b17 .args .at) 0) in
+    let h : b4 .put-byte2 .result ≡ b8 .put-decimal .result + 1 = wrote-end _ _ _ _ _ (b4 .put-byte2 .ensures) in
+    omega arith
 
 put-byte-requires-3 : tie.Need-put-byte-requires-3
-put-byte-requires-3 c κs = let e : c .before .before .before .before .before .before .before .before .before .before .before .before .before .before .before .before .before .put-byte .result ≡ c .before .before .before .before .before .before .before .before .before .before .before .before .before .before .before .before .before .before .before .before .before .args .o + 1 = wrote-end _ _ _ _ _ (c .before .before .before .before .before .before .before .before .before .before .before .before .before .before .before .before .before .put-byte .ensures) in let f = wrote-end _ _ _ _ _ (c .before .before .before .before .before .before .before .before .before .before .before .before .put-decimal .ensures) in let g = decimal-few (getD (c .before .before .before .before .before .before .before .before .before .before .before .before .before .before .before .before .before .before .before .before .before .args .row .now) (c .before .before .before .before .before .before .before .before .before .before .before .before .before .before .before .before .before .before .before .before .before .args .at) 0) in let h : c .before .before .before .before .before .before .before .before .put-byte2 .result ≡ c .before .before .before .before .before .before .before .before .before .before .before .before .put-decimal .result + 1 = wrote-end _ _ _ _ _ (c .before .before .before .before .before .before .before .before .put-byte2 .ensures) in let k = wrote-end _ _ _ _ _ (c .before .before .before .put-decimal2 .ensures) in let l = decimal-few (getD (c .before .before .before .before .before .before .before .before .before .before .before .before .before .before .before .before .before .before .before .before .before .args .row .now) (c .before .before .before .before .before .before .before .before .before .before .before .before .before .before .before .before .before .before .before .before .before .args .at + 1) 0) in omega arith
+put-byte-requires-3 c κs =
+    let b3 = c .before .before .before in
+    let b8 = b3 .before .before .before .before .before in
+    let b12 = b8 .before .before .before .before in
+    let b17 = b12 .before .before .before .before .before in
+    let b21 = b17 .before .before .before .before in
+    let e : b17 .put-byte .result ≡ b21 .args .o + 1 = wrote-end _ _ _ _ _ (b17 .put-byte .ensures) in
+    let f = wrote-end _ _ _ _ _ (b12 .put-decimal .ensures) in
+    let g = decimal-few (getD (b21 .args .row .now) (b21 .args .at) 0) in
+    let h : b8 .put-byte2 .result ≡ b12 .put-decimal .result + 1 = wrote-end _ _ _ _ _ (b8 .put-byte2 .ensures) in
+    let k = wrote-end _ _ _ _ _ (b3 .put-decimal2 .ensures) in
+    let l = decimal-few (getD (b21 .args .row .now) (b21 .args .at + 1) 0) in
+    omega arith
 
 same-length : tie.Need-same-length
 same-length c = search needs
 
 returns : tie.Need-returns
-returns c = wrote-leaf _ _ _ _ _ _ _ _ _ _ _ _ _ _ (c .before .before .before .before .before .before .before .before .before .before .before .before .before .before .before .before .before .before .before .before .put-byte .ensures) (c .before .before .before .before .before .before .before .before .before .before .before .before .before .before .before .put-decimal .ensures) (c .before .before .before .before .before .before .before .before .before .before .before .put-byte2 .ensures) (c .before .before .before .before .before .before .put-decimal2 .ensures) (c .before .before .put-byte3 .ensures)
+returns c =
+    let b6 = c .before .before .before .before .before .before in
+    let b11 = b6 .before .before .before .before .before in
+    let b15 = b11 .before .before .before .before in
+    let b20 = b15 .before .before .before .before .before in
+    wrote-leaf _ _ _ _ _ _ _ _ _ _ _ _ _ _ (b20 .put-byte .ensures) (b15 .put-decimal .ensures) (b11 .put-byte2 .ensures) (b6 .put-decimal2 .ensures) (c .before .before .put-byte3 .ensures)
 
 pub put-leaf-spec : {M : Type 1} → statement M
 put-leaf-spec =

@@ -1,0 +1,195 @@
+-- Fill on rows is fill on trees. Assumes nothing.
+use mathlib.Core.Path.{_≡_, refl, ap, sym, _∙_}
+use mathlib.Core.Bool.{Bool, true}
+use mathlib.Core.List.{List, [], _∷_, map}
+use mathlib.Core.Option.{none as absent, some}
+use Prim.Native.Nat.{ℕ, zero, suc, _+_, _-_, _≤_, _<_}
+use native.Mathlib.Omega.{arith}
+use borrow.Author.Tests.{eq-eqb, ne-eqb}
+use lib.Dec.{eqb}
+use lib.ListN.{length, getD, take, drop, replicate, length-map, length-drop}
+use Rattle.tree.specs.Form.{Form, pick, encode}
+use Rattle.tree.specs.Tag.{Sort, pred}
+use Rattle.form.specs.Decode.{rowForm, missing, formOf}
+use Rattle.form.specs.Lists.{Place, kept, filled, Entry, entry, wordOf, placeOf, listOf}
+use Rattle.form.specs.Answer.{Outcome, refusal, needs, isOne, finish}
+use Rattle.reader.specs.Internal.Reads.{mark, markEntries, emptyTable, tabled, Listing}
+use Rattle.form.specs.declared.answer.Kind.the-variants.{Predicate}
+use Rattle.form.specs.declared.answer.ListKind.the-variants.{Places}
+use Rattle.reader.specs.declared.lists.Table.{Table}
+use Rattle.form.proofs.DecodeLaws.{Ok}
+use Rattle.form.proofs.ListLaws.{GoodAll, list-sound}
+use Rattle.reader.proofs.TableLaws.{listed-words, listed-n, rows-n, listing-yes}
+use Rattle.shift.proofs.CheckedLaws.{Checked}
+use Rattle.rules.specs.Fill.{quantified, ofQuantified, fill, fillOutcome}
+use Rattle.replace.specs.Internal.Pieces.{InRow, Ready, replaced, fillPlan, declaredIn, keptWords, headWords, placedRow, isFound}
+use Rattle.listed.specs.Internal.Listed.{filledRow}
+use Rattle.replace.proofs.EntryLaws.{PlaceAt, listed-places, listed-in-row, listed-full}
+use Rattle.replace.proofs.BuildLaws.{emit-sure}
+use Rattle.replace.proofs.InsideLaws.{some-deep, fill-fits}
+use Rattle.replace.proofs.SmallLaws.{LeavesBy, listed-small}
+use Rattle.listed.proofs.CallLaws.{call-small, call-long, call-missing, call-list-long, call-no-list, call-read}
+use Rattle.replace.proofs.FillTree.{wordFor, fill-tree}
+use Rattle.replace.proofs.NameLaws.{kept-names, encode-quantify}
+use Rattle.replace.proofs.QuantLaws.{Quant, quant-tag, quant-names, quant-items, pred-sort, no-quant, the-quant, the-count}
+use Rattle.replace.proofs.ReadyLaws.{ready-is}
+
+-- what the code writes under a head
+pub filled-placed : (sure : Bool) (hd list lm row marks : List ℕ) (t : Table) (room : ℕ) → Ready (fillPlan t) list lm → hd ≡ headWords (getD row 0 0) (keptWords (take (t .n) (t .words)) (drop 2 row))
+    → placedRow sure hd t 0 list lm (drop (2 + t .n) row) (drop (2 + t .n) marks) room ≡ filledRow sure list lm row marks t room
+unfolding filledRow placedRow
+filled-placed sure hd list lm row marks t room r e = rw (ready-is t list lm 0 r, e)
+
+pub same-filled : (sure : Bool) (list lm lm′ row marks : List ℕ) (t : Table) (room : ℕ) → lm ≡ lm′ → filledRow sure list lm row marks t room ≡ filledRow sure list lm′ row marks t room
+same-filled sure list lm lm′ row marks t room e = rw e
+
+-- a quantified row filled by places is the filled tree
+module _ (f : Form) (q : Quant f) (t : Table) (list lm : List ℕ) (ps : List Place) (words : take (t .n) (t .words) ≡ map wordFor ps) (count : t .n ≡ length ps)
+    (placed : (i : ℕ) → i < length ps → PlaceAt (Unit {0}) list lm (getD (t .starts) i 0) (getD (t .ends) i 0) (getD ps i kept)) (fits : length ps ≡ length (q .decls))
+    (m : List ℕ) (marks : take (length (encode f)) m ≡ mark f 0 0 (replicate (length (encode f)) 0)) (room : ℕ)
+    (sure : Bool) (inside : sure ≡ true → length (encode (fill (q .tag) (q .decls) ps (q .body))) ≤ 8192 → isOne (rowForm pred (encode (fill (q .tag) (q .decls) ps (q .body)))) ≡ true) where
+  pub filled-tree : filledRow sure list lm (encode f) m t room ≡ finish pred room (fill (q .tag) (q .decls) ps (q .body))
+  unfolding filledRow replaced fill
+  filled-tree =
+      let most = q .most in
+      rw (
+        quant-items f q (t .n) m (count ∙ fits) marks,
+        fill-tree t list lm ps words count placed (omega arith) {d = 63} (omega arith) (q .ok),
+        quant-tag f q,
+        quant-names f q,
+        words,
+        kept-names ps (q .decls) (encode (q .body)) fits,
+        encode-quantify,
+      )
+      (emit-sure sure pred room _ inside)
+
+-- the whole call
+abbrev fillGo : ℕ → Sort → Form → List Entry → Outcome
+fillGo room s f es = ofQuantified (λ t ns b. needs 5 (eqb (length es) (length ns)) (finish pred room (fill t ns (map placeOf es) b))) 3 (quantified f)
+
+module _ (list row : List ℕ) (wl room : ℕ) where
+  pub fill-small : wl < 16384 → fillOutcome list row wl room ≡ refusal 15
+  unfolding fillOutcome
+  fill-small h = call-small Predicate Places (fillGo room) list row wl h
+
+  module _ (enough : 16384 ≤ wl) where
+    pub fill-long : 8192 < length row → fillOutcome list row wl room ≡ refusal 1
+    unfolding fillOutcome
+    fill-long h = call-long Predicate Places (fillGo room) list row wl enough h
+
+    pub fill-missing : length row ≤ 8192 → formOf Predicate row ≡ missing → fillOutcome list row wl room ≡ refusal 2
+    unfolding fillOutcome
+    fill-missing h q = call-missing Predicate Places (fillGo room) list row wl enough h q
+
+    pub fill-list-long : length row ≤ 8192 → 8192 < length list → fillOutcome list row wl room ≡ refusal (pick (isFound (formOf Predicate row)) 1 2)
+    unfolding fillOutcome
+    fill-list-long h l = call-list-long Predicate Places (fillGo room) list row wl enough h l
+
+    module _ (m : List ℕ) (x : Checked Predicate row m (length row)) where
+      module _ (short : length list ≤ 8192) where
+        pub fill-no-list : listOf Places list ≡ absent → fillOutcome list row wl room ≡ refusal 2
+        unfolding fillOutcome
+        fill-no-list o = call-no-list Predicate Places (fillGo room) list row wl enough m x short o
+
+        fill-read : (es : List Entry) → listOf Places list ≡ some es → fillOutcome list row wl room ≡ fillGo room (x .sort) (x .form) es
+        unfolding fillOutcome
+        fill-read es o = call-read Predicate Places (fillGo room) list row wl enough m x short es o
+
+        fill-counted : (es : List Entry) → listOf Places list ≡ some es → (q : Quant (x .form))
+            → fillOutcome list row wl room ≡ needs 5 (eqb (length es) (length (q .decls))) (finish pred room (fill (q .tag) (q .decls) (map placeOf es) (q .body)))
+        fill-counted es o q = fill-read es o ∙ rw (q .is)
+
+        module _ (a b : List ℕ) (t : Table) (ok : Bool) (h : Listing (listOf Places list) emptyTable t a b ok) (y : ok ≡ true) (n : ℕ) (e : n ≡ declaredIn row) where
+          pub fill-other : n ≡ 0 → fillOutcome list row wl room ≡ refusal 3
+          fill-other z =
+              let (es, o, u, k) = listing-yes _ _ _ _ _ _ h y in
+              go es o
+            where
+              go : (es : List Entry) → listOf Places list ≡ some es → fillOutcome list row wl room ≡ refusal 3
+              go es o = fill-read es o ∙ rw (no-quant row m (length row) x n e z)
+
+          pub fill-count : (n ≡ 0 → ⊥) → (t .n ≡ n → ⊥) → fillOutcome list row wl room ≡ refusal 5
+          fill-count z c =
+              let (es, o, u, k) = listing-yes _ _ _ _ _ _ h y in
+              go es o u
+            where
+              go : (es : List Entry) → listOf Places list ≡ some es → t ≡ tabled es 0 emptyTable → fillOutcome list row wl room ≡ refusal 5
+              go es o u =
+                  let q = the-quant row m (length row) x n e z in
+                  let d : length es ≡ length (q .decls) → ⊥ = λ r. c (rows-n es t u ∙ (r ∙ sym (the-count row m (length row) x n e q))) in
+                  fill-counted es o q ∙ rw (ne-eqb (length es) (length (q .decls)) d)
+
+-- the places of a list
+place-words : (es : List Entry) → GoodAll Places es → map wordOf es ≡ map wordFor (map placeOf es)
+place-words [] g = refl
+place-words (entry w kept ∷ es) g = rw (g .0, place-words es (g .1))
+place-words (entry w (filled x) ∷ es) g = rw (g .0 .0, place-words es (g .1))
+
+pub record Placing (list : List ℕ) (t : Table) (work : List ℕ) (n : ℕ) : Type 0 where
+  pub es : List Entry
+  pub is : listOf Places list ≡ some es
+  pub count : length es ≡ n
+  pub table : t ≡ tabled es 0 emptyTable
+  pub marks : take (length list) (drop 8192 work) ≡ markEntries es 0 (replicate (length list) 0)
+
+pub placing : (list work : List ℕ) (t : Table) (ok : Bool) (n : ℕ) → Listing (listOf Places list) emptyTable t (replicate (length list) 0) (take (length list) (drop 8192 work)) ok → ok ≡ true → t .n ≡ n → Placing list t work n
+placing list work t ok n h y c =
+    let (es, o, u, k) = listing-yes _ _ _ _ _ _ h y in
+    record { es = es; is = o; count = sym (rows-n es t u) ∙ c; table = u; marks = k }
+
+module _ (list : List ℕ) (t : Table) (work : List ℕ) (n : ℕ) (y : Placing list t work n) (few : n ≤ 32) where
+  table-n : t .n ≡ length (y .es)
+  table-n = rows-n (y .es) t (y .table)
+
+  es-few : length (y .es) ≤ 32
+  es-few = let c = y .count in omega arith
+
+  places-in-row : InRow (fillPlan t) (length list)
+  unfolding InRow
+  places-in-row i h = rw (y .table) (listed-in-row Places list (y .es) (y .is) es-few i (let c = table-n in omega arith))
+
+  pub places-ready : 8192 + length list ≤ length work → Ready (fillPlan t) list (drop 8192 work)
+  places-ready h =
+      let f = listed-full (y .es) t (y .table) in
+      record { tabled = record { few = (let c = table-n in let d = es-few in omega arith); words = f .0; starts = f .1; ends = f .2 }; in-row = places-in-row; marked = rw length-drop (omega arith) }
+
+  module _ (row : List ℕ) (wl room : ℕ) (enough : 16384 ≤ wl) (short : length list ≤ 8192) (x : Checked Predicate row (take (length row) work) (length row))
+      (e : n ≡ declaredIn row) (z : n ≡ 0 → ⊥) where
+    q : Quant (x .form)
+    q = the-quant row (take (length row) work) (length row) x n e z
+
+    ps-count : length (map placeOf (y .es)) ≡ length (q .decls)
+    ps-count = length-map (y .es) placeOf ∙ (y .count ∙ the-count row (take (length row) work) (length row) x n e q)
+
+    row-marks : take (length (encode (x .form))) work ≡ mark (x .form) 0 0 (replicate (length (encode (x .form))) 0)
+    row-marks = rw (x .words) at (x .marks)
+
+    fill-said : fillOutcome list row wl room ≡ finish pred room (fill (q .tag) (q .decls) (map placeOf (y .es)) (q .body))
+    fill-said = fill-counted list row wl room enough (take (length row) work) x short (y .es) (y .is) q ∙ rw (eq-eqb (length (y .es)) (length (q .decls)) (sym (length-map (y .es) placeOf) ∙ ps-count))
+
+    module _ (d : ℕ) (left : LeavesBy (t .starts) (t .ends) (t .n) list d) (b : Bool) (shallow : b ≡ true → Ok d (x .sort) (x .form)) where
+      abbrev result : Form
+      result = fill (q .tag) (q .decls) (map placeOf (y .es)) (q .body)
+
+      within : (k : ℕ) → k ≡ d → Ok k pred (x .form) → length (encode result) ≤ 8192 → isOne (rowForm pred (encode result)) ≡ true
+      within zero e o l = absurd (let h = some-deep o in omega arith)
+      within (suc k) e o l =
+          let a = left .most in
+          fill-fits (64 - d) (x .form) k o (omega arith) q (map placeOf (y .es)) ps-count (listed-small Places list (y .es) (y .is) es-few d (rw (y .table) at left) (omega arith)) l
+
+      fill-within : b ≡ true → length (encode result) ≤ 8192 → isOne (rowForm pred (encode result)) ≡ true
+      fill-within s l = within d refl (rw (pred-sort row (x .sort) (x .form) (x .is-found)) at (shallow s)) l
+
+      fill-built : filledRow b list (drop 8192 work) (encode (x .form)) work (tabled (y .es) 0 emptyTable) room ≡ finish pred room result
+      fill-built =
+          filled-tree (x .form) q (tabled (y .es) 0 emptyTable) list (drop 8192 work) (map placeOf (y .es)) (listed-words (y .es) es-few ∙ place-words (y .es) (list-sound Places list (y .es) (y .is) .1))
+          (listed-n (y .es) ∙ sym (length-map (y .es) placeOf))
+          (λ i h. listed-places Places list (y .es) (y .is) es-few (drop 8192 work) (y .marks) i (rw (length-map (y .es) placeOf) at h)) ps-count work row-marks room b fill-within
+
+      fill-made : filledRow b list (drop 8192 work) row work t room ≡ finish pred room result
+      fill-made =
+          ap (λ (u : Table). filledRow b list (drop 8192 work) row work u room) (y .table)
+          ∙ (ap (λ (r : List ℕ). filledRow b list (drop 8192 work) r work (tabled (y .es) 0 emptyTable) room) (x .words) ∙ fill-built)
+
+      pub fill-row : filledRow b list (drop 8192 work) row work t room ≡ fillOutcome list row wl room
+      fill-row = fill-made ∙ sym fill-said

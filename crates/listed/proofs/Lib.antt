@@ -1,0 +1,5 @@
+pub mod CallLaws
+pub mod ShallowLaws
+pub mod FreeLaws
+pub mod FillLaws
+pub mod TreeLaws

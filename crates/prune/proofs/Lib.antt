@@ -1,0 +1,5 @@
+pub mod ClearLaws
+pub mod FallLaws
+pub mod PruneTree
+pub mod FallTree
+pub mod PruneLaws

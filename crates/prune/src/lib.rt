@@ -1,0 +1,2 @@
+// Prune: the declarations that a quantifier never uses are dropped.
+pub mod prune;

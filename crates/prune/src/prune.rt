@@ -1,0 +1,155 @@
+// Prune: the declarations whose index the body never uses are dropped.
+use form::answer::Answer;
+use form::answer::Kind;
+use form::answer::Limit;
+use replace::heads::declared;
+use replace::heads::write_head;
+use replace::pieces::less;
+use replace::pieces::one_if;
+use replace::tables::put_words;
+use shift::slots::slot_of;
+ghost use mathlib.Core.Path.{_≡_};
+ghost use mathlib.Core.Bool.{true};
+ghost use Prim.Native.Nat.{_+_, _-_, _≤_, _<_};
+ghost use lib.ListN.{length, take, drop, replicate};
+ghost use Rattle.form.specs.Decode.{formOf};
+ghost use Rattle.form.specs.Answer.{told, written, checkOutcome};
+ghost use Rattle.reader.specs.Internal.Reads.{Marked};
+ghost use Rattle.shift.specs.Internal.Items.{Fresh, items, rewritten, apart, store};
+ghost use Rattle.rules.specs.Prune.{pruneOutcome};
+ghost use Rattle.prune.specs.Internal.Dropped.{cleared, Falls, fallenWords, droppedOutcome};
+
+// A word for each of n declarations, the outermost first, behind one that is passed over: sets the word of each declaration that the items
+// from `from` on use to 0.
+fn clear_used(row: &[u32], marks: &[u32], from: usize, n: u32, words: &mut [u32])
+    requires { ⌜ (n ≤ 32) × (length (now words) ≡ n + 1) × (length (now row) ≤ length (now marks)) × (from < length (now row)) × (apart n (drop from (now row)) (drop from (now marks)) ≡ true) ⌝ }
+    ensures { λ _. ⌜ drop 1 (now (words .exit)) ≡ cleared n (drop 1 (now (words .entry))) (items (drop from (now (row .entry))) (drop from (now (marks .entry)))) ⌝ }
+{
+    let mut i = from + 1;
+    while i < row.len() {
+        let slot = slot_of(marks[i - 1], row[i - 1], row[i], n, 0);
+        words[slot] = 0;
+        i += 1;
+    }
+}
+
+// For each slot, how many declarations inside it are dropped.
+fn count_falls(words: &[u32], falls: &mut [u32])
+    requires { ⌜ length (now words) ≤ 32 ⌝ }
+    requires { ⌜ length (now words) < length (now falls) ⌝ }
+    ensures { λ _. ⌜ Falls (now (words .entry)) (now (falls .exit)) ⌝ }
+{
+    let mut s = words.len();
+    let mut gone = 0u32;
+    falls[s] = 0;
+    while 0 < s {
+        s -= 1;
+        gone += one_if(words[s]);
+        falls[s] = gone;
+    }
+}
+
+// The items from `from` on with their indices fallen, stored at `at`.
+fn write_fallen(
+    words: &[u32],
+    falls: &[u32],
+    row: &[u32],
+    marks: &[u32],
+    from: usize,
+    out: &mut [u32],
+    at: usize,
+)
+    requires { ⌜ (length (now words) ≤ 32) × (length (now words) < length (now falls)) × Falls (now words) (now falls) ⌝ }
+    requires { ⌜ (length (now row) ≤ length (now marks)) × (from < length (now row)) × (apart (length (now words)) (drop from (now row)) (drop from (now marks)) ≡ true) ⌝ }
+    requires { ⌜ at + (length (now row) - from) ≤ length (now out) ⌝ }
+    ensures { λ _. ⌜ now (out .exit) ≡ store (now (out .entry)) at (rewritten (fallenWords (now (words .entry))) (items (drop from (now (row .entry))) (drop from (now (marks .entry))))) ⌝ }
+{
+    let n = words.len() as u32;
+    out[at] = row[from];
+    let mut i = from + 1;
+    let mut p = at + 1;
+    while i < row.len() {
+        let slot = slot_of(marks[i - 1], row[i - 1], row[i], n, n);
+        out[p] = less(row[i], falls[slot]);
+        p += 1;
+        i += 1;
+    }
+}
+
+// The row without the declarations whose word is not 0: 9 where no word is, 14 where the output row is shorter.
+fn drop_decls(words: &[u32], row: &[u32], marks: &[u32], out: &mut [u32]) -> Answer
+    requires { ⌜ length (now words) ≤ 32 ⌝ }
+    requires { ⌜ 2 + length (now words) < length (now row) ⌝ }
+    requires { ⌜ length (now row) ≤ length (now marks) ⌝ }
+    requires { ⌜ apart (length (now words)) (drop (2 + length (now words)) (now row)) (drop (2 + length (now words)) (now marks)) ≡ true ⌝ }
+    ensures { λ r. ⌜ r ≡ told (droppedOutcome (now (words .entry)) (now (row .entry)) (now (marks .entry)) (length (now (out .entry)))) ⌝ }
+    ensures { λ _. ⌜ now (out .exit) ≡ written (droppedOutcome (now (words .entry)) (now (row .entry)) (now (marks .entry)) (length (now (out .entry)))) (now (out .entry)) ⌝ }
+{
+    let mut falls = [0u32; 33];
+    count_falls(words, &mut falls);
+    if falls[0] == 0 {
+        return Answer::No(9);
+    }
+    let mut head = [0u32; 34];
+    let h = write_head(words, row, &mut head);
+    let from = 2 + words.len();
+    let n = h + (row.len() - from);
+    if out.len() < n {
+        return Answer::No(14);
+    }
+    put_words(&head[..h], out, 0);
+    write_fallen(words, &falls, row, marks, from, out, h);
+    Answer::Done(n)
+}
+
+// The check of the row, which marks it at the start of marks that hold 0.
+fn mark_fresh(row: &[u32], kind: Kind, marks: &mut [u32]) -> Answer
+    requires { ⌜ Fresh (now row) (now marks) ⌝ }
+    ensures { λ r. ⌜ r ≡ told (checkOutcome kind (now (row .entry))) ⌝ }
+    ensures { λ _. ⌜ Marked (formOf kind (now (row .entry))) (replicate (length (now (row .entry))) 0) (take (length (now (row .entry))) (now (marks .exit))) ⌝ }
+{
+    reader::check::mark(row, kind, marks)
+}
+
+// Prune with marks of its own. What is left is within the limits whenever the row is, so it is not checked.
+fn prune_in(row: &[u32], marks: &mut [u32], out: &mut [u32]) -> Answer
+    requires { ⌜ Fresh (now row) (now marks) ⌝ }
+    ensures { λ r. ⌜ r ≡ told (pruneOutcome (now (row .entry)) (length (now (out .entry)))) ⌝ }
+    ensures { λ _. ⌜ now (out .exit) ≡ written (pruneOutcome (now (row .entry)) (length (now (out .entry)))) (now (out .entry)) ⌝ }
+{
+    let Answer::Done(k) = mark_fresh(row, Kind::Predicate, marks) else {
+        return Answer::No(2);
+    };
+    let n = declared(row);
+    if n == 0 {
+        return Answer::No(3);
+    }
+    let m = n as usize;
+    let mut words = [1u32; 33];
+    clear_used(row, marks, 2 + m, n, &mut words[..m + 1]);
+    drop_decls(&words[1..m + 1], row, marks, out)
+}
+
+// Drops the declarations that the body never uses.
+pub fn remove_unused_decls(row: &[u32], out: &mut [u32]) -> Answer
+    ensures { λ r. ⌜ r ≡ told (pruneOutcome (now (row .entry)) (length (now (out .entry)))) ⌝ }
+    ensures { λ _. ⌜ now (out .exit) ≡ written (pruneOutcome (now (row .entry)) (length (now (out .entry)))) (now (out .entry)) ⌝ }
+{
+    if row.len() <= 64 {
+        let mut marks = [0u32; 64];
+        return prune_in(row, &mut marks, out);
+    }
+    if row.len() <= 512 {
+        let mut marks = [0u32; 512];
+        return prune_in(row, &mut marks, out);
+    }
+    if row.len() <= 2048 {
+        let mut marks = [0u32; 2048];
+        return prune_in(row, &mut marks, out);
+    }
+    if Limit::WORDS < row.len() {
+        return Answer::No(1);
+    }
+    let mut marks = [0u32; 8192];
+    prune_in(row, &mut marks, out)
+}
