@@ -12,6 +12,7 @@ pub mod ChildrenLaws
 pub mod JunctionLaws
 pub mod NodeLaws
 pub mod ScanMarkLaws
+pub mod TwiceLaws
 pub mod ImpliesLaws
 pub mod PartialLaws
 pub mod ScanLimits

@@ -110,7 +110,7 @@ first-word pos end t out ws h w =
     let a : getD (take end out) pos 0 ≡ getD out pos 0 = getD-take end out pos 0 (omega (arith, w .0)) in
     sym a ∙ rw (w .1) (getD-at (take pos out) t ws 0 pos l)
 
-after-word : (pos end t : ℕ) (out ws : List ℕ) → pos < length out → Wrote pos out (t ∷ ws) end out → Wrote (pos + 1) out ws end out
+pub after-word : (pos end t : ℕ) (out ws : List ℕ) → pos < length out → Wrote pos out (t ∷ ws) end out → Wrote (pos + 1) out ws end out
 unfolding Wrote
 after-word pos end t out ws h w =
     let f : getD out pos 0 ≡ t = first-word pos end t out ws h w in

@@ -11,6 +11,7 @@ use crate::writes::copy_part;
 use crate::writes::finish_junction;
 use crate::writes::finish_marks;
 use crate::writes::finish_not;
+use crate::writes::finish_twice;
 use form::head::Step;
 use places::positions::both_pairs;
 use places::positions::skip_expr;
@@ -21,6 +22,7 @@ ghost use mathlib.Core.Path.{_≡_};
 ghost use mathlib.Core.Bool.{true, false};
 ghost use mathlib.Core.Option.{some};
 ghost use Prim.Native.Nat.{_+_, _-_, _*_, _≤_};
+ghost use lib.Dec.{eqb};
 ghost use lib.ListN.{length, getD};
 ghost use Rattle.tree.specs.Form.{pick};
 ghost use Rattle.rules.specs.Replacement.{Taken, nothing};
@@ -195,6 +197,16 @@ fn start_of(gone: bool, pos: usize, end: usize) -> usize
     end
 }
 
+// Whether a not stands at `at`.
+fn is_not(row: &[u32], at: usize) -> bool
+    ensures { λ r. ⌜ r ≡ eqb (getD (now (row .entry)) at 0) 8 ⌝ }
+{
+    if row.len() <= at {
+        return false;
+    }
+    row[at] == Tag::NOT
+}
+
 // The predicate at `at`, for n declarations and with a polarity; what is left of it is written at `pos`.
 pub(crate) fn scan_pred(
     row: &[u32],
@@ -218,6 +230,9 @@ pub(crate) fn scan_pred(
     }
     let tag = row[at];
     if tag == Tag::NOT {
+        if is_not(row, at + 1) {
+            return scan_twice(row, at, depth, n, positive, out, marks, pos);
+        }
         return scan_not(row, at, depth, n, positive, out, marks, pos);
     }
     if positive {
@@ -268,6 +283,42 @@ fn scan_not(
         };
     }
     let end = finish_not(out, marks, pos, s.end);
+    Scanned {
+        ok: true,
+        next: s.next,
+        found: found,
+        gone: false,
+        end: end,
+    }
+}
+
+// Two nots one in the other: their child with the same polarity, and what is left of it negated twice, which mostly is as it stands.
+fn scan_twice(
+    row: &[u32],
+    at: usize,
+    depth: u32,
+    n: usize,
+    positive: bool,
+    out: &mut [u32],
+    marks: &mut [u32],
+    pos: usize,
+) -> Scanned
+    requires { ⌜ Room (now row) depth at pos (length (now out)) × (n ≤ 32) × Entered (now row) depth at × (getD (now row) at 0 ≡ 8) × Clean (now row) at pos (now marks) × (getD (now row) (at + 1) 0 ≡ 8) ⌝ }
+    ensures { λ r. ⌜ ScanTold (scan n positive) (now (row .entry)) depth at pos (now (out .entry)) r (now (out .exit)) ⌝ }
+    ensures { λ _. ⌜ ScanMarks (scan n positive) (now (row .entry)) depth at pos (now (marks .entry)) (now (marks .exit)) ⌝ }
+{
+    if depth < 2 {
+        return no_pred();
+    }
+    let s = scan_pred(row, at + 2, depth - 2, n, positive, out, marks, pos);
+    if !s.ok {
+        return s;
+    }
+    if s.gone {
+        return s;
+    }
+    let found = s.found;
+    let end = finish_twice(out, marks, pos, s.end);
     Scanned {
         ok: true,
         next: s.next,

@@ -4,7 +4,7 @@ use tree::tag::Tag;
 ghost use mathlib.Core.Path.{_≡_};
 ghost use mathlib.Core.List.{List};
 ghost use Prim.Native.Nat.{ℕ, _+_, _-_, _<_, _≤_};
-ghost use lib.ListN.{length, take, drop};
+ghost use lib.ListN.{length, getD, take, drop};
 ghost use Rattle.tree.specs.Form.{Form, Forms, count, encode, encodeAll};
 ghost use Rattle.reader.specs.Internal.Reads.{mark, markAll};
 ghost use Rattle.rules.specs.Scan.{negate, joined};
@@ -102,4 +102,20 @@ pub(crate) fn finish_not(out: &mut [u32], marks: &mut [u32], pos: usize, end: us
     }
     out[pos] = Tag::NOT;
     end
+}
+
+// The predicate that stands at `pos`, negated twice, with its marks: only of two nots one in the other is anything changed, which are gone.
+pub(crate) fn finish_twice(out: &mut [u32], marks: &mut [u32], pos: usize, end: usize) -> usize
+    requires { ⌜ (pos < end) × (end ≤ length (now out)) × (end ≤ length (now marks)) × (getD (now out) pos 0 ≡ 8 → pos + 2 ≤ end) ⌝ }
+    ensures { λ r. ⌜ ((f : Form) → Neat f → Wrote pos (now (out .entry)) (encode f) end (now (out .entry)) → Wrote pos (now (out .entry)) (encode (negate (negate f))) r (now (out .exit))) ⌝ }
+    ensures { λ _. ⌜ ((f : Form) (ms : List ℕ) → Neat f → Wrote pos (now (out .entry)) (encode f) end (now (out .entry)) → ClearFrom pos ms → now (marks .entry) ≡ mark f pos 0 ms → now (marks .exit) ≡ mark (negate (negate f)) pos 0 ms) ⌝ }
+{
+    if out[pos] != Tag::NOT {
+        return end;
+    }
+    if out[pos + 1] != Tag::NOT {
+        return end;
+    }
+    move_marks_down(marks, pos, end);
+    move_down(out, pos, end)
 }

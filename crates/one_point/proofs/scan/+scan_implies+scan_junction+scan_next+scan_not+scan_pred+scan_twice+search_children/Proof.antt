@@ -1,4 +1,4 @@
--- The proof of the cycle of calls {scan_implies, scan_junction, scan_next, scan_not, scan_pred, search_children}. The measure is four times the words that are left, and a little more for a
+-- The proof of the cycle of calls {scan_implies, scan_junction, scan_next, scan_not, scan_pred, scan_twice, search_children}. The measure is four times the words that are left, and a little more for a
 -- function that calls another at the same place. Assumes nothing.
 use mathlib.Core.Path.{_≡_, refl, sym, _∙_}
 use mathlib.Core.Bool.{true, not}
@@ -6,7 +6,7 @@ use mathlib.Core.List.{List}
 use Prim.Native.Nat.{ℕ, _+_, _-_, _*_, _≤_, _<_}
 use native.Mathlib.Omega.{arith}
 use borrow.Author.Needs.{needs}
-use borrow.Author.Tests.{not-true, not-false}
+use borrow.Author.Tests.{not-true, not-false, eqb-true}
 use borrow.Fn.Kinds.{In}
 use borrow.Fn.PlainCycle.{Measures, is, falls, and}
 use lib.ListN.{length, getD, set, length-set}
@@ -19,6 +19,7 @@ use Rattle.places.specs.declared.sides.Replacement.{Replacement}
 use Rattle.places.specs.declared.sides.Replacement.the-variants.{Not}
 use Rattle.one_point.proofs.ReadLaws.{told-ok, told-no, tell-no, bounds, none-past, none-deep, no-count, few-count, junction-got, junction-no}
 use Rattle.one_point.proofs.BecameLaws.{child-room, not-no, not-gone, not-became}
+use Rattle.one_point.proofs.TwiceLaws.{twice-shallow, second-in, twice-no, twice-gone, twice-room, twice-became, twice-gone-marks, twice-marks}
 use Rattle.one_point.proofs.ImpliesLaws.{left-no, right-no, right-alone, both-left, left-alone, alone-marks, both-marks, left-only-marks, start-low, start-pos, start-end}
 use Rattle.one_point.proofs.ChildrenLaws.{kids-none, kids-bad, kids-read, kids-inside, kids-copied}
 use Rattle.one_point.proofs.JunctionLaws.{child-same, child-passed, child-taken, child-ends, passed-marks, taken-marks, over-marks, lost-marks, search-lost, search-over, one-at-most}
@@ -27,26 +28,30 @@ use Rattle.one_point.proofs.MarkLaws.{no-marks}
 use Rattle.one_point.proofs.ScanMarkLaws.{quiet-marks, child-marks, clean-in, clean-after, start-clean, not-gone-marks, not-marks, next-copied-marks, next-scanned-marks, other-marks}
 use Rattle.one_point.proofs.scan.scan_implies.Reads as scan-implies
 use Rattle.one_point.proofs.scan.scan_implies.Kinds as scan-implies-kinds
-use Rattle.one_point.proofs.scan.+scan_implies+scan_junction+scan_next+scan_not+scan_pred+search_children.Lts-scan_implies as scan-implies-lts
+use Rattle.one_point.proofs.scan.+scan_implies+scan_junction+scan_next+scan_not+scan_pred+scan_twice+search_children.Lts-scan_implies as scan-implies-lts
 use Rattle.one_point.proofs.scan.scan_junction.Reads as scan-junction
 use Rattle.one_point.proofs.scan.scan_junction.Kinds as scan-junction-kinds
-use Rattle.one_point.proofs.scan.+scan_implies+scan_junction+scan_next+scan_not+scan_pred+search_children.Lts-scan_junction as scan-junction-lts
+use Rattle.one_point.proofs.scan.+scan_implies+scan_junction+scan_next+scan_not+scan_pred+scan_twice+search_children.Lts-scan_junction as scan-junction-lts
 use Rattle.one_point.proofs.scan.scan_next.Reads as scan-next
 use Rattle.one_point.proofs.scan.scan_next.Kinds as scan-next-kinds
-use Rattle.one_point.proofs.scan.+scan_implies+scan_junction+scan_next+scan_not+scan_pred+search_children.Lts-scan_next as scan-next-lts
+use Rattle.one_point.proofs.scan.+scan_implies+scan_junction+scan_next+scan_not+scan_pred+scan_twice+search_children.Lts-scan_next as scan-next-lts
 use Rattle.one_point.proofs.scan.scan_not.Reads as scan-not
 use Rattle.one_point.proofs.scan.scan_not.Kinds as scan-not-kinds
-use Rattle.one_point.proofs.scan.+scan_implies+scan_junction+scan_next+scan_not+scan_pred+search_children.Lts-scan_not as scan-not-lts
+use Rattle.one_point.proofs.scan.+scan_implies+scan_junction+scan_next+scan_not+scan_pred+scan_twice+search_children.Lts-scan_not as scan-not-lts
 use Rattle.one_point.proofs.scan.scan_pred.Reads as scan-pred
 use Rattle.one_point.proofs.scan.scan_pred.Kinds as scan-pred-kinds
-use Rattle.one_point.proofs.scan.+scan_implies+scan_junction+scan_next+scan_not+scan_pred+search_children.Lts-scan_pred as scan-pred-lts
+use Rattle.one_point.proofs.scan.+scan_implies+scan_junction+scan_next+scan_not+scan_pred+scan_twice+search_children.Lts-scan_pred as scan-pred-lts
+use Rattle.one_point.proofs.scan.scan_twice.Reads as scan-twice
+use Rattle.one_point.proofs.scan.scan_twice.Kinds as scan-twice-kinds
+use Rattle.one_point.proofs.scan.+scan_implies+scan_junction+scan_next+scan_not+scan_pred+scan_twice+search_children.Lts-scan_twice as scan-twice-lts
 use Rattle.one_point.proofs.scan.search_children.Reads as search-children
 use Rattle.one_point.proofs.scan.search_children.Kinds as search-children-kinds
-use Rattle.one_point.proofs.scan.+scan_implies+scan_junction+scan_next+scan_not+scan_pred+search_children.Lts-search_children as search-children-lts
+use Rattle.one_point.proofs.scan.+scan_implies+scan_junction+scan_next+scan_not+scan_pred+scan_twice+search_children.Lts-search_children as search-children-lts
 use Rattle.one_point.proofs.children.one_more.Reads as one-more-reads
 use Rattle.one_point.proofs.children.mark_preds.Reads as mark-preds-reads
 use Rattle.one_point.proofs.parts.is_taken.Reads as is-taken-reads
 use Rattle.one_point.proofs.scan.copy_pred.Reads as copy-pred-reads
+use Rattle.one_point.proofs.scan.is_not.Reads as is-not-reads
 use Rattle.one_point.proofs.scan.no_pred.Reads as no-pred-reads
 use Rattle.one_point.proofs.scan.scan_equality.Reads as scan-equality-reads
 use Rattle.one_point.proofs.scan.start_of.Reads as start-of-reads
@@ -54,8 +59,9 @@ use Rattle.one_point.proofs.writes.copy_part.Reads as copy-part-reads
 use Rattle.one_point.proofs.writes.finish_marks.Reads as finish-marks-reads
 use Rattle.one_point.proofs.writes.finish_junction.Reads as finish-junction-reads
 use Rattle.one_point.proofs.writes.finish_not.Reads as finish-not-reads
-use Rattle.one_point.proofs.scan.+scan_implies+scan_junction+scan_next+scan_not+scan_pred+search_children.{statement}
-use Rattle.one_point.proofs.scan.+scan_implies+scan_junction+scan_next+scan_not+scan_pred+search_children.Tie.{close}
+use Rattle.one_point.proofs.writes.finish_twice.Reads as finish-twice-reads
+use Rattle.one_point.proofs.scan.+scan_implies+scan_junction+scan_next+scan_not+scan_pred+scan_twice+search_children.{statement}
+use Rattle.one_point.proofs.scan.+scan_implies+scan_junction+scan_next+scan_not+scan_pred+scan_twice+search_children.Tie.{close}
 
 abbrev μ-scan-implies : Measures 3 scan-implies-kinds.ps ℕ
 μ-scan-implies κs a = 4 * (length (a .0 .now) - a .1 .0)
@@ -71,6 +77,9 @@ abbrev μ-scan-not : Measures 3 scan-not-kinds.ps ℕ
 
 abbrev μ-scan-pred : Measures 3 scan-pred-kinds.ps ℕ
 μ-scan-pred κs a = 4 * (length (a .0 .now) - a .1 .0) + 1
+
+abbrev μ-scan-twice : Measures 3 scan-twice-kinds.ps ℕ
+μ-scan-twice κs a = 4 * (length (a .0 .now) - a .1 .0)
 
 abbrev μ-search-children : Measures 3 search-children-kinds.ps ℕ
 μ-search-children κs a = 4 * (length (a .0 .now) - a .1 .0) + 3
@@ -105,6 +114,12 @@ scan-pred-at t = and 3 scan-pred-kinds.ps (is 3 scan-pred-kinds.ps μ-scan-pred 
 abbrev scan-pred-below : ℕ → In 3 scan-pred-kinds.ps
 scan-pred-below t = and 3 scan-pred-kinds.ps (falls 3 scan-pred-kinds.ps _<_ μ-scan-pred t) scan-pred.Pre
 
+abbrev scan-twice-at : ℕ → In 3 scan-twice-kinds.ps
+scan-twice-at t = and 3 scan-twice-kinds.ps (is 3 scan-twice-kinds.ps μ-scan-twice t) scan-twice.Pre
+
+abbrev scan-twice-below : ℕ → In 3 scan-twice-kinds.ps
+scan-twice-below t = and 3 scan-twice-kinds.ps (falls 3 scan-twice-kinds.ps _<_ μ-scan-twice t) scan-twice.Pre
+
 abbrev search-children-at : ℕ → In 3 search-children-kinds.ps
 search-children-at t = and 3 search-children-kinds.ps (is 3 search-children-kinds.ps μ-search-children t) search-children.Pre
 
@@ -124,7 +139,10 @@ abbrev scan-not-calls : ℕ → scan-not-lts.Claims
 scan-not-calls t = (scan-pred-below t, scan-pred.Post, finish-not-reads.Asked, finish-not-reads.Learnt)
 
 abbrev scan-pred-calls : ℕ → scan-pred-lts.Claims
-scan-pred-calls t = (no-pred-reads.Asked, no-pred-reads.Learnt, scan-not-below t, scan-not.Post, scan-equality-reads.Asked, scan-equality-reads.Learnt, scan-junction-below t, scan-junction.Post, copy-pred-reads.Asked, copy-pred-reads.Learnt, scan-implies-below t, scan-implies.Post)
+scan-pred-calls t = (no-pred-reads.Asked, no-pred-reads.Learnt, is-not-reads.Asked, is-not-reads.Learnt, scan-twice-below t, scan-twice.Post, scan-not-below t, scan-not.Post, scan-equality-reads.Asked, scan-equality-reads.Learnt, scan-junction-below t, scan-junction.Post, copy-pred-reads.Asked, copy-pred-reads.Learnt, scan-implies-below t, scan-implies.Post)
+
+abbrev scan-twice-calls : ℕ → scan-twice-lts.Claims
+scan-twice-calls t = (no-pred-reads.Asked, no-pred-reads.Learnt, scan-pred-below t, scan-pred.Post, finish-twice-reads.Asked, finish-twice-reads.Learnt)
 
 abbrev search-children-calls : ℕ → search-children-lts.Claims
 search-children-calls t = (scan-pred-below t, scan-pred.Post, one-more-reads.Asked, one-more-reads.Learnt, is-taken-reads.Asked, is-taken-reads.Learnt)
@@ -381,8 +399,14 @@ scan-pred-mul-tag t c = search needs
 scan-pred-shared-slice-read-tag : (t : ℕ) → scan-pred-lts.Need-shared-slice-read-tag (scan-pred-calls t) (scan-pred-at t) scan-pred.Post
 scan-pred-shared-slice-read-tag t c = search needs
 
-scan-pred-scan-not-requires : (t : ℕ) → scan-pred-lts.Need-scan-not-requires (scan-pred-calls t) (scan-pred-at t) scan-pred.Post
-scan-pred-scan-not-requires t c κs = let b4 = c .before .before .before .before in let b5 = b4 .before in let b9 = b5 .before .before .before .before in (omega arith, (b9 .pre .1 .0, b9 .pre .1 .1, record { inside = b4 .if2 .left; deeper = let z = b5 .if1 .left in omega arith }, c .before .before .if3 .taken, b9 .pre .1 .2))
+scan-pred-add-is-not : (t : ℕ) → scan-pred-lts.Need-add-is-not (scan-pred-calls t) (scan-pred-at t) scan-pred.Post
+scan-pred-add-is-not t c = search needs
+
+scan-pred-is-not-requires : (t : ℕ) → scan-pred-lts.Need-is-not-requires (scan-pred-calls t) (scan-pred-at t) scan-pred.Post
+scan-pred-is-not-requires t c κs = search needs
+
+scan-pred-scan-twice-requires : (t : ℕ) → scan-pred-lts.Need-scan-twice-requires (scan-pred-calls t) (scan-pred-at t) scan-pred.Post
+scan-pred-scan-twice-requires t c κs = let b3 = c .before .before .before in let b4 = b3 .before in let b6 = b4 .before .before in let b7 = b6 .before in let b11 = b7 .before .before .before .before in (omega arith, (b11 .pre .1 .0, b11 .pre .1 .1, record { inside = b6 .if2 .left; deeper = let z = b7 .if1 .left in omega arith }, b4 .if3 .taken, b11 .pre .1 .2, eqb-true (getD (b11 .args .row .now) (b11 .args .at + 1) 0) 8 (sym (b3 .is-not .ensures) ∙ c .before .before .if4 .taken)))
 
 scan-pred-same-length : (t : ℕ) → scan-pred-lts.Need-same-length (scan-pred-calls t) (scan-pred-at t) scan-pred.Post
 scan-pred-same-length t c = search needs
@@ -391,10 +415,10 @@ scan-pred-same-length-2 : (t : ℕ) → scan-pred-lts.Need-same-length-2 (scan-p
 scan-pred-same-length-2 t c = search needs
 
 scan-pred-returns-3 : (t : ℕ) → scan-pred-lts.Need-returns-3 (scan-pred-calls t) (scan-pred-at t) scan-pred.Post
-scan-pred-returns-3 t c = let b4 = c .before .before .before .before in b4 .scan-not .ensures
+scan-pred-returns-3 t c = let b4 = c .before .before .before .before in b4 .scan-twice .ensures
 
-scan-pred-scan-equality-requires : (t : ℕ) → scan-pred-lts.Need-scan-equality-requires (scan-pred-calls t) (scan-pred-at t) scan-pred.Post
-scan-pred-scan-equality-requires t c κs = let b6 = c .before .before .before .before .before .before in let b7 = b6 .before in let b11 = b7 .before .before .before .before in (b11 .pre .1 .0, b11 .pre .1 .1, record { inside = b6 .if2 .left; deeper = let z = b7 .if1 .left in omega arith }, c .before .before .if5 .taken, b11 .pre .1 .2)
+scan-pred-scan-not-requires : (t : ℕ) → scan-pred-lts.Need-scan-not-requires (scan-pred-calls t) (scan-pred-at t) scan-pred.Post
+scan-pred-scan-not-requires t c κs = let b4 = c .before .before .before .before in let b6 = b4 .before .before in let b7 = b6 .before in let b11 = b7 .before .before .before .before in (omega arith, (b11 .pre .1 .0, b11 .pre .1 .1, record { inside = b6 .if2 .left; deeper = let z = b7 .if1 .left in omega arith }, b4 .if3 .taken, b11 .pre .1 .2))
 
 scan-pred-same-length-3 : (t : ℕ) → scan-pred-lts.Need-same-length-3 (scan-pred-calls t) (scan-pred-at t) scan-pred.Post
 scan-pred-same-length-3 t c = search needs
@@ -403,10 +427,10 @@ scan-pred-same-length-4 : (t : ℕ) → scan-pred-lts.Need-same-length-4 (scan-p
 scan-pred-same-length-4 t c = search needs
 
 scan-pred-returns-4 : (t : ℕ) → scan-pred-lts.Need-returns-4 (scan-pred-calls t) (scan-pred-at t) scan-pred.Post
-scan-pred-returns-4 t c = let b4 = c .before .before .before .before in let b8 = b4 .before .before .before .before in rw (b8 .if4 .taken) (b4 .scan-equality .ensures)
+scan-pred-returns-4 t c = let b4 = c .before .before .before .before in b4 .scan-not .ensures
 
-scan-pred-scan-junction-requires : (t : ℕ) → scan-pred-lts.Need-scan-junction-requires (scan-pred-calls t) (scan-pred-at t) scan-pred.Post
-scan-pred-scan-junction-requires t c κs = let b4 = c .before .before .before .before in let b7 = b4 .before .before .before in let b8 = b7 .before in let b12 = b8 .before .before .before .before in (omega arith, (b12 .pre .1 .0, b12 .pre .1 .1, record { inside = b7 .if2 .left; deeper = let z = b8 .if1 .left in omega arith }, role-and _ _ (c .before .before .if6 .taken) (b4 .if4 .taken), b12 .pre .1 .2))
+scan-pred-scan-equality-requires : (t : ℕ) → scan-pred-lts.Need-scan-equality-requires (scan-pred-calls t) (scan-pred-at t) scan-pred.Post
+scan-pred-scan-equality-requires t c κs = let b6 = c .before .before .before .before .before .before in let b7 = b6 .before in let b11 = b7 .before .before .before .before in (b11 .pre .1 .0, b11 .pre .1 .1, record { inside = b6 .if2 .left; deeper = let z = b7 .if1 .left in omega arith }, c .before .before .if6 .taken, b11 .pre .1 .2)
 
 scan-pred-same-length-5 : (t : ℕ) → scan-pred-lts.Need-same-length-5 (scan-pred-calls t) (scan-pred-at t) scan-pred.Post
 scan-pred-same-length-5 t c = search needs
@@ -415,10 +439,10 @@ scan-pred-same-length-6 : (t : ℕ) → scan-pred-lts.Need-same-length-6 (scan-p
 scan-pred-same-length-6 t c = search needs
 
 scan-pred-returns-5 : (t : ℕ) → scan-pred-lts.Need-returns-5 (scan-pred-calls t) (scan-pred-at t) scan-pred.Post
-scan-pred-returns-5 t c = let b4 = c .before .before .before .before in b4 .scan-junction .ensures
+scan-pred-returns-5 t c = let b4 = c .before .before .before .before in let b8 = b4 .before .before .before .before in rw (b8 .if5 .taken) (b4 .scan-equality .ensures)
 
-scan-pred-copy-pred-requires : (t : ℕ) → scan-pred-lts.Need-copy-pred-requires (scan-pred-calls t) (scan-pred-at t) scan-pred.Post
-scan-pred-copy-pred-requires t c κs = let b12 = c .before .before .before .before .before .before .before .before .before .before .before .before in (b12 .pre .1 .0, b12 .pre .1 .2)
+scan-pred-scan-junction-requires : (t : ℕ) → scan-pred-lts.Need-scan-junction-requires (scan-pred-calls t) (scan-pred-at t) scan-pred.Post
+scan-pred-scan-junction-requires t c κs = let b4 = c .before .before .before .before in let b7 = b4 .before .before .before in let b8 = b7 .before in let b12 = b8 .before .before .before .before in (omega arith, (b12 .pre .1 .0, b12 .pre .1 .1, record { inside = b7 .if2 .left; deeper = let z = b8 .if1 .left in omega arith }, role-and _ _ (c .before .before .if7 .taken) (b4 .if5 .taken), b12 .pre .1 .2))
 
 scan-pred-same-length-7 : (t : ℕ) → scan-pred-lts.Need-same-length-7 (scan-pred-calls t) (scan-pred-at t) scan-pred.Post
 scan-pred-same-length-7 t c = search needs
@@ -427,10 +451,10 @@ scan-pred-same-length-8 : (t : ℕ) → scan-pred-lts.Need-same-length-8 (scan-p
 scan-pred-same-length-8 t c = search needs
 
 scan-pred-returns-6 : (t : ℕ) → scan-pred-lts.Need-returns-6 (scan-pred-calls t) (scan-pred-at t) scan-pred.Post
-scan-pred-returns-6 t c = let b4 = c .before .before .before .before in let b7 = b4 .before .before .before in let b8 = b7 .before in let b9 = b8 .before in let b10 = b9 .before in let b17 = b10 .before .before .before .before .before .before .before in (other-told (b17 .args .row .now) (b17 .args .depth) (b17 .args .at) (b17 .args .n) (b17 .args .pos) (b17 .args .positive) (b17 .args .out .now) _ _ (no-entry _ _ (b9 .if4 .taken) (b10 .if3 .left) (b7 .if6 .left) (b8 .if5 .left)) (b4 .copy-pred .ensures .0), other-marks (b17 .args .row .now) (b17 .args .depth) (b17 .args .at) (b17 .args .n) (b17 .args .pos) (b17 .args .positive) (b17 .args .marks .now) _ (no-entry _ _ (b9 .if4 .taken) (b10 .if3 .left) (b7 .if6 .left) (b8 .if5 .left)) (b4 .copy-pred .ensures .1))
+scan-pred-returns-6 t c = let b4 = c .before .before .before .before in b4 .scan-junction .ensures
 
-scan-pred-scan-junction-requires-2 : (t : ℕ) → scan-pred-lts.Need-scan-junction-requires-2 (scan-pred-calls t) (scan-pred-at t) scan-pred.Post
-scan-pred-scan-junction-requires-2 t c κs = let b3 = c .before .before .before in let b6 = b3 .before .before .before in let b7 = b6 .before in let b11 = b7 .before .before .before .before in (omega arith, (b11 .pre .1 .0, b11 .pre .1 .1, record { inside = b6 .if2 .left; deeper = let z = b7 .if1 .left in omega arith }, role-or _ _ (c .before .before .if7 .taken) (b3 .if4 .left), b11 .pre .1 .2))
+scan-pred-copy-pred-requires : (t : ℕ) → scan-pred-lts.Need-copy-pred-requires (scan-pred-calls t) (scan-pred-at t) scan-pred.Post
+scan-pred-copy-pred-requires t c κs = let b12 = c .before .before .before .before .before .before .before .before .before .before .before .before in (b12 .pre .1 .0, b12 .pre .1 .2)
 
 scan-pred-same-length-9 : (t : ℕ) → scan-pred-lts.Need-same-length-9 (scan-pred-calls t) (scan-pred-at t) scan-pred.Post
 scan-pred-same-length-9 t c = search needs
@@ -439,10 +463,10 @@ scan-pred-same-length-10 : (t : ℕ) → scan-pred-lts.Need-same-length-10 (scan
 scan-pred-same-length-10 t c = search needs
 
 scan-pred-returns-7 : (t : ℕ) → scan-pred-lts.Need-returns-7 (scan-pred-calls t) (scan-pred-at t) scan-pred.Post
-scan-pred-returns-7 t c = let b4 = c .before .before .before .before in b4 .scan-junction2 .ensures
+scan-pred-returns-7 t c = let b4 = c .before .before .before .before in let b7 = b4 .before .before .before in let b8 = b7 .before in let b9 = b8 .before in let b10 = b9 .before in let b17 = b10 .before .before .before .before .before .before .before in (other-told (b17 .args .row .now) (b17 .args .depth) (b17 .args .at) (b17 .args .n) (b17 .args .pos) (b17 .args .positive) (b17 .args .out .now) _ _ (no-entry _ _ (b9 .if5 .taken) (b10 .if3 .left) (b7 .if7 .left) (b8 .if6 .left)) (b4 .copy-pred .ensures .0), other-marks (b17 .args .row .now) (b17 .args .depth) (b17 .args .at) (b17 .args .n) (b17 .args .pos) (b17 .args .positive) (b17 .args .marks .now) _ (no-entry _ _ (b9 .if5 .taken) (b10 .if3 .left) (b7 .if7 .left) (b8 .if6 .left)) (b4 .copy-pred .ensures .1))
 
-scan-pred-scan-implies-requires : (t : ℕ) → scan-pred-lts.Need-scan-implies-requires (scan-pred-calls t) (scan-pred-at t) scan-pred.Post
-scan-pred-scan-implies-requires t c κs = let b7 = c .before .before .before .before .before .before .before in let b8 = b7 .before in let b12 = b8 .before .before .before .before in (omega arith, (b12 .pre .1 .0, b12 .pre .1 .1, record { inside = b7 .if2 .left; deeper = let z = b8 .if1 .left in omega arith }, c .before .before .if8 .taken, b12 .pre .1 .2))
+scan-pred-scan-junction-requires-2 : (t : ℕ) → scan-pred-lts.Need-scan-junction-requires-2 (scan-pred-calls t) (scan-pred-at t) scan-pred.Post
+scan-pred-scan-junction-requires-2 t c κs = let b3 = c .before .before .before in let b6 = b3 .before .before .before in let b7 = b6 .before in let b11 = b7 .before .before .before .before in (omega arith, (b11 .pre .1 .0, b11 .pre .1 .1, record { inside = b6 .if2 .left; deeper = let z = b7 .if1 .left in omega arith }, role-or _ _ (c .before .before .if8 .taken) (b3 .if5 .left), b11 .pre .1 .2))
 
 scan-pred-same-length-11 : (t : ℕ) → scan-pred-lts.Need-same-length-11 (scan-pred-calls t) (scan-pred-at t) scan-pred.Post
 scan-pred-same-length-11 t c = search needs
@@ -451,10 +475,10 @@ scan-pred-same-length-12 : (t : ℕ) → scan-pred-lts.Need-same-length-12 (scan
 scan-pred-same-length-12 t c = search needs
 
 scan-pred-returns-8 : (t : ℕ) → scan-pred-lts.Need-returns-8 (scan-pred-calls t) (scan-pred-at t) scan-pred.Post
-scan-pred-returns-8 t c = let b4 = c .before .before .before .before in let b9 = b4 .before .before .before .before .before in rw (b9 .if4 .left) (b4 .scan-implies .ensures)
+scan-pred-returns-8 t c = let b4 = c .before .before .before .before in b4 .scan-junction2 .ensures
 
-scan-pred-copy-pred-requires-2 : (t : ℕ) → scan-pred-lts.Need-copy-pred-requires-2 (scan-pred-calls t) (scan-pred-at t) scan-pred.Post
-scan-pred-copy-pred-requires-2 t c κs = let b12 = c .before .before .before .before .before .before .before .before .before .before .before .before in (b12 .pre .1 .0, b12 .pre .1 .2)
+scan-pred-scan-implies-requires : (t : ℕ) → scan-pred-lts.Need-scan-implies-requires (scan-pred-calls t) (scan-pred-at t) scan-pred.Post
+scan-pred-scan-implies-requires t c κs = let b7 = c .before .before .before .before .before .before .before in let b8 = b7 .before in let b12 = b8 .before .before .before .before in (omega arith, (b12 .pre .1 .0, b12 .pre .1 .1, record { inside = b7 .if2 .left; deeper = let z = b8 .if1 .left in omega arith }, c .before .before .if9 .taken, b12 .pre .1 .2))
 
 scan-pred-same-length-13 : (t : ℕ) → scan-pred-lts.Need-same-length-13 (scan-pred-calls t) (scan-pred-at t) scan-pred.Post
 scan-pred-same-length-13 t c = search needs
@@ -463,7 +487,61 @@ scan-pred-same-length-14 : (t : ℕ) → scan-pred-lts.Need-same-length-14 (scan
 scan-pred-same-length-14 t c = search needs
 
 scan-pred-returns-9 : (t : ℕ) → scan-pred-lts.Need-returns-9 (scan-pred-calls t) (scan-pred-at t) scan-pred.Post
-scan-pred-returns-9 t c = let b4 = c .before .before .before .before in let b7 = b4 .before .before .before in let b8 = b7 .before in let b9 = b8 .before in let b10 = b9 .before in let b17 = b10 .before .before .before .before .before .before .before in (other-told (b17 .args .row .now) (b17 .args .depth) (b17 .args .at) (b17 .args .n) (b17 .args .pos) (b17 .args .positive) (b17 .args .out .now) _ _ (no-entry-below _ _ (b9 .if4 .left) (b10 .if3 .left) (b8 .if7 .left) (b7 .if8 .left)) (b4 .copy-pred2 .ensures .0), other-marks (b17 .args .row .now) (b17 .args .depth) (b17 .args .at) (b17 .args .n) (b17 .args .pos) (b17 .args .positive) (b17 .args .marks .now) _ (no-entry-below _ _ (b9 .if4 .left) (b10 .if3 .left) (b8 .if7 .left) (b7 .if8 .left)) (b4 .copy-pred2 .ensures .1))
+scan-pred-returns-9 t c = let b4 = c .before .before .before .before in let b9 = b4 .before .before .before .before .before in rw (b9 .if5 .left) (b4 .scan-implies .ensures)
+
+scan-pred-copy-pred-requires-2 : (t : ℕ) → scan-pred-lts.Need-copy-pred-requires-2 (scan-pred-calls t) (scan-pred-at t) scan-pred.Post
+scan-pred-copy-pred-requires-2 t c κs = let b12 = c .before .before .before .before .before .before .before .before .before .before .before .before in (b12 .pre .1 .0, b12 .pre .1 .2)
+
+scan-pred-same-length-15 : (t : ℕ) → scan-pred-lts.Need-same-length-15 (scan-pred-calls t) (scan-pred-at t) scan-pred.Post
+scan-pred-same-length-15 t c = search needs
+
+scan-pred-same-length-16 : (t : ℕ) → scan-pred-lts.Need-same-length-16 (scan-pred-calls t) (scan-pred-at t) scan-pred.Post
+scan-pred-same-length-16 t c = search needs
+
+scan-pred-returns-10 : (t : ℕ) → scan-pred-lts.Need-returns-10 (scan-pred-calls t) (scan-pred-at t) scan-pred.Post
+scan-pred-returns-10 t c = let b4 = c .before .before .before .before in let b7 = b4 .before .before .before in let b8 = b7 .before in let b9 = b8 .before in let b10 = b9 .before in let b17 = b10 .before .before .before .before .before .before .before in (other-told (b17 .args .row .now) (b17 .args .depth) (b17 .args .at) (b17 .args .n) (b17 .args .pos) (b17 .args .positive) (b17 .args .out .now) _ _ (no-entry-below _ _ (b9 .if5 .left) (b10 .if3 .left) (b8 .if8 .left) (b7 .if9 .left)) (b4 .copy-pred2 .ensures .0), other-marks (b17 .args .row .now) (b17 .args .depth) (b17 .args .at) (b17 .args .n) (b17 .args .pos) (b17 .args .positive) (b17 .args .marks .now) _ (no-entry-below _ _ (b9 .if5 .left) (b10 .if3 .left) (b8 .if8 .left) (b7 .if9 .left)) (b4 .copy-pred2 .ensures .1))
+
+scan-twice-no-pred-requires : (t : ℕ) → scan-twice-lts.Need-no-pred-requires (scan-twice-calls t) (scan-twice-at t) scan-twice.Post
+scan-twice-no-pred-requires t c κs = search needs
+
+scan-twice-returns : (t : ℕ) → scan-twice-lts.Need-returns (scan-twice-calls t) (scan-twice-at t) scan-twice.Post
+scan-twice-returns t c = let b5 = c .before .before .before .before .before in let k = tell-no (scan (b5 .args .n) (b5 .args .positive)) (b5 .args .row .now) (b5 .args .depth) (b5 .args .at) (b5 .args .pos) (b5 .args .out .now) _ _ (twice-shallow (b5 .args .row .now) (b5 .args .depth) (b5 .args .at) (b5 .pre .1 .2) (b5 .pre .1 .3) (c .before .if1 .taken)) (c .no-pred .ensures) in (k, quiet-marks _ (b5 .args .row .now) (b5 .args .depth) (b5 .args .at) (b5 .args .pos) (b5 .args .out .now) _ _ _ _ k (c .no-pred .ensures))
+
+scan-twice-add-scan-pred : (t : ℕ) → scan-twice-lts.Need-add-scan-pred (scan-twice-calls t) (scan-twice-at t) scan-twice.Post
+scan-twice-add-scan-pred t c = search needs
+
+scan-twice-scan-pred-requires : (t : ℕ) → scan-twice-lts.Need-scan-pred-requires (scan-twice-calls t) (scan-twice-at t) scan-twice.Post
+scan-twice-scan-pred-requires t c κs = let b6 = c .before .before .before .before .before .before in let deep : 2 ≤ b6 .args .depth = let z = c .before .before .if1 .left in omega arith in let i = second-in (b6 .args .row .now) (b6 .args .depth) (b6 .args .at) (b6 .pre .1 .2) (b6 .pre .1 .3) (b6 .pre .1 .5) deep in let h = b6 .pre .1 .0 .room in let g = b6 .pre .1 .0 .deep in (omega arith, (record { room = omega arith; short = b6 .pre .1 .0 .short; deep = omega arith }, b6 .pre .1 .1, clean-in (b6 .args .row .now) (b6 .args .at) (b6 .args .pos) (b6 .args .at + 2) (b6 .args .pos) (b6 .args .marks .now) (b6 .pre .1 .4) (omega arith) (omega arith)))
+
+scan-twice-same-length : (t : ℕ) → scan-twice-lts.Need-same-length (scan-twice-calls t) (scan-twice-at t) scan-twice.Post
+scan-twice-same-length t c = search needs
+
+scan-twice-same-length-2 : (t : ℕ) → scan-twice-lts.Need-same-length-2 (scan-twice-calls t) (scan-twice-at t) scan-twice.Post
+scan-twice-same-length-2 t c = search needs
+
+scan-twice-returns-2 : (t : ℕ) → scan-twice-lts.Need-returns-2 (scan-twice-calls t) (scan-twice-at t) scan-twice.Post
+scan-twice-returns-2 t c = let b6 = c .before .before .before .before .before .before in let b9 = b6 .before .before .before in let b13 = b9 .before .before .before .before in let deep : 2 ≤ b13 .args .depth = let z = b9 .if1 .left in omega arith in let k = twice-no (b13 .args .row .now) (b13 .args .depth) (b13 .args .at) (b13 .pre .1 .2) (b13 .pre .1 .3) (b13 .pre .1 .5) deep (b13 .args .n) (b13 .args .pos) (b13 .args .positive) (b13 .args .out .now) _ _ (b6 .scan-pred .ensures .0) (not-true _ (c .if2 .taken)) in (k, quiet-marks _ (b13 .args .row .now) (b13 .args .depth) (b13 .args .at) (b13 .args .pos) (b13 .args .out .now) _ _ _ _ k (not-true _ (c .if2 .taken)))
+
+scan-twice-same-length-3 : (t : ℕ) → scan-twice-lts.Need-same-length-3 (scan-twice-calls t) (scan-twice-at t) scan-twice.Post
+scan-twice-same-length-3 t c = search needs
+
+scan-twice-same-length-4 : (t : ℕ) → scan-twice-lts.Need-same-length-4 (scan-twice-calls t) (scan-twice-at t) scan-twice.Post
+scan-twice-same-length-4 t c = search needs
+
+scan-twice-returns-3 : (t : ℕ) → scan-twice-lts.Need-returns-3 (scan-twice-calls t) (scan-twice-at t) scan-twice.Post
+scan-twice-returns-3 t c = let b7 = c .before .before .before .before .before .before .before in let b10 = b7 .before .before .before in let b14 = b10 .before .before .before .before in let deep : 2 ≤ b14 .args .depth = let z = b10 .if1 .left in omega arith in let a = told-ok (scan (b14 .args .n) (b14 .args .positive)) (b14 .args .row .now) (b14 .args .depth - 2) (b14 .args .at + 2) (b14 .args .pos) (b14 .args .out .now) _ _ (b7 .scan-pred .ensures .0) (not-false _ (c .before .if2 .left)) in (twice-gone (b14 .args .row .now) (b14 .args .depth) (b14 .args .at) (b14 .pre .1 .2) (b14 .pre .1 .3) (b14 .pre .1 .5) deep (b14 .args .n) (b14 .args .pos) (b14 .args .positive) (b14 .args .out .now) _ _ a (not-false _ (c .before .if2 .left)) (c .if3 .taken), twice-gone-marks (b14 .args .row .now) (b14 .args .depth) (b14 .args .at) (b14 .pre .1 .2) (b14 .pre .1 .3) (b14 .pre .1 .5) deep (b14 .args .n) (b14 .args .pos) (b14 .args .positive) (b14 .args .out .now) _ _ a (b14 .args .marks .now) _ (b7 .scan-pred .ensures .1) (c .if3 .taken))
+
+scan-twice-finish-twice-requires : (t : ℕ) → scan-twice-lts.Need-finish-twice-requires (scan-twice-calls t) (scan-twice-at t) scan-twice.Post
+scan-twice-finish-twice-requires t c κs = let b3 = c .before .before .before in let b9 = b3 .before .before .before .before .before .before in let b12 = b9 .before .before .before in let b16 = b12 .before .before .before .before in let deep : 2 ≤ b16 .args .depth = let z = b12 .if1 .left in omega arith in let low : b16 .args .pos ≤ length (b16 .args .out .now) = let h = b16 .pre .1 .0 .room in omega arith in let a = told-ok (scan (b16 .args .n) (b16 .args .positive)) (b16 .args .row .now) (b16 .args .depth - 2) (b16 .args .at + 2) (b16 .args .pos) (b16 .args .out .now) _ _ (b9 .scan-pred .ensures .0) (not-false _ (b3 .if2 .left)) in let i = second-in (b16 .args .row .now) (b16 .args .depth) (b16 .args .at) (b16 .pre .1 .2) (b16 .pre .1 .3) (b16 .pre .1 .5) deep in let r = twice-room (b16 .args .row .now) (b16 .args .depth) (b16 .args .at) (b16 .pre .1 .2) (b16 .pre .1 .3) (b16 .pre .1 .5) deep (b16 .args .n) (b16 .args .pos) (b16 .args .positive) (b16 .args .out .now) _ _ a low (c .before .before .if3 .left) in let c2 = clean-after a (b16 .args .marks .now) _ (b9 .scan-pred .ensures .1) (clean-in (b16 .args .row .now) (b16 .args .at) (b16 .args .pos) (b16 .args .at + 2) (b16 .args .pos) (b16 .args .marks .now) (b16 .pre .1 .4) (omega arith) (omega arith)) .room in let k2 = b9 .scan-pred .kept .1 .1 .1 .1 .1 .1 .0 in (r .0, r .1, omega arith, r .2)
+
+scan-twice-same-length-5 : (t : ℕ) → scan-twice-lts.Need-same-length-5 (scan-twice-calls t) (scan-twice-at t) scan-twice.Post
+scan-twice-same-length-5 t c = search needs
+
+scan-twice-same-length-6 : (t : ℕ) → scan-twice-lts.Need-same-length-6 (scan-twice-calls t) (scan-twice-at t) scan-twice.Post
+scan-twice-same-length-6 t c = search needs
+
+scan-twice-returns-4 : (t : ℕ) → scan-twice-lts.Need-returns-4 (scan-twice-calls t) (scan-twice-at t) scan-twice.Post
+scan-twice-returns-4 t c = let b4 = c .before .before .before .before in let b7 = b4 .before .before .before in let b8 = b7 .before in let b14 = b8 .before .before .before .before .before .before in let b17 = b14 .before .before .before in let b21 = b17 .before .before .before .before in let deep : 2 ≤ b21 .args .depth = let z = b17 .if1 .left in omega arith in let low : b21 .args .pos ≤ length (b21 .args .out .now) = let h = b21 .pre .1 .0 .room in omega arith in let a = told-ok (scan (b21 .args .n) (b21 .args .positive)) (b21 .args .row .now) (b21 .args .depth - 2) (b21 .args .at + 2) (b21 .args .pos) (b21 .args .out .now) _ _ (b14 .scan-pred .ensures .0) (not-false _ (b8 .if2 .left)) in (twice-became (b21 .args .row .now) (b21 .args .depth) (b21 .args .at) (b21 .pre .1 .2) (b21 .pre .1 .3) (b21 .pre .1 .5) deep (b21 .args .n) (b21 .args .pos) (b21 .args .positive) (b21 .args .out .now) _ _ a low (b7 .if3 .left) _ _ (b4 .finish-twice .ensures .0), twice-marks (b21 .args .row .now) (b21 .args .depth) (b21 .args .at) (b21 .pre .1 .2) (b21 .pre .1 .3) (b21 .pre .1 .5) deep (b21 .args .n) (b21 .args .pos) (b21 .args .positive) (b21 .args .out .now) _ _ a (b21 .args .marks .now) _ (b14 .scan-pred .ensures .1) low (b7 .if3 .left) (b21 .pre .1 .4 .clear) _ (b4 .finish-twice .ensures .1))
 
 abbrev search-children-Inv-search : search-children-lts.InvT-search
 search-children-Inv-search row at depth n positive count out₀ marks₀ pos found₀ q₀ left₀ w₀ k₀ out marks found q left w k =
@@ -526,12 +604,13 @@ search-children-same-length-6 t c = search needs
 search-children-returns-3 : (t : ℕ) → search-children-lts.Need-returns-3 (search-children-calls t) (search-children-at t) search-children.Post search-children-Inv-search search-children-μ-search
 search-children-returns-3 t c = let b3 = c .before .before .before in let b9 = b3 .before .before .before .before .before .before in let b12 = b9 .before .before .before in let b13 = b12 .before in let b17 = b13 .before .before .before .before in let a = told-ok (scan (b17 .args .n) (b17 .args .positive)) (b17 .args .row .now) (b17 .args .depth) (b13 .search .q) (b13 .search .w) (b13 .search .out) _ _ (b9 .scan-pred .ensures .0) (not-false _ (b3 .if1 .left)) in let b = bounds a in let u = b .up in let v = b .inside in let w = b .low in let i5 = b13 .search .inv .5 in let i6 = b13 .search .inv .6 in let i7 = b13 .search .inv .7 in let o1 = one-at-most (b13 .search .k) (b9 .scan-pred .result .gone) in let o2 = c .before .before .one-more .ensures in let o3 = b13 .search .inv .4 in (record { same = b13 .search .inv .1 ∙ child-same (b17 .args .row .now) (b17 .args .depth) (b13 .search .q) (b13 .search .left) (b12 .search-test .taken) (b13 .search .w) (b17 .args .n) (b13 .search .k) (b17 .args .positive) _ _ _ a; whole = λ s e m o t. b13 .search .inv .2 (child-same (b17 .args .row .now) (b17 .args .depth) (b13 .search .q) (b13 .search .left) (b12 .search-test .taken) (b13 .search .w) (b17 .args .n) (b13 .search .k) (b17 .args .positive) _ _ _ a ∙ s) _ e m o (child-taken (b17 .args .row .now) (b17 .args .depth) (b13 .search .q) (b13 .search .left) (b12 .search-test .taken) (b13 .search .w) (b17 .args .n) (b13 .search .k) (b17 .args .positive) _ _ _ a s (sym (c .before .is-taken .ensures) ∙ c .if2 .taken) e m o (rw (c .before .before .one-more .ensures) at t)); ends = λ s. child-ends (b17 .args .row .now) (b17 .args .depth) (b13 .search .q) (b13 .search .left) (b12 .search-test .taken) (b13 .search .w) (b17 .args .n) (b13 .search .k) (b17 .args .positive) _ _ _ a s ∙ b13 .search .inv .3 (child-same (b17 .args .row .now) (b17 .args .depth) (b13 .search .q) (b13 .search .left) (b12 .search-test .taken) (b13 .search .w) (b17 .args .n) (b13 .search .k) (b17 .args .positive) _ _ _ a ∙ s); few = omega arith; inside = b .inside; room = omega arith }, record { whole = λ s. taken-marks (b17 .args .row .now) (b17 .args .depth) (b13 .search .q) (b13 .search .left) (b12 .search-test .taken) (b13 .search .w) (b17 .args .n) (b13 .search .k) (b17 .args .positive) _ _ _ a s (b13 .search .marks) _ (child-marks a (b13 .search .marks) _ (b9 .scan-pred .ensures .1)) (sym (c .before .is-taken .ensures) ∙ c .if2 .taken) ∙ b13 .search .inv .9 (child-same (b17 .args .row .now) (b17 .args .depth) (b13 .search .q) (b13 .search .left) (b12 .search-test .taken) (b13 .search .w) (b17 .args .n) (b13 .search .k) (b17 .args .positive) _ _ _ a ∙ s) })
 
-pub +scan-implies+scan-junction+scan-next+scan-not+scan-pred+search-children-spec : {M : Type 1} → statement M
-+scan-implies+scan-junction+scan-next+scan-not+scan-pred+search-children-spec =
-    close μ-scan-implies μ-scan-junction μ-scan-next μ-scan-not μ-scan-pred μ-search-children
+pub +scan-implies+scan-junction+scan-next+scan-not+scan-pred+scan-twice+search-children-spec : {M : Type 1} → statement M
++scan-implies+scan-junction+scan-next+scan-not+scan-pred+scan-twice+search-children-spec =
+    close μ-scan-implies μ-scan-junction μ-scan-next μ-scan-not μ-scan-pred μ-scan-twice μ-search-children
     (λ t. scan-implies-lts.spec (scan-implies-calls t) (scan-implies-at t) scan-implies.Post (scan-implies-mul-out t) (scan-implies-slice-write-out t) (scan-implies-add-scan-pred t) (scan-implies-sub-scan-pred t) (scan-implies-add-scan-pred-2 t) (scan-implies-scan-pred-requires t) (scan-implies-same-length t) (scan-implies-same-length-2 t) (scan-implies-returns t) (scan-implies-start-of-requires t) (scan-implies-sub-scan-next t) (scan-implies-scan-next-requires t) (scan-implies-same-length-3 t) (scan-implies-same-length-4 t) (scan-implies-returns-2 t) (scan-implies-same-length-5 t) (scan-implies-same-length-6 t) (scan-implies-returns-3 t) (scan-implies-finish-not-requires t) (scan-implies-same-length-7 t) (scan-implies-same-length-8 t) (scan-implies-returns-4 t) (scan-implies-same-length-9 t) (scan-implies-same-length-10 t) (scan-implies-returns-5 t))
     (λ t. scan-junction-lts.spec (scan-junction-calls t) (scan-junction-at t) scan-junction.Post (scan-junction-add-if1 t) (scan-junction-no-pred-requires t) (scan-junction-returns t) (scan-junction-mul-tag t) (scan-junction-shared-slice-read-tag t) (scan-junction-add-count t) (scan-junction-mul-count t) (scan-junction-shared-slice-read-count t) (scan-junction-no-pred-requires-2 t) (scan-junction-returns-2 t) (scan-junction-add-search-children t) (scan-junction-sub-search-children t) (scan-junction-add-search-children-2 t) (scan-junction-search-children-requires t) (scan-junction-sub-mark-preds t) (scan-junction-mark-preds-requires t) (scan-junction-enum-known-next t) (scan-junction-enum-told t) (scan-junction-no-pred-requires-3 t) (scan-junction-same-length t) (scan-junction-same-length-2 t) (scan-junction-returns-3 t) (scan-junction-copy-part-requires t) (scan-junction-add-finish-junction t) (scan-junction-finish-junction-requires t) (scan-junction-add-finish-marks t) (scan-junction-finish-marks-requires t) (scan-junction-same-length-3 t) (scan-junction-same-length-4 t) (scan-junction-returns-4 t))
     (λ t. scan-next-lts.spec (scan-next-calls t) (scan-next-at t) scan-next.Post (scan-next-is-taken-requires t) (scan-next-copy-pred-requires t) (scan-next-same-length t) (scan-next-same-length-2 t) (scan-next-returns t) (scan-next-scan-pred-requires t) (scan-next-same-length-3 t) (scan-next-same-length-4 t) (scan-next-returns-2 t))
     (λ t. scan-not-lts.spec (scan-not-calls t) (scan-not-at t) scan-not.Post (scan-not-add-scan-pred t) (scan-not-sub-scan-pred t) (scan-not-add-scan-pred-2 t) (scan-not-scan-pred-requires t) (scan-not-same-length t) (scan-not-same-length-2 t) (scan-not-returns t) (scan-not-same-length-3 t) (scan-not-same-length-4 t) (scan-not-returns-2 t) (scan-not-finish-not-requires t) (scan-not-same-length-5 t) (scan-not-same-length-6 t) (scan-not-returns-3 t))
-    (λ t. scan-pred-lts.spec (scan-pred-calls t) (scan-pred-at t) scan-pred.Post (scan-pred-no-pred-requires t) (scan-pred-returns t) (scan-pred-no-pred-requires-2 t) (scan-pred-returns-2 t) (scan-pred-mul-tag t) (scan-pred-shared-slice-read-tag t) (scan-pred-scan-not-requires t) (scan-pred-same-length t) (scan-pred-same-length-2 t) (scan-pred-returns-3 t) (scan-pred-scan-equality-requires t) (scan-pred-same-length-3 t) (scan-pred-same-length-4 t) (scan-pred-returns-4 t) (scan-pred-scan-junction-requires t) (scan-pred-same-length-5 t) (scan-pred-same-length-6 t) (scan-pred-returns-5 t) (scan-pred-copy-pred-requires t) (scan-pred-same-length-7 t) (scan-pred-same-length-8 t) (scan-pred-returns-6 t) (scan-pred-scan-junction-requires-2 t) (scan-pred-same-length-9 t) (scan-pred-same-length-10 t) (scan-pred-returns-7 t) (scan-pred-scan-implies-requires t) (scan-pred-same-length-11 t) (scan-pred-same-length-12 t) (scan-pred-returns-8 t) (scan-pred-copy-pred-requires-2 t) (scan-pred-same-length-13 t) (scan-pred-same-length-14 t) (scan-pred-returns-9 t))
+    (λ t. scan-pred-lts.spec (scan-pred-calls t) (scan-pred-at t) scan-pred.Post (scan-pred-no-pred-requires t) (scan-pred-returns t) (scan-pred-no-pred-requires-2 t) (scan-pred-returns-2 t) (scan-pred-mul-tag t) (scan-pred-shared-slice-read-tag t) (scan-pred-add-is-not t) (scan-pred-is-not-requires t) (scan-pred-scan-twice-requires t) (scan-pred-same-length t) (scan-pred-same-length-2 t) (scan-pred-returns-3 t) (scan-pred-scan-not-requires t) (scan-pred-same-length-3 t) (scan-pred-same-length-4 t) (scan-pred-returns-4 t) (scan-pred-scan-equality-requires t) (scan-pred-same-length-5 t) (scan-pred-same-length-6 t) (scan-pred-returns-5 t) (scan-pred-scan-junction-requires t) (scan-pred-same-length-7 t) (scan-pred-same-length-8 t) (scan-pred-returns-6 t) (scan-pred-copy-pred-requires t) (scan-pred-same-length-9 t) (scan-pred-same-length-10 t) (scan-pred-returns-7 t) (scan-pred-scan-junction-requires-2 t) (scan-pred-same-length-11 t) (scan-pred-same-length-12 t) (scan-pred-returns-8 t) (scan-pred-scan-implies-requires t) (scan-pred-same-length-13 t) (scan-pred-same-length-14 t) (scan-pred-returns-9 t) (scan-pred-copy-pred-requires-2 t) (scan-pred-same-length-15 t) (scan-pred-same-length-16 t) (scan-pred-returns-10 t))
+    (λ t. scan-twice-lts.spec (scan-twice-calls t) (scan-twice-at t) scan-twice.Post (scan-twice-no-pred-requires t) (scan-twice-returns t) (scan-twice-add-scan-pred t) (scan-twice-scan-pred-requires t) (scan-twice-same-length t) (scan-twice-same-length-2 t) (scan-twice-returns-2 t) (scan-twice-same-length-3 t) (scan-twice-same-length-4 t) (scan-twice-returns-3 t) (scan-twice-finish-twice-requires t) (scan-twice-same-length-5 t) (scan-twice-same-length-6 t) (scan-twice-returns-4 t))
     (λ t. search-children-lts.spec (search-children-calls t) (search-children-at t) search-children.Post search-children-Inv-search search-children-μ-search (search-children-search-holds t) (search-children-scan-pred-requires t) (search-children-sub-left t) (search-children-one-more-requires t) (search-children-is-taken-requires t) (search-children-search-less t) (search-children-search-again t) (search-children-same-length t) (search-children-same-length-2 t) (search-children-returns t) (search-children-same-length-3 t) (search-children-same-length-4 t) (search-children-returns-2 t) (search-children-same-length-5 t) (search-children-same-length-6 t) (search-children-returns-3 t))
