@@ -1,5 +1,7 @@
 -- `one_point::reduce::is_bad` meets its contract. Assumes nothing.
 use mathlib.Core.Path.{refl}
+-- `one_point::reduce::is_bad` meets its contract. Assumes nothing.
+use mathlib.Core.Path.{refl}
 use borrow.Author.Needs.{needs}
 use Rattle.one_point.proofs.reduce.is_bad.Statement.{statement}
 use Rattle.one_point.proofs.reduce.is_bad.Tie as tie

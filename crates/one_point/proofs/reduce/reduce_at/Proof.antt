@@ -16,7 +16,10 @@ slice-aggregate-reduce-in-2 : tie.Need-slice-aggregate-reduce-in-2
 slice-aggregate-reduce-in-2 c = search needs
 
 reduce-in-requires : tie.Need-reduce-in-requires
-reduce-in-requires c κs = let b4 = c .before .before .before .before in let b9 = b4 .before .before .before .before .before in (b9 .pre .0, fresh-reading _ _ 2048 (b9 .pre .1) (b9 .pre .2) (let h = b4 .if1 .taken in omega arith), fresh-cleared _ 1024 (b4 .if1 .taken))
+reduce-in-requires c κs =
+    let b4 = c .before .before .before .before in
+    let b9 = b4 .before .before .before .before .before in
+    (b9 .pre .0, fresh-reading _ _ 2048 (b9 .pre .1) (b9 .pre .2) (let h = b4 .if1 .taken in omega arith), fresh-cleared _ 1024 (b4 .if1 .taken))
 
 same-length : tie.Need-same-length
 same-length c = search needs
@@ -34,7 +37,10 @@ slice-aggregate-reduce-in-4 : tie.Need-slice-aggregate-reduce-in-4
 slice-aggregate-reduce-in-4 c = search needs
 
 reduce-in-requires-2 : tie.Need-reduce-in-requires-2
-reduce-in-requires-2 c κs = let b4 = c .before .before .before .before in let b10 = b4 .before .before .before .before .before .before in (b10 .pre .0, fresh-reading _ _ 8192 (b10 .pre .1) (b10 .pre .2) (let h = b4 .if2 .taken in omega arith), fresh-cleared _ 4096 (b4 .if2 .taken))
+reduce-in-requires-2 c κs =
+    let b4 = c .before .before .before .before in
+    let b10 = b4 .before .before .before .before .before .before in
+    (b10 .pre .0, fresh-reading _ _ 8192 (b10 .pre .1) (b10 .pre .2) (let h = b4 .if2 .taken in omega arith), fresh-cleared _ 4096 (b4 .if2 .taken))
 
 same-length-3 : tie.Need-same-length-3
 same-length-3 c = search needs
@@ -52,7 +58,9 @@ slice-aggregate-reduce-in-6 : tie.Need-slice-aggregate-reduce-in-6
 slice-aggregate-reduce-in-6 c = search needs
 
 reduce-in-requires-3 : tie.Need-reduce-in-requires-3
-reduce-in-requires-3 c κs = let b10 = c .before .before .before .before .before .before .before .before .before .before in (b10 .pre .0, fresh-reading _ _ 16384 (b10 .pre .1) (b10 .pre .2) (let h = b10 .pre .0 .short in omega arith), fresh-cleared _ 8192 (b10 .pre .0 .short))
+reduce-in-requires-3 c κs =
+    let b10 = c .before .before .before .before .before .before .before .before .before .before in
+    (b10 .pre .0, fresh-reading _ _ 16384 (b10 .pre .1) (b10 .pre .2) (let h = b10 .pre .0 .short in omega arith), fresh-cleared _ 8192 (b10 .pre .0 .short))
 
 same-length-5 : tie.Need-same-length-5
 same-length-5 c = search needs

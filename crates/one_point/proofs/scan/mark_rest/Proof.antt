@@ -17,10 +17,15 @@ same-length : tie.Need-same-length
 same-length c = search needs
 
 returns : tie.Need-returns
-returns c = let b4 = c .before .before .before .before in let b7 = b4 .before .before .before in rw (not-true (b7 .args .gone) (b4 .if1 .taken)) (plain-marks _ _ _ _ 65 _ (omega arith) (c .before .before .mark-pred .ensures .1))
+returns c =
+    let b4 = c .before .before .before .before in
+    let b7 = b4 .before .before .before in
+    rw (not-true (b7 .args .gone) (b4 .if1 .taken)) (plain-marks _ _ _ _ 65 _ (omega arith) (c .before .before .mark-pred .ensures .1))
 
 returns-2 : tie.Need-returns-2
-returns-2 c = let b3 = c .before .before .before in rw (not-false (b3 .args .gone) (c .if1 .left)) refl
+returns-2 c =
+    let b3 = c .before .before .before in
+    rw (not-false (b3 .args .gone) (c .if1 .left)) refl
 
 pub mark-rest-spec : {M : Type 1} → statement M
 mark-rest-spec = tie.close (tie.spec mark-pred-requires same-length returns returns-2)

@@ -20,7 +20,10 @@ same-length : tie.Need-same-length
 same-length c = search needs
 
 returns-2 : tie.Need-returns-2
-returns-2 c = let b4 = c .before .before .before .before in let b7 = b4 .before .before .before in λ fs e w. join-one _ _ _ (b7 .args .out .now) (omega arith) _ (b4 .if2 .taken) _ _ (c .before .before .move-down .ensures .0) fs e w
+returns-2 c =
+    let b4 = c .before .before .before .before in
+    let b7 = b4 .before .before .before in
+    λ fs e w. join-one _ _ _ (b7 .args .out .now) (omega arith) _ (b4 .if2 .taken) _ _ (c .before .before .move-down .ensures .0) fs e w
 
 mul-out : tie.Need-mul-out
 mul-out c = search needs
@@ -41,7 +44,9 @@ same-length-2 : tie.Need-same-length-2
 same-length-2 c = simp length-set
 
 returns-3 : tie.Need-returns-3
-returns-3 c = let b3 = c .before .before .before in λ fs e w. join-more _ _ _ (b3 .args .out .now) (omega arith) _ (c .before .if1 .left) (c .if2 .left) fs e w
+returns-3 c =
+    let b3 = c .before .before .before in
+    λ fs e w. join-more _ _ _ (b3 .args .out .now) (omega arith) _ (c .before .if1 .left) (c .if2 .left) fs e w
 
 pub finish-junction-spec : {M : Type 1} → statement M
 finish-junction-spec =

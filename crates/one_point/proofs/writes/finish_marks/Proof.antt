@@ -14,7 +14,9 @@ same-length : tie.Need-same-length
 same-length c = search needs
 
 returns : tie.Need-returns
-returns c = let b4 = c .before .before .before .before in λ t fs ms cl e l q. join-marks-one _ _ _ _ (b4 .if1 .taken) _ (c .before .before .move-marks-down .ensures) t fs ms cl e l q
+returns c =
+    let b4 = c .before .before .before .before in
+    λ t fs ms cl e l q. join-marks-one _ _ _ _ (b4 .if1 .taken) _ (c .before .before .move-marks-down .ensures) t fs ms cl e l q
 
 returns-2 : tie.Need-returns-2
 returns-2 c = λ t fs ms cl e l q. join-marks _ _ _ _ (c .if1 .left) t fs ms cl e l q

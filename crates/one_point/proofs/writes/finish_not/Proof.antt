@@ -32,7 +32,11 @@ same-length-2 : tie.Need-same-length-2
 same-length-2 c = search needs
 
 returns : tie.Need-returns
-returns c = let b6 = c .before .before .before .before .before .before in let b8 = b6 .before .before in let b12 = b8 .before .before .before .before in (λ f n w. unsay _ _ (b12 .args .out .now) (omega arith) (b8 .if1 .taken) _ _ (c .before .before .move-down .ensures .0) f n w, λ f ms n w cl q. unsay-marks _ _ (b12 .args .out .now) (omega arith) _ (b8 .if1 .taken) _ (b6 .move-marks-down .ensures) f ms n w cl q)
+returns c =
+    let b6 = c .before .before .before .before .before .before in
+    let b8 = b6 .before .before in
+    let b12 = b8 .before .before .before .before in
+    (λ f n w. unsay _ _ (b12 .args .out .now) (omega arith) (b8 .if1 .taken) _ _ (c .before .before .move-down .ensures .0) f n w, λ f ms n w cl q. unsay-marks _ _ (b12 .args .out .now) (omega arith) _ (b8 .if1 .taken) _ (b6 .move-marks-down .ensures) f ms n w cl q)
 
 mul-out : tie.Need-mul-out
 mul-out c = search needs
@@ -44,7 +48,9 @@ same-length-3 : tie.Need-same-length-3
 same-length-3 c = search needs
 
 returns-2 : tie.Need-returns-2
-returns-2 c = let b4 = c .before .before .before .before in (λ f n w. say _ _ (b4 .args .out .now) (omega arith) (c .if1 .left) f n w, λ f ms n w cl q. say-marks _ _ (b4 .args .out .now) (omega arith) _ (c .if1 .left) f ms n w cl q)
+returns-2 c =
+    let b4 = c .before .before .before .before in
+    (λ f n w. say _ _ (b4 .args .out .now) (omega arith) (c .if1 .left) f n w, λ f ms n w cl q. say-marks _ _ (b4 .args .out .now) (omega arith) _ (c .if1 .left) f ms n w cl q)
 
 pub finish-not-spec : {M : Type 1} → statement M
 finish-not-spec =

@@ -50,7 +50,9 @@ loop-less : tie.Need-loop-less Inv-loop μ-loop
 loop-less c = omega arith
 
 loop-again : tie.Need-loop-again Inv-loop μ-loop
-loop-again c = let b3 = c .before .before .before in (copy-more (b3 .args .pos) (c .before .before .loop .i) _ (b3 .args .out .now) (c .before .before .loop .out) (drop (b3 .args .pos + 2) (b3 .args .out .now)) (omega arith) (omega (arith, length-drop (b3 .args .pos + 2) (b3 .args .out .now))) (move-word (b3 .args .pos + 2) (c .before .before .loop .i) (b3 .args .out .now) (c .before .before .loop .out) (c .before .before .loop .inv .1)) (c .before .before .loop .inv .0), move-rest (b3 .args .pos + 2) (b3 .args .pos) (c .before .before .loop .i) _ (b3 .args .out .now) (c .before .before .loop .out) (omega arith) (c .before .before .loop .inv .1), omega arith, c .before .before .loop .inv .3, c .before .before .loop .inv .4, simp length-set (c .before .before .loop .inv .5))
+loop-again c =
+    let b3 = c .before .before .before in
+    (copy-more (b3 .args .pos) (c .before .before .loop .i) _ (b3 .args .out .now) (c .before .before .loop .out) (drop (b3 .args .pos + 2) (b3 .args .out .now)) (omega arith) (omega (arith, length-drop (b3 .args .pos + 2) (b3 .args .out .now))) (move-word (b3 .args .pos + 2) (c .before .before .loop .i) (b3 .args .out .now) (c .before .before .loop .out) (c .before .before .loop .inv .1)) (c .before .before .loop .inv .0), move-rest (b3 .args .pos + 2) (b3 .args .pos) (c .before .before .loop .i) _ (b3 .args .out .now) (c .before .before .loop .out) (omega arith) (c .before .before .loop .inv .1), omega arith, c .before .before .loop .inv .3, c .before .before .loop .inv .4, simp length-set (c .before .before .loop .inv .5))
 
 add-result : tie.Need-add-result Inv-loop μ-loop
 add-result c = omega arith
