@@ -1,34 +1,32 @@
 -- The marks of what is left of an equality. Assumes nothing.
 use mathlib.Core.Path.{_≡_, refl, ap, sym, _∙_}
-use mathlib.Core.Bool.{Bool, true, false}
-use mathlib.Core.Option.{Option, none as absent, some}
-use mathlib.Core.List.{List, [], _∷_, _++_, append-assoc}
-use Prim.Native.Nat.{ℕ, suc, _+_, _-_, _≤_}
+use mathlib.Core.Bool.{true, false}
+use mathlib.Core.Option.{none as absent, some}
+use mathlib.Core.List.{List, _++_, append-assoc}
+use Prim.Native.Nat.{ℕ, _+_, _-_, _≤_}
 use native.Mathlib.Omega.{arith}
 use lib.ListN.{length, take, drop, take-append-drop}
 use lib.Seq.{drop-at, length-take-le}
 use Rattle.tree.specs.Form.{Form, encode}
 use Rattle.tree.specs.Tag.{expr, pred}
-use Rattle.form.specs.Decode.{Got, got, no-form, decode}
+use Rattle.form.specs.Decode.{got, decode}
 use Rattle.form.proofs.DecodeLaws.{clash, Ok, decode-encode, decode-sound}
-use Rattle.reader.specs.Internal.Reads.{mark}
 use Rattle.rules.specs.Replacement.{Taken, taken, nothing, accept}
 use Rattle.rules.specs.Split.{equal}
-use Rattle.rules.specs.Scan.{Scan, scanned, scans, joined, present, offerPart, with, scan}
+use Rattle.rules.specs.Scan.{Scan, scanned, scan}
 use Rattle.places.specs.Internal.Positions.{bothPairs}
 use Rattle.places.specs.Internal.Wrote.{Wrote}
 use Rattle.places.specs.declared.sides.Replacement.{Replacement}
 use Rattle.places.proofs.PartsOk.{equal-ok}
-use Rattle.one_point.specs.Internal.Writes.{leftWords, isGone}
 use Rattle.one_point.specs.Internal.Parts.{acceptWords, isTaken, TookIs}
 use Rattle.one_point.specs.Internal.Scans.{Left, Became, Sided}
-use Rattle.one_point.specs.Internal.Marks.{leftOf, markLeft, MarksTold, RestMarks}
+use Rattle.one_point.specs.Internal.Marks.{leftOf, markLeft, RestMarks}
 use Rattle.one_point.specs.declared.scan.Scanned.{Scanned}
 use Rattle.one_point.proofs.PartsStepLaws.{not-taken, took-not}
 use Rattle.one_point.proofs.ScanLaws.{sides-end, sides-in}
 use Rattle.one_point.proofs.EqualityLaws.{part-scan, offered}
 use Rattle.one_point.proofs.MarkLaws.{marks-told}
-use Rattle.one_point.proofs.ScanLimits.{OkLeft, OkScan, scan-ok}
+use Rattle.one_point.proofs.ScanLimits.{OkScan, scan-ok}
 
 module _ (row : List ℕ) (at right next : ℕ) (n : ℕ) (x : Sided row at right next) where
   abbrev Whole : Form

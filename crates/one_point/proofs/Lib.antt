@@ -1,4 +1,5 @@
 pub mod MarkLaws
+pub mod RaiseLaws
 pub mod WriteLaws
 pub mod WriteMarks
 pub mod AcceptLaws
@@ -19,6 +20,7 @@ pub mod ScanLimits
 pub mod EqualityMarks
 pub mod PlaceLaws
 pub mod PointLaws
+pub mod QuantifierLaws
 pub mod ShapeLaws
 pub mod OutputLaws
 pub mod InsidePoint

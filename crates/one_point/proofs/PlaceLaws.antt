@@ -29,7 +29,7 @@ use Rattle.replace.proofs.SmallLaws.{small-form, leaves}
 use Rattle.replace.specs.Internal.Partial.{partialRow}
 use Rattle.one_point.specs.Internal.Reduce.{quantifierIn, oneTable, placedForm, placedOutcome, Placing, Marking, Shallow, isGot, isSure, RestMarking}
 use Rattle.one_point.specs.Internal.Marks.{raiseMark, CanRaise}
-use Rattle.one_point.proofs.MarkLaws.{raised-are, marks-raise}
+use Rattle.one_point.proofs.RaiseLaws.{raised-are, marks-raise}
 use Rattle.places.specs.Internal.Positions.{endAt, Cleared}
 use Rattle.one_point.proofs.ScanLaws.{ends-at, ends-not}
 use Rattle.one_point.specs.declared.one_point_inference.Quantifier.the-variants.{Of, None}

@@ -1,50 +1,35 @@
--- One point: the scan of the body, the place it fills, and the whole call. Assumes nothing.
+-- One point: the scan of the body, and the place it fills. Assumes nothing.
 use mathlib.Core.Path.{_≡_, refl, ap, sym, _∙_}
-use mathlib.Core.Bool.{Bool, true, false, _||_}
+use mathlib.Core.Bool.{Bool, true, false}
 use mathlib.Core.Option.{Option, none as absent, some}
 use mathlib.Core.List.{List, [], _∷_, _++_, append-nil}
 use Prim.Native.Nat.{ℕ, zero, suc, _+_, _-_, _*_, _≤_, _<_}
 use native.Mathlib.Nat.{zero-add}
 use native.Mathlib.Omega.{arith}
-use borrow.Author.Tests.{le-leb, lt-leb, ltb-false, eqb-true, eqb-false}
-use lib.Dec.{ltb, eqb}
-use lib.ListN.{length, getD, take, drop, replicate, length-append, length-take, length-drop, length-replicate}
-use lib.Seq.{take-at, drop-drop}
-use Rattle.tree.specs.Form.{Form, node, none as no-more, more, pick, encode}
-use Rattle.tree.specs.Tag.{Sort, expr, pred, own}
-use Rattle.form.specs.Decode.{Head, head, bad, read, Got, got, no-form, close, decode, decodeAll, Whole, one, not-one, whole as whole-of, rowForm, asSort, formOf}
-use Rattle.form.specs.Answer.{Outcome, answer, refusal, told, written, ofFound, checkOutcome}
-use Rattle.form.specs.Internal.Heads.{headAt}
-use Rattle.form.specs.declared.answer.Kind.the-variants.{Predicate}
+use lib.Dec.{eqb}
+use lib.ListN.{length, take, drop, replicate, length-take, length-drop, length-replicate}
+use Rattle.tree.specs.Form.{Form, pick, encode}
+use Rattle.tree.specs.Tag.{Sort, expr, pred}
+use Rattle.form.specs.Decode.{read, Got, got, no-form, decode, one, whole as whole-of}
+use Rattle.form.specs.Answer.{Outcome, answer, refusal, told, written}
 use Rattle.form.specs.declared.answer.Answer.{Answer}
-use Rattle.form.specs.declared.answer.Answer.the-variants.{No}
-use Rattle.form.proofs.DecodeLaws.{clash, Ok, ok-node, ok-none, ok-more, read-exact, read-at, decode-encode}
+use Rattle.form.proofs.DecodeLaws.{clash, Ok, decode-encode}
 use Rattle.form.proofs.HeadLaws.{gone}
 use Rattle.reader.specs.Internal.Reads.{mark}
-use Rattle.reader.proofs.ReaderLaws.{node-here}
-use Rattle.shift.proofs.CheckedLaws.{is-missing, too-long, no-form-there, form-there}
-use Rattle.rules.specs.Fill.{quantified}
-use Rattle.replace.specs.Internal.Pieces.{declaredIn, areNames}
-use Rattle.replace.proofs.BuildLaws.{rest-part}
-use Rattle.replace.proofs.QuantLaws.{not-quant, tag-node, tag-heading}
-use Rattle.replace.proofs.OkLaws.{node-names}
 use Rattle.rules.specs.Replacement.{Taken, taken, nothing}
 use Rattle.rules.specs.Scan.{Scan, scanned, scan}
-use Rattle.rules.specs.Point.{polarity, restOf, reduce, onePoint, ofResult, pointOutcome}
+use Rattle.rules.specs.Point.{polarity, restOf, reduce, ofResult}
 use Rattle.places.specs.Internal.Wrote.{Wrote}
 use Rattle.places.specs.Internal.Positions.{Cleared}
 use Rattle.one_point.specs.Internal.Writes.{leftWords, isGone}
 use Rattle.one_point.specs.Internal.Parts.{TookIs}
 use Rattle.one_point.specs.Internal.Scans.{Left, Became, ScanTold}
-use Rattle.one_point.specs.Internal.Reduce.{isQuantifier, headed, quantifierIn, placedOutcome, Placing, emptyWord, reducedIn, bodyOutcome, isBad, Reducing, Reading, Shallow, RestMarking}
+use Rattle.one_point.specs.Internal.Reduce.{placedOutcome, Placing, emptyWord, reducedIn, bodyOutcome, isBad, Reducing, Reading, Shallow, RestMarking}
 use Rattle.one_point.specs.Internal.Marks.{markLeft, MarksTold, ScanMarks}
 use Rattle.places.specs.declared.sides.Replacement.{Replacement}
 use Rattle.places.specs.declared.sides.Replacement.the-variants.{Is, Not}
 use Rattle.one_point.specs.declared.scan.Scanned.{Scanned}
-use Rattle.one_point.specs.declared.one_point_inference.Quantifier.{Quantifier}
-use Rattle.one_point.specs.declared.one_point_inference.Quantifier.the-variants.{Of, None}
 use Rattle.places.proofs.SidesLaws.{part-words}
-use Rattle.places.proofs.PlacesLaws.{PredRow}
 use Rattle.places.proofs.PartsLaws.{some-words, in-row}
 use Rattle.one_point.proofs.ReadLaws.{ScannedAt, told-ok, told-no}
 use Rattle.one_point.proofs.ScanLimits.{OkLeft, OkScan, rest-ok, scan-ok}
@@ -328,138 +313,3 @@ still-reducing t ns body wl wl′ e h = rw e h
 
 pub fresh-reading : (d : ℕ) (body : List ℕ) (n : ℕ) → 0 < d → d ≤ 63 → 2 * length body ≤ n → Reading d body (replicate n 0)
 fresh-reading d body n deep most room = record { some = deep; most = most; zeros = ap (λ (k : ℕ). replicate k 0) (sym (length-replicate n 0)); room = rw (length-replicate {A = ℕ} n 0) room }
-
--- the head of a quantified predicate that a row begins with
-pub record HeadRead (row : List ℕ) (t p : ℕ) : Type 0 where
-  pub low : 0 < length row
-  pub tag : getD row 0 0 ≡ t
-  pub which : isQuantifier t ≡ true
-  pub names : List ℕ
-  pub is : read (own pred t) (drop 1 row) ≡ head (length names ∷ []) names 1 0 (drop p row)
-  pub start : p ≡ 2 + length names
-  pub are : take (p - 2) (drop 2 row) ≡ names
-  pub fits : p ≤ length row
-  pub few : length names ≤ 32
-  pub good : areNames names ≡ true
-
-module _ (row : List ℕ) where
-  declared-tag : (declaredIn row ≡ 0 → ⊥) → (0 < length row) × (isQuantifier (getD row 0 0) ≡ true)
-  unfolding declaredIn
-  declared-tag n = go (ltb (length row) 2) (eqb (getD row 0 0) 851) (eqb (getD row 0 0) 852) refl n
-    where
-      go : (a b c : Bool) → ltb (length row) 2 ≡ a → (pick a 0 (pick b (getD row 1 0) (pick c (getD row 1 0) 0)) ≡ 0 → ⊥) → (0 < length row) × ((b || c) ≡ true)
-      go true b c e n = absurd (n refl)
-      go false true c e n = (omega (arith, ltb-false (length row) 2 e), refl)
-      go false false true e n = (omega (arith, ltb-false (length row) 2 e), refl)
-      go false false false e n = absurd (n refl)
-
-  module _ (low : 0 < length row) (t : ℕ) (tag : getD row 0 0 ≡ t) (which : isQuantifier t ≡ true) (ds : List ℕ) where
-    good-names : ((x : List ℕ) → read (own pred t) ((length ds ∷ []) ++ (ds ++ x)) ≡ head (length ds ∷ []) ds 1 0 x) → areNames ds ≡ true
-    good-names h = node-names {d = 2} t ds (more (restOf true absent) no-more) which (ok-node {p = 1} {e = 0} (tag-node t which) h (ok-more (rest-ok {d = 0} true absent tt) ok-none))
-
-    made-head : (p : ℕ) → p ≡ 2 + length ds → length ds ≤ 32 → read (own pred t) (drop 1 row) ≡ head (length ds ∷ []) ds 1 0 (drop p row) → HeadRead row t p
-    made-head p e few q =
-        let (w, x) = read-exact (own pred t) (drop 1 row) (length ds ∷ []) ds 1 0 (drop p row) q in
-        let two : drop 2 row ≡ ds ++ drop p row = sym (drop-drop 1 1 row) ∙ ap (drop 1) w in
-        let m : p - 2 ≡ length ds = omega arith in
-        let l = ap length w in
-        let l′ = length-append ds (drop p row) in
-        let l″ = length-drop 1 row in
-        record { low = low; tag = tag; which = which; names = ds; is = q; start = e; are = rw (m, two) (take-at ds (drop p row) (length ds) refl); fits = omega arith; few = few; good = good-names x }
-
-  head-by : (z : Head) (t p : ℕ) → (0 < length row) × (isQuantifier (getD row 0 0) ≡ true) → read (own pred (getD row 0 0)) (drop 1 row) ≡ z → headed (getD row 0 0) (headAt 1 z) ≡ Of t p → HeadRead row t p
-  unfolding headAt
-  head-by bad t p h q e = absurd (clash cc)
-  head-by (head o ds x y r) t p h q e =
-      let g = tag-heading (getD row 0 0) (drop 1 row) o ds x y r (h .1) q in
-      let a : getD row 0 0 ≡ t = cc in
-      let b : p ≡ 1 + (length o + length ds) = cc in
-      let l : length o ≡ 1 = ap length (g .words) in
-      let k : r ≡ drop p row = read-at (own pred (getD row 0 0)) row 1 o ds x y r q ∙ ap (λ (n : ℕ). drop n row) (sym b) in
-      made-head (h .0) t a (rw a at (h .1)) ds p (omega arith) (g .most) (rw (a, g .words, g .preds, g .exprs, k) at q)
-
-  pub head-read : (q : Quantifier) → q ≡ quantifierIn row → (t p : ℕ) → q ≡ Of t p → HeadRead row t p
-  unfolding quantifierIn
-  head-read q e t p is = go (eqb (declaredIn row) 0) refl (sym e ∙ is)
-    where
-      go : (b : Bool) → eqb (declaredIn row) 0 ≡ b → pick b None (headed (getD row 0 0) (headAt 1 (read (own pred (getD row 0 0)) (drop 1 row)))) ≡ Of t p → HeadRead row t p
-      go true k z = absurd (clash cc)
-      go false k z = head-by (read (own pred (getD row 0 0)) (drop 1 row)) t p (declared-tag (eqb-false (declaredIn row) 0 k)) refl z
-
-  -- a row with no such head is no quantified predicate
-  bad-head : 0 < length row → (z : Head) → read (own pred (getD row 0 0)) (drop 1 row) ≡ z → headed (getD row 0 0) (headAt 1 z) ≡ None → decode 64 pred row ≡ no-form
-  unfolding headAt
-  bad-head h bad q e = node-here 63 pred row 0 h ∙ rw q
-  bad-head h (head o ds x y r) q e = absurd (clash cc)
-
-  no-head : (f : Form) → decode 64 pred row ≡ got f [] → quantifierIn row ≡ None → declaredIn row ≡ 0
-  unfolding quantifierIn
-  no-head f r e = go (eqb (declaredIn row) 0) refl e
-    where
-      go : (b : Bool) → eqb (declaredIn row) 0 ≡ b → pick b None (headed (getD row 0 0) (headAt 1 (read (own pred (getD row 0 0)) (drop 1 row)))) ≡ None → declaredIn row ≡ 0
-      go true k z = eqb-true (declaredIn row) 0 k
-      go false k z =
-          let m = bad-head (declared-tag (eqb-false (declaredIn row) 0 k) .0) (read (own pred (getD row 0 0)) (drop 1 row)) refl z in
-          absurd (clash cc)
-
--- a row with such a head is one predicate where its body is
-module _ (row : List ℕ) (t p : ℕ) (h : HeadRead row t p) where
-  abbrev around : Form → Form
-  around f = node t (length (h .names) ∷ []) (h .names) (more f no-more)
-
-  abbrev aroundWhole : Whole → Whole
-  aroundWhole (one f) = one (around f)
-  aroundWhole not-one = not-one
-
-  row-whole : whole-of (decode 64 pred row) ≡ aroundWhole (whole-of (decode 63 pred (drop p row)))
-  unfolding decodeAll
-  row-whole = ap whole-of (node-here 63 pred row 0 (h .low)) ∙ rw (h .tag, h .is) (go (decode 63 pred (drop p row)) refl)
-    where
-      go : (g : Got) → decode 63 pred (drop p row) ≡ g → whole-of (close t (length (h .names) ∷ []) (h .names) (decodeAll (λ s l. decode 63 s l) (pred ∷ []) (drop p row))) ≡ aroundWhole (whole-of (decode 63 pred (drop p row)))
-      go (got f []) e = rw (e, tag-node t (h .which))
-      go (got f (w ∷ x)) e = rw e
-      go no-form e = rw e
-
-  around-point : (f : Form) → onePoint (around f) ≡ reduce t (h .names) (scan (length (h .names)) (polarity t) f)
-  unfolding onePoint quantified
-  around-point f = rw (h .which)
-
--- the whole call
-abbrev pointGo : ℕ → Sort → Form → Outcome
-pointGo room s f = ofResult room (onePoint f)
-
-module _ (row : List ℕ) (wl room : ℕ) where
-  pub point-small : wl < 16384 → pointOutcome row wl room ≡ refusal 15
-  unfolding pointOutcome
-  point-small h = rw (lt-leb 16384 wl h)
-
-  module _ (enough : 16384 ≤ wl) where
-    pub point-long : 8192 < length row → pointOutcome row wl room ≡ refusal 1
-    unfolding pointOutcome
-    point-long h = rw (le-leb 16384 wl enough) (too-long Predicate row (pointGo room) h)
-
-    module _ (short : length row ≤ 8192) where
-      pub point-missing : (a : Answer) (k : ℕ) → a ≡ told (checkOutcome Predicate row) → a ≡ No k → pointOutcome row wl room ≡ refusal 2
-      unfolding pointOutcome
-      point-missing a k e n = rw (le-leb 16384 wl enough) (no-form-there Predicate row (pointGo room) short (is-missing Predicate row a k short e n))
-
-      pub point-other : PredRow row → (q : Quantifier) → q ≡ quantifierIn row → q ≡ None → pointOutcome row wl room ≡ refusal 9
-      unfolding pointOutcome onePoint
-      point-other x q e n =
-          let d : decode 64 pred row ≡ got (x .form) [] = rw (x .words, ← append-nil (encode (x .form))) (decode-encode (x .ok) []) in
-          let z = not-quant (x .ok) (ap declaredIn (sym (x .words)) ∙ no-head row (x .form) d (sym e ∙ n)) in
-          rw (le-leb 16384 wl enough) (form-there Predicate row (pointGo room) pred (x .form) short (x .is-found) ∙ rw z)
-
-      module _ (t p : ℕ) (h : HeadRead row t p) where
-        pub reducing : Reducing t (take (p - 2) (drop 2 row)) (take (length row - p) (drop p row)) wl
-        reducing =
-            let l = length-take (length row - p) (drop p row) in
-            record { which = h .which; few = rw (h .are) (h .few); names = rw (h .are) (h .good); short = omega arith; enough = enough }
-
-        pub point-body : bodyOutcome 63 t (take (p - 2) (drop 2 row)) (take (length row - p) (drop p row)) room ≡ pointOutcome row wl room
-        unfolding bodyOutcome pointOutcome formOf rowForm
-        point-body = rw (h .are, rest-part row p, le-leb 16384 wl enough, le-leb (length row) 8192 short, row-whole row t p h) (go (whole-of (decode 63 pred (drop p row))))
-          where
-            go : (w : Whole) → reducedIn t (h .names) room w ≡ ofFound (pointGo room) (asSort pred (aroundWhole row t p h w))
-            go (one f) = ap (ofResult room) (sym (around-point row t p h f))
-            go not-one = refl

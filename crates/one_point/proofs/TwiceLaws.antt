@@ -1,9 +1,9 @@
 -- Two nots one in the other: what the scan of their child tells of them, in words and marks. Assumes nothing.
-use mathlib.Core.Path.{_≡_, refl, ap, sym, _∙_}
+use mathlib.Core.Path.{_≡_, refl, ap, _∙_}
 use mathlib.Core.Bool.{Bool, true, false, not}
 use mathlib.Core.Option.{Option, none as absent, some, Option·map}
 use mathlib.Core.List.{List, []}
-use Prim.Native.Nat.{ℕ, suc, _+_, _-_, _*_, _≤_, _<_}
+use Prim.Native.Nat.{ℕ, suc, _+_, _-_, _≤_, _<_}
 use native.Mathlib.Omega.{arith}
 use borrow.Author.Tests.{ltb-true, ltb-false}
 use lib.Dec.{ltb}
@@ -13,14 +13,13 @@ use Rattle.tree.specs.Tag.{pred}
 use Rattle.form.specs.Decode.{got, no-form, decode}
 use Rattle.form.proofs.DecodeLaws.{clash}
 use Rattle.reader.specs.Internal.Reads.{mark}
-use Rattle.rules.specs.Replacement.{Taken}
 use Rattle.rules.specs.Scan.{scanned, negate, scan}
 use Rattle.places.specs.Internal.Wrote.{Wrote}
 use Rattle.places.proofs.PartsLaws.{some-words}
 use Rattle.places.proofs.WroteLaws.{wrote-end, wrote-in, kept, wrote-self, based}
 use Rattle.one_point.specs.Internal.Writes.{Neat}
 use Rattle.one_point.specs.Internal.Scans.{Left, Became, ScanTold, Entered}
-use Rattle.one_point.specs.Internal.Marks.{leftOf, markLeft, ClearFrom, ScanMarks}
+use Rattle.one_point.specs.Internal.Marks.{markLeft, ClearFrom, ScanMarks}
 use Rattle.one_point.specs.declared.scan.Scanned.{Scanned}
 use Rattle.one_point.proofs.RebuildLaws.{notOf, not-words, scan-not}
 use Rattle.one_point.proofs.ReadLaws.{ScannedAt, told-no, tell, tell-no, none-deep, not-tag, one-got, first-no}

@@ -5,7 +5,6 @@ use mathlib.Core.List.{List, [], _∷_}
 use Prim.Native.Nat.{ℕ, _≤_, _<_}
 use native.Mathlib.Omega.{arith}
 use borrow.Author.Tests.{le-leb, lt-leb}
-use lib.Dec.{leb}
 use lib.ListN.{length, getD, length-append}
 use Rattle.tree.specs.Form.{Form, pick, encode}
 use Rattle.tree.specs.Tag.{Sort, expr, pred, shapeOf}

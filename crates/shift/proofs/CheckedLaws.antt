@@ -6,7 +6,7 @@ use borrow.Author.Tests.{le-leb, lt-leb}
 use lib.ListN.{length, replicate}
 use Rattle.tree.specs.Form.{Form, encode}
 use Rattle.tree.specs.Tag.{Sort}
-use Rattle.form.specs.Decode.{one, rowForm, Found, found, missing, formOf}
+use Rattle.form.specs.Decode.{Found, found, missing, formOf}
 use Rattle.form.specs.Answer.{Outcome, refusal, told, written, withForm, checkOutcome}
 use Rattle.reader.specs.Internal.Reads.{mark, Marked}
 use Rattle.form.specs.declared.answer.Kind.{Kind}

@@ -6,7 +6,7 @@ use mathlib.Core.List.{List}
 use Prim.Native.Nat.{ℕ, _+_, _-_, _*_, _^_, _≤_, _<_}
 use lib.Dec.{eqb}
 use lib.ListN.{length, getD, drop, replicate}
-use Rattle.tree.specs.Form.{Form, Forms, pick, encodeAll}
+use Rattle.tree.specs.Form.{Form, Forms, pick}
 use Rattle.tree.specs.Tag.{pred}
 use Rattle.form.specs.Decode.{Got, got, no-form, decode}
 use Rattle.reader.specs.Internal.Reads.{mark, markAll}

@@ -1,5 +1,4 @@
 -- `one_point::marks::mark_pred` meets its contract. Assumes nothing.
-use mathlib.Core.Path.{refl}
 use native.Mathlib.Omega.{arith}
 use Rattle.one_point.proofs.MarkLaws.{past-row, bad-end, rest-none, no-marks, slice-bad, slice-end, slice-in, slice-marks}
 use borrow.Author.Needs.{needs}

@@ -3,7 +3,7 @@ use mathlib.Core.Path.{_≡_, refl}
 use Prim.Native.Nat.{_-_, _≤_}
 use lib.ListN.{length, length-set}
 use native.Mathlib.Omega.{arith}
-use Rattle.one_point.proofs.MarkLaws.{raisedTo, raise-here, raise-more, raise-all}
+use Rattle.one_point.proofs.RaiseLaws.{raisedTo, raise-here, raise-more, raise-all}
 use Rattle.one_point.proofs.marks.raise.Statement.{statement}
 use Rattle.one_point.proofs.marks.raise.Tie as tie
 use Rattle.one_point.proofs.marks.raise.Reads as reads

@@ -4,7 +4,7 @@ use native.Mathlib.Omega.{arith}
 use lib.ListN.{length}
 use Rattle.shift.proofs.CheckedLaws.{refused, passed}
 use Rattle.places.proofs.PlacesLaws.{pred-row}
-use Rattle.one_point.proofs.PointLaws.{point-small, point-long, point-missing, point-other, head-read, reducing, point-body}
+use Rattle.one_point.proofs.QuantifierLaws.{point-small, point-long, point-missing, point-other, head-read, reducing, point-body}
 use borrow.Author.Needs.{needs}
 use Rattle.one_point.proofs.one_point_inference.one_point_inference.Statement.{statement}
 use Rattle.one_point.proofs.one_point_inference.one_point_inference.Tie as tie

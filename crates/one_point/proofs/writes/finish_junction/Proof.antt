@@ -1,5 +1,4 @@
 -- `one_point::writes::finish_junction` meets its contract. Assumes nothing.
-use mathlib.Core.Path.{refl}
 use native.Mathlib.Omega.{arith}
 use lib.ListN.{length-set}
 use Rattle.one_point.proofs.WriteLaws.{join-none, join-one, join-more}

@@ -1,6 +1,6 @@
 -- `replace::pieces::fill_piece` meets its contract. Assumes nothing.
 use mathlib.Core.Path.{sym}
-use borrow.Author.Tests.{lt-ltb, le-ltb, le-leb, lt-leb, eq-eqb, ne-eqb}
+use borrow.Author.Tests.{lt-ltb, le-ltb, le-leb, lt-leb, eq-eqb}
 use Rattle.replace.specs.Internal.Pieces.{placePiece, fillPiece, planFor}
 use Rattle.replace.proofs.PieceLaws.{used-first, used-few, part-is}
 use borrow.Author.Needs.{needs}

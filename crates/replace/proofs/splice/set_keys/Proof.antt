@@ -5,7 +5,6 @@ use borrow.Author.Needs.{needs}
 use Prim.Native.Nat.{ℕ, _-_, _%_, _<_}
 use lib.ListN.{length, getD, length-set}
 use lib.Seq.{getD-set-other}
-use Rattle.replace.specs.Internal.Splice.{Keys}
 use Rattle.replace.proofs.SpliceSlots.{key-more}
 use Rattle.replace.proofs.splice.set_keys.Statement.{statement}
 use Rattle.replace.proofs.splice.set_keys.Tie as tie

@@ -6,7 +6,6 @@ use Prim.Native.Nat.{ℕ, _+_, _-_, _≤_, _<_}
 use lib.ListN.{length, getD, drop, length-set}
 use lib.Seq.{getD-set-same, getD-set-other}
 use Rattle.replace.specs.Internal.Pieces.{filledWords}
-use Rattle.replace.specs.Internal.Splice.{Slots}
 use Rattle.replace.proofs.PieceLaws.{filled-few, falls-none, falls-next}
 use Rattle.replace.proofs.SpliceSlots.{table-step, zeros-at}
 use Rattle.replace.proofs.splice.set_slots.Statement.{statement}

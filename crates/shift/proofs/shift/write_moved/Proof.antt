@@ -2,7 +2,7 @@
 use mathlib.Core.Path.{_≡_, refl, sym, ap, _∙_}
 use native.Mathlib.Omega.{arith}
 use borrow.Author.Needs.{needs}
-use Prim.Native.Nat.{_-_, _+_, _≤_}
+use Prim.Native.Nat.{_-_, _≤_}
 use lib.ListN.{length, getD, drop, set, length-set}
 use Rattle.shift.specs.Internal.Items.{wordwise, moveAt, store}
 use Rattle.shift.proofs.WordwiseLaws.{word-more, word-none, back-one}
