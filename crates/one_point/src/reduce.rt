@@ -29,8 +29,8 @@ impl Depth {
     pub const MOST: u32 = 63;
 }
 
-// Whether what is left of a body that was read so deep is sure to stay within the limits with the part put into it; where the part is too deep for
-// any such body, it is read again.
+// Whether what is left of a body that was read so deep is sure to stay within the limits with the part put into it. Where the depth alone does not
+// say so, what is left is read again, as deep as the part allows.
 fn is_sure(part: &[u32], rest: &[u32], depth: u32) -> bool
     ensures { λ r. ⌜ r ≡ isSure depth (now (part .entry)) (now (rest .entry)) ⌝ }
 {
