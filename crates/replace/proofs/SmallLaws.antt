@@ -26,7 +26,7 @@ use Rattle.form.proofs.ListLaws.{GoodAll, list-sound}
 use Rattle.reader.proofs.TableLaws.{listed-n}
 use Rattle.shift.specs.Internal.Items.{allBelow}
 use Rattle.rules.proofs.WalkLaws.{and-left, and-right}
-use Rattle.replace.specs.Internal.Pieces.{part, deepPart, deepAt, firstDepth, depthFrom, depthLeft, deepParts, depthLeftBy, Leaves}
+use Rattle.replace.specs.Internal.Pieces.{part, deepPart, deepAt, nextDepth, firstDepth, depthFrom, depthLeft, deepParts, depthLeftBy, Leaves}
 use Rattle.rules.proofs.OkLaws.{ok-deep}
 use Rattle.replace.proofs.EntryLaws.{listed-part}
 use Rattle.replace.proofs.InsideLaws.{Small, SmallPlace, SmallPlaces, small-split, small-places}
@@ -37,25 +37,29 @@ record Depth (from : ℕ) (test : ℕ → Bool) (r : ℕ) : Type 0 where
   most : r ≤ 65
   holds : r ≤ 64 → test r ≡ true
 
+next-more : (d : ℕ) → d < nextDepth d
+unfolding nextDepth
+next-more d = omega arith
+
 first-is : (k d : ℕ) (test : ℕ → Bool) → Depth d test (firstDepth k d test)
 unfolding firstDepth
 first-is zero d test = record { least = λ h. absurd (omega arith); most = omega arith; holds = λ h. absurd (omega arith) }
-first-is (suc k) d test = go (leb d 64) (test d) refl refl (first-is k (2 * d + 1) test)
+first-is (suc k) d test = go (leb d 64) (test d) refl refl (first-is k (nextDepth d) test)
   where
-    go : (b c : Bool) → leb d 64 ≡ b → test d ≡ c → Depth (2 * d + 1) test (firstDepth k (2 * d + 1) test) → Depth d test (pick b (pick c d (firstDepth k (2 * d + 1) test)) 65)
+    go : (b c : Bool) → leb d 64 ≡ b → test d ≡ c → Depth (nextDepth d) test (firstDepth k (nextDepth d) test) → Depth d test (pick b (pick c d (firstDepth k (nextDepth d) test)) 65)
     go true true q e i = let h = leb-true d 64 q in record { least = λ l. omega arith; most = omega arith; holds = λ l. e }
-    go true false q e i = record { least = λ l. (let a = i .least l in omega arith); most = i .most; holds = i .holds }
+    go true false q e i = record { least = λ l. (let a = i .least l in let n = next-more d in omega arith); most = i .most; holds = i .holds }
     go false c q e i = record { least = λ h. absurd (omega arith); most = omega arith; holds = λ h. absurd (omega arith) }
 
 first-same : (k d : ℕ) (f g : ℕ → Bool) → ((d : ℕ) → f d ≡ g d) → firstDepth k d f ≡ firstDepth k d g
 unfolding firstDepth
 first-same zero d f g h = refl
-first-same (suc k) d f g h = rw (h d, first-same k (2 * d + 1) f g h)
+first-same (suc k) d f g h = rw (h d, first-same k (nextDepth d) f g h)
 
 first-never : (k d : ℕ) (test : ℕ → Bool) → ((d : ℕ) → test d ≡ false) → firstDepth k d test ≡ 65
 unfolding firstDepth
 first-never zero d test h = refl
-first-never (suc k) d test h = rw (h d, first-never k (2 * d + 1) test h) (go (leb d 64))
+first-never (suc k) d test h = rw (h d, first-never k (nextDepth d) test h) (go (leb d 64))
   where
     go : (b : Bool) → pick {A = ℕ} b 65 65 ≡ 65
     go true = refl
@@ -70,23 +74,23 @@ first-enough : (k j d : ℕ) (test : ℕ → Bool) → 65 ≤ k + d → 65 ≤ j
 unfolding firstDepth
 first-enough zero j d test h g = sym (first-past j d test (omega arith))
 first-enough (suc k) zero d test h g = first-past (suc k) d test (omega arith)
-first-enough (suc k) (suc j) d test h g = rw (first-enough k j (2 * d + 1) test (omega arith) (omega arith))
+first-enough (suc k) (suc j) d test h g = let n = next-more d in rw (first-enough k j (nextDepth d) test (omega arith) (omega arith))
 
 -- the first depth at which two tests hold, if the one holds ever after: the first for the other from the one's on
 module _ (f g : ℕ → Bool) where
   first-under : (k d : ℕ) → ((e : ℕ) → d ≤ e → f e ≡ true) → firstDepth k d (λ e. f e && g e) ≡ firstDepth k d g
   unfolding firstDepth
   first-under zero d h = refl
-  first-under (suc k) d h = rw (h d (omega arith), first-under k (2 * d + 1) (λ e l. h e (omega arith)))
+  first-under (suc k) d h = let n = next-more d in rw (h d (omega arith), first-under k (nextDepth d) (λ e l. h e (omega arith)))
 
   module _ (grows : (d e : ℕ) → d ≤ e → f d ≡ true → f e ≡ true) where
     first-and : (k j d : ℕ) → 65 ≤ k + d → 65 ≤ j + d → firstDepth k d (λ e. f e && g e) ≡ firstDepth j (firstDepth k d f) g
     unfolding firstDepth
     first-and zero j d h l = sym (first-past j 65 g (omega arith))
-    first-and (suc k) j d h l = go (leb d 64) (f d) refl refl (first-and k j (2 * d + 1) (omega arith) (omega arith))
+    first-and (suc k) j d h l = let n = next-more d in go (leb d 64) (f d) refl refl (first-and k j (nextDepth d) (omega arith) (omega arith))
       where
-        go : (b c : Bool) → leb d 64 ≡ b → f d ≡ c → firstDepth k (2 * d + 1) (λ e. f e && g e) ≡ firstDepth j (firstDepth k (2 * d + 1) f) g
-            → firstDepth (suc k) d (λ e. f e && g e) ≡ firstDepth j (pick b (pick c d (firstDepth k (2 * d + 1) f)) 65) g
+        go : (b c : Bool) → leb d 64 ≡ b → f d ≡ c → firstDepth k (nextDepth d) (λ e. f e && g e) ≡ firstDepth j (firstDepth k (nextDepth d) f) g
+            → firstDepth (suc k) d (λ e. f e && g e) ≡ firstDepth j (pick b (pick c d (firstDepth k (nextDepth d) f)) 65) g
         go true true q e i = first-under (suc k) d (λ x m. grows d x m e) ∙ first-enough (suc k) j d g h l
         go true false q e i = rw (q, e) i
         go false c q e i = rw q (sym (first-past j 65 g (omega arith)))
@@ -124,13 +128,17 @@ module _ (test : ℕ → Bool) (from d : ℕ) (t : Tried test from d) where
         go zero l e = absurd (omega arith)
         go (suc k) l e = sym (e ∙ rw (le-leb d 64 (omega arith), y))
 
-    pub tried-more : test d ≡ false → Tried test from (2 * d + 1)
+    pub tried-more : test d ≡ false → Tried test from (nextDepth d)
     unfolding firstDepth
     tried-more n = go (t .0) (t .1) (t .2)
       where
-        go : (k : ℕ) → 65 ≤ k + d → depthFrom from test ≡ firstDepth k d test → Tried test from (2 * d + 1)
+        go : (k : ℕ) → 65 ≤ k + d → depthFrom from test ≡ firstDepth k d test → Tried test from (nextDepth d)
         go zero l e = absurd (omega arith)
-        go (suc k) l e = (k, omega arith, e ∙ rw (le-leb d 64 (omega arith), n))
+        go (suc k) l e = let m = next-more d in (k, omega arith, e ∙ rw (le-leb d 64 (omega arith), n))
+
+pub next-is : (d m : ℕ) → m ≡ d - 2 → (nextDepth d ≡ d + 1 + m) × (d < d + 1 + m)
+unfolding nextDepth
+next-is d m e = (rw e refl, omega arith)
 
 -- a row by the reader's answer
 module _ (d : ℕ) (most : d ≤ 64) (ws a b : List ℕ) (r : Step) (t : Told 0 0 (decodeIn d 0 expr ws) a b r) where
@@ -178,7 +186,7 @@ module _ (s e : ℕ) (l : List ℕ) where
     unfolding firstDepth deepAt
     at-none m h = go (leb from 64) refl
       where
-        go : (b : Bool) → leb from 64 ≡ b → from ≡ pick (leb from 64) (pick (deepAt from s e l) from (firstDepth 64 (2 * from + 1) (λ d. deepAt d s e l))) 65
+        go : (b : Bool) → leb from 64 ≡ b → from ≡ pick (leb from 64) (pick (deepAt from s e l) from (firstDepth 64 (nextDepth from) (λ d. deepAt d s e l))) 65
         go true q = rw (q, le-leb e s h)
         go false q = let g = leb-false from 64 q in rw q (omega arith)
 

@@ -1,4 +1,5 @@
 // How deep a form may be so that it stays within the limits wherever expressions are put into it.
+use crate::pieces::less;
 use form::head::Step;
 use reader::lists::Table;
 use reader::reader::expr_at;
@@ -35,7 +36,7 @@ fn is_within(row: &[u32], depth: u32) -> bool
     true
 }
 
-// The first of `from`, one more than twice that, and so on within which the row is exactly one expression; 65 where none is.
+// The first of `from` and the depths tried after it (1, 2, 3, 5, 9, 17, 33) within which the row is exactly one expression; 65 where none is.
 fn depth_from(row: &[u32], from: u32) -> u32
     ensures { λ r. ⌜ r ≡ depthFrom from (λ d. deepPart d (now (row .entry))) ⌝ }
 {
@@ -44,7 +45,7 @@ fn depth_from(row: &[u32], from: u32) -> u32
         if is_within(row, d) {
             return d;
         }
-        d = 2 * d + 1;
+        d = d + 1 + less(d, 2);
     }
     Margin::DEPTHS
 }
@@ -63,7 +64,7 @@ fn depth_at(start: usize, end: usize, list: &[u32], from: u32) -> u32
     depth_from(&list[start..end], from)
 }
 
-// The first of 1, 3, 7 and so on within which each of the first n parts of the list is an expression; 65 where none is.
+// The first of 1, 2, 3, 5, 9, 17 and 33 within which each of the first n parts of the list is an expression; 65 where none is.
 fn parts_depth(starts: &[usize], ends: &[usize], n: usize, list: &[u32]) -> u32
     requires { ⌜ n ≤ length (now starts) ⌝ }
     requires { ⌜ n ≤ length (now ends) ⌝ }

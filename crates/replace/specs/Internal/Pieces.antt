@@ -143,16 +143,19 @@ deepPart d ws = isOne (whole (decode d expr ws))
 unfoldable pub deepAt : ℕ → ℕ → ℕ → List ℕ → Bool
 deepAt d s e l = pick (leb e s) true (leb e (length l) && deepPart d (part s e l))
 
--- the first of d, one more than twice d and so on, none over 64, at which the test holds; 65 where there is none: at most k are tried, and
--- of 65 all
+-- the depths that are tried: 1, 2, 3, 5, 9, 17, 33
+unfoldable pub nextDepth : ℕ → ℕ
+nextDepth d = d + 1 + (d - 2)
+
+-- the first of d, the depth after it and so on, none over 64, at which the test holds; 65 where there is none: at most k are tried, and of 65 all
 unfoldable pub firstDepth : ℕ → ℕ → (ℕ → Bool) → ℕ
 firstDepth zero d test = 65
-firstDepth (suc k) d test = pick (leb d 64) (pick (test d) d (firstDepth k (2 * d + 1) test)) 65
+firstDepth (suc k) d test = pick (leb d 64) (pick (test d) d (firstDepth k (nextDepth d) test)) 65
 
 abbrev pub depthFrom : ℕ → (ℕ → Bool) → ℕ
 depthFrom d test = firstDepth 65 d test
 
--- how deep a form may be that is sure to stay one when the row is put into it, or 0: what the first of 1, 3, 7, 15, 31 and 63 within which
+-- how deep a form may be that is sure to stay one when the row is put into it, or 0: what the first of 1, 2, 3, 5, 9, 17 and 33 within which
 -- the row is exactly one expression leaves of 65, if 2,048 can be added to each word
 unfoldable pub depthLeft : List ℕ → ℕ
 depthLeft row = pick (allBelow 63488 row) (65 - depthFrom 1 (λ d. deepPart d row)) 0
