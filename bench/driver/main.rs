@@ -219,14 +219,16 @@ fn processor_time() -> f64 {
 struct Least(Vec<f64>);
 
 impl Least {
-    /// The wall clock reads short parts closely; the processor time of a long part leaves other programs' turns out.
+    /// The wall clock reads short parts closely; the processor time of a long part, of a millisecond and more, leaves
+    /// other programs' turns out.
     fn time(&mut self, part: usize, pass: impl FnOnce()) {
         let taken = processor_time();
         let start = Instant::now();
         pass();
         let wall = start.elapsed().as_nanos() as f64;
         let taken = processor_time() - taken;
-        self.0[part] = self.0[part].min(wall).min(taken);
+        let time = if wall > 1e6 && taken > 0.0 { wall.min(taken) } else { wall };
+        self.0[part] = self.0[part].min(time);
     }
 }
 
