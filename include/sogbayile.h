@@ -14,6 +14,9 @@
  * OWNERSHIP. All rows are the caller's. The library allocates nothing and keeps no pointer, has no state, and
  * may be called from several threads with rows of their own. A work row may hold anything before and after.
  *
+ * STACK. As measured on rows of some 8,000 words, 56 to 64 deep, a call takes up to 300 KB of the caller's stack:
+ * sgb_point 295 KB, sgb_member 245, sgb_free 145, sgb_fill 135, sgb_dangling 113, the others less than 60.
+ *
  * REFUSALS, in the order in which they are tested: 15, then 1 and 2 for each row (the form first, then the
  * list), 3, 4, 5, 6, 9, 7, 14; for offers 1, 2, 5, 10, 11, 12, 13.
  *
