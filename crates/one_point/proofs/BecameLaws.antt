@@ -14,7 +14,7 @@ use Rattle.rules.specs.Scan.{Scan, scanned, negate, scan}
 use Rattle.places.specs.Internal.Wrote.{Wrote}
 use Rattle.one_point.specs.Internal.Writes.{Neat, neat-not, neat-other}
 use Rattle.one_point.specs.Internal.Scans.{Left, Became, ScanTold, Entered}
-use Rattle.one_point.specs.declared.scan.Scanned.{Scanned}
+use Rattle.one_point.specs.declared.scanned.Scanned.{Scanned}
 use Rattle.places.proofs.PartsLaws.{some-words}
 use Rattle.places.proofs.WroteLaws.{wrote-end, wrote-in, kept, wrote-self, based}
 use Rattle.one_point.proofs.WriteLaws.{negate-other}

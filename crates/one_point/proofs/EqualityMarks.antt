@@ -21,7 +21,7 @@ use Rattle.places.proofs.PartsOk.{equal-ok}
 use Rattle.one_point.specs.Internal.Parts.{acceptWords, isTaken, TookIs}
 use Rattle.one_point.specs.Internal.Scans.{Left, Became, Sided}
 use Rattle.one_point.specs.Internal.Marks.{leftOf, markLeft, RestMarks}
-use Rattle.one_point.specs.declared.scan.Scanned.{Scanned}
+use Rattle.one_point.specs.declared.scanned.Scanned.{Scanned}
 use Rattle.one_point.proofs.PartsStepLaws.{not-taken, took-not}
 use Rattle.one_point.proofs.ScanLaws.{sides-end, sides-in}
 use Rattle.one_point.proofs.EqualityLaws.{part-scan, offered}

@@ -16,7 +16,7 @@ use Rattle.places.specs.Internal.Wrote.{Wrote}
 use Rattle.one_point.specs.Internal.Writes.{leftWords, Neat, neat-other}
 use Rattle.one_point.specs.Internal.Parts.{TookIs}
 use Rattle.one_point.specs.Internal.Scans.{Left, Became, ScanTold, Entered, nextScan}
-use Rattle.one_point.specs.declared.scan.Scanned.{Scanned}
+use Rattle.one_point.specs.declared.scanned.Scanned.{Scanned}
 use Rattle.places.proofs.WroteLaws.{wrote-end, wrote-on, wrote-word, kept, wrote-self, based}
 use Rattle.one_point.proofs.RebuildLaws.{impliesOf, implies-words, scan-left, scan-both}
 use Rattle.one_point.proofs.BecameLaws.{neat-negate, negate-words, Child, child-of, child-room}

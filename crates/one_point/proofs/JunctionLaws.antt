@@ -20,7 +20,7 @@ use Rattle.reader.specs.Internal.Reads.{mark, markAll}
 use Rattle.one_point.specs.Internal.Marks.{leftOf, leftsOf, markLeft, SearchedMarks}
 use Rattle.places.specs.declared.sides.Replacement.{Replacement}
 use Rattle.places.specs.declared.sides.Replacement.the-variants.{Not}
-use Rattle.one_point.specs.declared.scan.Scanned.{Scanned}
+use Rattle.one_point.specs.declared.scanned.Scanned.{Scanned}
 use Rattle.places.proofs.WroteLaws.{wrote-end, wrote-on}
 use Rattle.one_point.proofs.BecameLaws.{child-of}
 use Rattle.one_point.proofs.ChildrenLaws.{kids-same, kids-split, kids-length, kids-no}

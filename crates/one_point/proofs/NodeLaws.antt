@@ -21,7 +21,7 @@ use Rattle.one_point.specs.Internal.Writes.{leftWords, isGone}
 use Rattle.one_point.specs.Internal.Parts.{isTaken, TookIs}
 use Rattle.one_point.specs.Internal.Scans.{Left, Became, Told, ScanTold, nextScan, KidsTold}
 use Rattle.places.specs.declared.sides.Replacement.{Replacement}
-use Rattle.one_point.specs.declared.scan.Scanned.{Scanned}
+use Rattle.one_point.specs.declared.scanned.Scanned.{Scanned}
 use Rattle.reader.specs.Internal.Reads.{markAll}
 use Rattle.one_point.specs.Internal.Marks.{leftOf, leftsOf, markLeft, ClearFrom, ScanMarks}
 use Rattle.one_point.proofs.MarkLaws.{tell-marks}

@@ -28,7 +28,7 @@ use Rattle.one_point.specs.Internal.Reduce.{placedOutcome, Placing, empt
 use Rattle.one_point.specs.Internal.Marks.{markLeft, MarksTold, ScanMarks}
 use Rattle.places.specs.declared.sides.Replacement.{Replacement}
 use Rattle.places.specs.declared.sides.Replacement.the-variants.{Is, Not}
-use Rattle.one_point.specs.declared.scan.Scanned.{Scanned}
+use Rattle.one_point.specs.declared.scanned.Scanned.{Scanned}
 use Rattle.places.proofs.SidesLaws.{part-words}
 use Rattle.places.proofs.PartsLaws.{some-words, in-row}
 use Rattle.one_point.proofs.ReadLaws.{ScannedAt, told-ok, told-no}

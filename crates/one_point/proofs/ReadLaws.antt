@@ -18,7 +18,7 @@ use Rattle.rules.proofs.OkLaws.{ok-deep}
 use Rattle.rules.specs.Split.{equal}
 use Rattle.rules.specs.Scan.{Scan}
 use Rattle.one_point.specs.Internal.Scans.{Became, Told, ScanTold, Sided, readKids, kidsAt, isRead, areKids}
-use Rattle.one_point.specs.declared.scan.Scanned.{Scanned}
+use Rattle.one_point.specs.declared.scanned.Scanned.{Scanned}
 use Rattle.places.proofs.PartsLaws.{some-words}
 use Rattle.one_point.proofs.ScanLaws.{EndsAt, fits}
 

@@ -21,7 +21,7 @@ use Rattle.one_point.specs.Internal.Writes.{leftWords, Neat}
 use Rattle.one_point.specs.Internal.Parts.{isTaken, TookIs}
 use Rattle.one_point.specs.Internal.Scans.{Left, ScanTold, Entered, nextScan}
 use Rattle.one_point.specs.Internal.Marks.{leftOf, markLeft, ClearFrom, Clean, MarksTold, ScanMarks}
-use Rattle.one_point.specs.declared.scan.Scanned.{Scanned}
+use Rattle.one_point.specs.declared.scanned.Scanned.{Scanned}
 use Rattle.one_point.proofs.RebuildLaws.{notOf, scan-not}
 use Rattle.one_point.proofs.PartsStepLaws.{not-taken, took-not}
 use Rattle.one_point.proofs.ReadLaws.{ScannedAt, told-no, bounds, not-tag, one-got}

@@ -20,7 +20,7 @@ use Rattle.places.proofs.WroteLaws.{wrote-end, wrote-in, kept, wrote-self, base
 use Rattle.one_point.specs.Internal.Writes.{Neat}
 use Rattle.one_point.specs.Internal.Scans.{Left, Became, ScanTold, Entered}
 use Rattle.one_point.specs.Internal.Marks.{markLeft, ClearFrom, ScanMarks}
-use Rattle.one_point.specs.declared.scan.Scanned.{Scanned}
+use Rattle.one_point.specs.declared.scanned.Scanned.{Scanned}
 use Rattle.one_point.proofs.RebuildLaws.{notOf, not-words, scan-not}
 use Rattle.one_point.proofs.ReadLaws.{ScannedAt, told-no, tell, tell-no, none-deep, not-tag, one-got, first-no}
 use Rattle.one_point.proofs.BecameLaws.{Child, child-of, neat-negate, negate-words}

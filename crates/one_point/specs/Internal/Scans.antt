@@ -17,7 +17,7 @@ use Rattle.one_point.specs.Internal.Parts.{TookIs}
 use Rattle.form.specs.declared.head.Step.{Step}
 use Rattle.form.specs.declared.head.Step.the-variants.{End, Bad}
 use Rattle.places.specs.declared.sides.Replacement.{Replacement}
-use Rattle.one_point.specs.declared.scan.Scanned.{Scanned}
+use Rattle.one_point.specs.declared.scanned.Scanned.{Scanned}
 use Rattle.one_point.specs.declared.children.Stopped.{Stopped}
 
 abbrev pub NeatLeft : Option Form → Type 0

@@ -50,10 +50,10 @@ use Rattle.one_point.proofs.scan.+scan_implies+scan_junction+scan_next+
 use Rattle.one_point.proofs.children.one_more.Reads as one-more-reads
 use Rattle.one_point.proofs.children.mark_preds.Reads as mark-preds-reads
 use Rattle.one_point.proofs.parts.is_taken.Reads as is-taken-reads
-use Rattle.one_point.proofs.scan.copy_pred.Reads as copy-pred-reads
+use Rattle.one_point.proofs.scanned.copy_pred.Reads as copy-pred-reads
 use Rattle.one_point.proofs.scan.is_not.Reads as is-not-reads
-use Rattle.one_point.proofs.scan.no_pred.Reads as no-pred-reads
-use Rattle.one_point.proofs.scan.scan_equality.Reads as scan-equality-reads
+use Rattle.one_point.proofs.scanned.no_pred.Reads as no-pred-reads
+use Rattle.one_point.proofs.equality.scan_equality.Reads as scan-equality-reads
 use Rattle.one_point.proofs.scan.start_of.Reads as start-of-reads
 use Rattle.one_point.proofs.writes.copy_part.Reads as copy-part-reads
 use Rattle.one_point.proofs.writes.finish_marks.Reads as finish-marks-reads

@@ -1,4 +1,4 @@
--- `one_point::scan::copy_pred` meets its contract. Assumes nothing.
+-- `one_point::scanned::copy_pred` meets its contract. Assumes nothing.
 use mathlib.Core.Path.{refl}
 use native.Mathlib.Omega.{arith}
 use Rattle.tree.specs.Tag.{pred}
@@ -6,12 +6,12 @@ use Rattle.one_point.proofs.ScanLaws.{ends-at, ends-not, fits, copied-f
 use Rattle.one_point.proofs.ReadLaws.{tell, tell-no}
 use Rattle.one_point.proofs.MarkLaws.{no-marks, plain-marks}
 use borrow.Author.Needs.{needs}
-use Rattle.one_point.proofs.scan.copy_pred.Statement.{statement}
-use Rattle.one_point.proofs.scan.copy_pred.Tie as tie
-use Rattle.one_point.proofs.scan.copy_pred.Reads as reads
-use Rattle.one_point.proofs.scan.copy_pred.Lts as lts
+use Rattle.one_point.proofs.scanned.copy_pred.Statement.{statement}
+use Rattle.one_point.proofs.scanned.copy_pred.Tie as tie
+use Rattle.one_point.proofs.scanned.copy_pred.Reads as reads
+use Rattle.one_point.proofs.scanned.copy_pred.Lts as lts
 use Rattle.one_point.proofs.marks.mark_pred.Reads as mark-pred-reads
-use Rattle.one_point.proofs.scan.no_pred.Reads as no-pred-reads
+use Rattle.one_point.proofs.scanned.no_pred.Reads as no-pred-reads
 use Rattle.one_point.proofs.writes.copy_part.Reads as copy-part-reads
 
 mark-pred-requires : tie.Need-mark-pred-requires

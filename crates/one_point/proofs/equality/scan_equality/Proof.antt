@@ -1,4 +1,4 @@
--- `one_point::scan::scan_equality` meets its contract. Assumes nothing.
+-- `one_point::equality::scan_equality` meets its contract. Assumes nothing.
 use mathlib.Core.Path.{sym, _∙_}
 use mathlib.Core.Bool.{true}
 use Prim.Native.Nat.{_+_, _-_, _≤_}
@@ -10,13 +10,13 @@ use Rattle.one_point.proofs.ScanLaws.{ends-at, ends-not, sides-in}
 use Rattle.one_point.proofs.ReadLaws.{tell, tell-no, equal-no, equal-no-right, equal-read}
 use Rattle.one_point.proofs.MarkLaws.{no-marks, tell-marks}
 use borrow.Author.Needs.{needs}
-use Rattle.one_point.proofs.scan.scan_equality.Statement.{statement}
-use Rattle.one_point.proofs.scan.scan_equality.Tie as tie
-use Rattle.one_point.proofs.scan.scan_equality.Reads as reads
-use Rattle.one_point.proofs.scan.scan_equality.Lts as lts
-use Rattle.one_point.proofs.scan.no_pred.Reads as no-pred-reads
-use Rattle.one_point.proofs.scan.scan_part.Reads as scan-part-reads
-use Rattle.one_point.proofs.scan.scan_parts.Reads as scan-parts-reads
+use Rattle.one_point.proofs.equality.scan_equality.Statement.{statement}
+use Rattle.one_point.proofs.equality.scan_equality.Tie as tie
+use Rattle.one_point.proofs.equality.scan_equality.Reads as reads
+use Rattle.one_point.proofs.equality.scan_equality.Lts as lts
+use Rattle.one_point.proofs.scanned.no_pred.Reads as no-pred-reads
+use Rattle.one_point.proofs.equality.scan_part.Reads as scan-part-reads
+use Rattle.one_point.proofs.equality.scan_parts.Reads as scan-parts-reads
 use Rattle.places.proofs.positions.both_pairs.Reads as both-pairs-reads
 use Rattle.places.proofs.positions.skip_expr.Reads as skip-expr-reads
 

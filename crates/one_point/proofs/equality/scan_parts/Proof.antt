@@ -1,4 +1,4 @@
--- `one_point::scan::scan_parts` meets its contract. Assumes nothing.
+-- `one_point::equality::scan_parts` meets its contract. Assumes nothing.
 use mathlib.Core.Path.{refl}
 use Prim.Native.Nat.{_+_, _≤_}
 use native.Mathlib.Omega.{arith}
@@ -7,13 +7,13 @@ use Rattle.one_point.proofs.ScanLaws.{sides-in, sides-beside}
 use Rattle.one_point.proofs.EqualityLaws.{parts-done, parts-written, parts-inside}
 use Rattle.one_point.proofs.EqualityMarks.{rest-marks}
 use borrow.Author.Needs.{needs}
-use Rattle.one_point.proofs.scan.scan_parts.Statement.{statement}
-use Rattle.one_point.proofs.scan.scan_parts.Tie as tie
-use Rattle.one_point.proofs.scan.scan_parts.Reads as reads
-use Rattle.one_point.proofs.scan.scan_parts.Lts as lts
+use Rattle.one_point.proofs.equality.scan_parts.Statement.{statement}
+use Rattle.one_point.proofs.equality.scan_parts.Tie as tie
+use Rattle.one_point.proofs.equality.scan_parts.Reads as reads
+use Rattle.one_point.proofs.equality.scan_parts.Lts as lts
 use Rattle.one_point.proofs.parts.copy_parts.Reads as copy-parts-reads
 use Rattle.one_point.proofs.parts.search_parts.Reads as search-parts-reads
-use Rattle.one_point.proofs.scan.mark_rest.Reads as mark-rest-reads
+use Rattle.one_point.proofs.equality.mark_rest.Reads as mark-rest-reads
 use Rattle.one_point.proofs.writes.finish_junction.Reads as finish-junction-reads
 
 add-search-parts : tie.Need-add-search-parts

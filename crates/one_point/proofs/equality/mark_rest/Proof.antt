@@ -1,13 +1,13 @@
--- `one_point::scan::mark_rest` meets its contract. Assumes nothing.
+-- `one_point::equality::mark_rest` meets its contract. Assumes nothing.
 use mathlib.Core.Path.{refl}
 use native.Mathlib.Omega.{arith}
 use borrow.Author.Tests.{not-true, not-false}
 use Rattle.one_point.proofs.MarkLaws.{plain-marks}
 use borrow.Author.Needs.{needs}
-use Rattle.one_point.proofs.scan.mark_rest.Statement.{statement}
-use Rattle.one_point.proofs.scan.mark_rest.Tie as tie
-use Rattle.one_point.proofs.scan.mark_rest.Reads as reads
-use Rattle.one_point.proofs.scan.mark_rest.Lts as lts
+use Rattle.one_point.proofs.equality.mark_rest.Statement.{statement}
+use Rattle.one_point.proofs.equality.mark_rest.Tie as tie
+use Rattle.one_point.proofs.equality.mark_rest.Reads as reads
+use Rattle.one_point.proofs.equality.mark_rest.Lts as lts
 use Rattle.one_point.proofs.marks.mark_pred.Reads as mark-pred-reads
 
 mark-pred-requires : tie.Need-mark-pred-requires

@@ -1,4 +1,4 @@
--- `one_point::scan::scan_part` meets its contract. Assumes nothing.
+-- `one_point::equality::scan_part` meets its contract. Assumes nothing.
 use mathlib.Core.Path.{refl, ap, sym, _∙_}
 use mathlib.Core.Option.{Option}
 use native.Mathlib.Omega.{arith}
@@ -9,10 +9,10 @@ use Rattle.one_point.proofs.EqualityLaws.{part-taken, part-passed}
 use Rattle.one_point.proofs.EqualityMarks.{sided-read, taken-left, passed-left}
 use Rattle.one_point.proofs.MarkLaws.{marks-told, plain-marks}
 use borrow.Author.Needs.{needs}
-use Rattle.one_point.proofs.scan.scan_part.Statement.{statement}
-use Rattle.one_point.proofs.scan.scan_part.Tie as tie
-use Rattle.one_point.proofs.scan.scan_part.Reads as reads
-use Rattle.one_point.proofs.scan.scan_part.Lts as lts
+use Rattle.one_point.proofs.equality.scan_part.Statement.{statement}
+use Rattle.one_point.proofs.equality.scan_part.Tie as tie
+use Rattle.one_point.proofs.equality.scan_part.Reads as reads
+use Rattle.one_point.proofs.equality.scan_part.Lts as lts
 use Rattle.one_point.proofs.marks.mark_pred.Reads as mark-pred-reads
 use Rattle.one_point.proofs.parts.accept.Reads as accept-reads
 use Rattle.one_point.proofs.parts.is_taken.Reads as is-taken-reads
