@@ -1,6 +1,7 @@
 #!/usr/bin/env python3
 """Damaged command lines, and which of the refusals 8, 1, 2, 3, 4 and 5 document 01 gives each of them: a reading of
-its spelling, rows and lists apart from the program's definitions, held against the cell program's answers.
+its spelling, rows and lists apart from the program's definitions, held against the cell program's answers. The
+position that is printed with 2 is that of oracle/position.py.
 
   python3 bench/damaged.py SEED COUNT        in the repository's root, after rt check cell
 """
@@ -9,6 +10,9 @@ import random
 import re
 import subprocess
 import sys
+
+sys.path.insert(0, 'oracle')
+from position import position
 TOP = 2 ** 32 - 1
 
 
@@ -371,10 +375,10 @@ if __name__ == '__main__':
     for l, o in zip(lines, out):
         w = predict(l)
         if w is None:
-            ok = o not in ('[no 8]', '[no 1]', '[no 2]', '[no 3]', '[no 4]', '[no 5]')
+            ok = o not in ('[no 8]', '[no 1]', '[no 3]', '[no 4]', '[no 5]') and not o.startswith('[no 2 ')
             key = 'carried out'
         else:
-            ok = o == '[no %d]' % w
+            ok = o == ('[no 2 %s]' % position(l) if w == 2 else '[no %d]' % w)
             key = '[no %d]' % w
         T[key, ok] += 1
         if not ok:

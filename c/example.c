@@ -1,4 +1,4 @@
-/* Shifts one form by -1 and by -2, and offers one equality to a set of places. Its output is example.out. */
+/* Shifts one form by -1 and by -2, asks where a row breaks, and offers one equality to a set of places. Its output is example.out. */
 #include <stdio.h>
 
 #include "sogbayile.h"
@@ -6,10 +6,13 @@
 static void show(const char *what, uint64_t answer, const uint32_t *out)
 {
     printf("%s:", what);
-    if (sgb_number(answer) != 0)
+    if (sgb_number(answer) == SGB_NOT_A_FORM)
+        printf(" refused by 2 at word %u", sgb_position(answer));
+    else if (sgb_number(answer) != 0)
         printf(" refused by %u", sgb_number(answer));
-    for (uint32_t i = 0; i < sgb_length(answer); i++)
-        printf(" %u", out[i]);
+    else
+        for (uint32_t i = 0; i < sgb_length(answer); i++)
+            printf(" %u", out[i]);
     printf("\n");
 }
 
@@ -22,6 +25,10 @@ int main(void)
 
     show("shift -1", sgb_shift(row, n, -1, out, SGB_MAX_WORDS), out);
     show("shift -2", sgb_shift(row, n, -2, out, SGB_MAX_WORDS), out);
+
+    /* the right side of the equality is a predicate */
+    const uint32_t broken[] = {852, 1, 9, 101, 2, 0, 610};
+    show("check", sgb_check(broken, 7), out);
 
     const uint32_t equality[] = {101, 2, 0, 1, 7};
     size_t starts[SGB_PLACES], ends[SGB_PLACES];

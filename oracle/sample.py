@@ -11,7 +11,7 @@ half as many more.
 
 Answers are the Rust's (target/oracle), turned into document 01's numbers as compare.py does. Lines that the Rust cannot represent and
 lines whose answer is a difference of docs/DIFFERENCES.md other than a panic or a limit of the result are left out. At the end stand
-the whole cases of document 01 and the table `document` below: refusals that the Rust has no word for, with document 01's number.
+the whole cases of document 01 and the table `document` below: refusals that the Rust has no word for, with document 01's number and, for 2, the position.
 Counts go to standard error. The same arguments give the same list.
 """
 import argparse
@@ -22,6 +22,7 @@ import sys
 import compare
 import gen
 import trees as T
+from position import position
 
 sys.setrecursionlimit(10000)
 COMMANDS = ["shift", "free", "bind", "fill", "prune", "point", "member"]
@@ -621,11 +622,16 @@ def main():
     say("refusals of document 01 alone:", len(rest), dict(sorted(collections.Counter(w for _, w in rest).items())))
     seen = {l for l, _ in out}
     out += [p for p in whole if p[0] not in seen]
-    out += [(l, "[no %d]" % w if w else unchanged(l)) for l, w in rest]
+    out += [(l, refused(l, w) if w else unchanged(l)) for l, w in rest]
     for l, w in out:
         print(l)
         print(w)
     say("in all:", len(out))
+
+
+def refused(line, number):
+    """2 is printed with the position."""
+    return "[no 2 %d]" % position(line) if number == 2 else "[no %d]" % number
 
 
 def unchanged(line):

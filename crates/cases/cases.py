@@ -1,10 +1,10 @@
 #!/usr/bin/env python3
-"""The library cases and what document 01 answers to them.
+"""The library cases and what documents 01 and 02 (Paper 4) answer to them.
 
   cases.py stdin  > stdin     the cases, as src/main.rt describes them
   cases.py stdout > stdout    what must be printed, from the model below
 
-The model is written from document 01 on trees, apart from the specifications and the code: it reads a row into a tree, rewrites the tree
+The model is written from the documents on trees, apart from the specifications and the code: it reads a row into a tree, rewrites the tree
 by the rules, and writes it back. A node is (tag, own words, number of declarations, their names, children).
 """
 import sys
@@ -15,99 +15,75 @@ OLD_OUT, OLD_WORK = 88, 77
 
 
 class Bad(Exception):
-    pass
+    def __init__(self, at):
+        self.at = at
 
 
 class No(Exception):
-    def __init__(self, k):
-        self.k = k
+    def __init__(self, k, p=0):
+        self.k, self.p = k, p
 
 
-EXPR = {1, 2, 3, 4, 5, 6, *range(401, 413), *range(201, 228), *range(301, 308), *range(751, 758), *range(761, 765), 801, 802, 803}
+def table(*lines):
+    return {t: (asked, kinds) for tags, asked, kinds in lines for t in tags}
 
 
-def read(ws, at, sort, depth):
-    """The form of the sort ('E' or 'P') that starts here, and where it ends."""
-    if depth > 64 or at >= len(ws):
-        raise Bad
-    t = ws[at]
-    at += 1
+# the limits of a row; positions.py sets small ones
+ANY = 4294967295
+WORDS, DEPTH, NAME, DECLARATIONS = 8192, 64, 65535, 32
 
-    def word(limit=None):
+
+def shapes():
+    """For each tag the own words, from and to what number, and what they count: declarations (D), children (E, P) or nothing; then the children."""
+    name, count = (0, NAME, ""), (1, DECLARATIONS, "D")
+    return {
+        "E": table(((1, 2), [name], ""), ((3,), [(0, ANY, "")], ""), ((4,), [(0, ANY, "E")], ""), ((5,), [], "P"), ((6,), [], "EE"),
+                   (range(201, 228), [], "EE"), (range(301, 308), [(2, ANY, "E")], ""), (range(401, 413), [], ""), (range(751, 758), [], "E"),
+                   (range(761, 765), [], "E"), (range(801, 804), [(0, 3, ""), count], "PE")),
+        "P": table(((610, 611), [], ""), ((7,), [name], ""), ((8,), [], "P"), ((9,), [], "E"), ((10,), [(1, ANY, "E")], ""),
+                   ((11,), [name, (0, ANY, "E")], ""), (range(101, 113), [], "EE"), ((251, 252), [], "PP"), ((351, 352), [(2, ANY, "P")], ""),
+                   ((851, 852), [count], "P")),
+    }
+
+
+SHAPES = shapes()
+
+
+def read(ws, at, sort, depth, after=0):
+    """The form of the sort ('E' or 'P') that starts here, and where it ends. Bad has the first word at which no row can go on within the
+    limits, or the number of words where they ran out: so many words at least must come after the form, a form has at least one word, and
+    below the last depth there is none."""
+    if at >= len(ws) or ws[at] not in SHAPES[sort]:
+        raise Bad(at)
+    asked, kinds = SHAPES[sort][ws[at]]
+
+    def least(asked, kids):
+        """The fewest words of these own words and of so many children."""
+        kids += sum(lo for lo, _, what in asked if what in ("E", "P"))
+        names = sum(lo for lo, _, what in asked if what == "D")
+        return len(asked) + names + (kids if kids == 0 or depth < DEPTH else WORDS + 1)
+
+    def word(lo, hi, rest):
+        """The next word, where as many words as it asks for have room after it."""
         nonlocal at
-        if at >= len(ws) or (limit is not None and ws[at] > limit):
-            raise Bad
+        if at >= len(ws) or not lo <= ws[at] <= hi or at + 1 + rest(ws[at]) + after > WORDS:
+            raise Bad(at)
         at += 1
         return ws[at - 1]
 
-    own, decls, kinds = [], [], ""
-    if sort == "E":
-        if t in (1, 2):
-            own = [word(65535)]
-        elif t == 3:
-            own = [word()]
-        elif t == 4:
-            own = [word()]
-            kinds = "E" * own[0]
-        elif t == 5:
-            kinds = "P"
-        elif t == 6 or 201 <= t <= 227:
-            kinds = "EE"
-        elif 401 <= t <= 412:
-            pass
-        elif 301 <= t <= 307:
-            own = [word()]
-            if own[0] < 2:
-                raise Bad
-            kinds = "E" * own[0]
-        elif 751 <= t <= 757 or 761 <= t <= 764:
-            kinds = "E"
-        elif 801 <= t <= 803:
-            own = [word(3)]
-            n = word(32)
-            if n < 1:
-                raise Bad
-            decls = [word(65535) for _ in range(n)]
-            kinds = "PE"
+    t = word(0, ANY, lambda _: least(asked, len(kinds)))
+    own, decls = [], []
+    for i, (lo, hi, what) in enumerate(asked):
+        kids = lambda n: len(kinds) + (n if what in ("E", "P") else 0)
+        n = word(lo, hi, lambda n: (n if what == "D" else 0) + least(asked[i + 1:], kids(n)))
+        if what == "D":
+            decls = [word(0, NAME, lambda _: n - 1 - j + least([], len(kinds))) for j in range(n)]
         else:
-            raise Bad
-    else:
-        if t in (610, 611):
-            pass
-        elif t == 7:
-            own = [word(65535)]
-        elif t == 8:
-            kinds = "P"
-        elif t == 9:
-            kinds = "E"
-        elif t == 10:
-            own = [word()]
-            if own[0] < 1:
-                raise Bad
-            kinds = "E" * own[0]
-        elif t == 11:
-            own = [word(65535), word()]
-            kinds = "E" * own[1]
-        elif 101 <= t <= 112:
-            kinds = "EE"
-        elif t in (251, 252):
-            kinds = "PP"
-        elif t in (351, 352):
-            own = [word()]
-            if own[0] < 2:
-                raise Bad
-            kinds = "P" * own[0]
-        elif t in (851, 852):
-            n = word(32)
-            if n < 1:
-                raise Bad
-            decls = [word(65535) for _ in range(n)]
-            kinds = "P"
-        else:
-            raise Bad
+            own.append(n)
+            kinds = what * n if what else kinds
     kids = []
-    for k in kinds:
-        f, at = read(ws, at, k, depth + 1)
+    for j, k in enumerate(kinds):
+        f, at = read(ws, at, k, depth + 1, after + len(kinds) - 1 - j)
         kids.append(f)
     return (t, own, decls, kids), at
 
@@ -123,19 +99,19 @@ def write(f):
 
 
 def sort_of(ws):
-    return "E" if ws and ws[0] in EXPR else "P"
+    return "E" if ws and ws[0] in SHAPES["E"] else "P"
 
 
 def form(ws, sort=None):
     """1 and 2 of a row; the sort is P where a predicate is asked for."""
-    if len(ws) > 8192:
+    if len(ws) > WORDS:
         raise No(1)
     try:
         f, end = read(ws, 0, sort or sort_of(ws), 1)
-    except Bad:
-        raise No(2)
+    except Bad as x:
+        raise No(2, x.at)
     if end != len(ws):
-        raise No(2)
+        raise No(2, end)
     return f
 
 
@@ -333,22 +309,22 @@ def point(f):
 
 
 def entries(ws, kind):
-    """2 of a list of pairs or places."""
-    if len(ws) > 8192:
+    """1 and 2 of a list of pairs or places."""
+    if len(ws) > WORDS:
         raise No(1)
     at, out = 0, []
     while at < len(ws):
         w = ws[at]
-        at += 1
         if kind == "places" and w == 0:
+            at += 1
             out.append(None)
             continue
-        if kind == "places" and w != 1:
-            raise No(2)
+        if (kind == "places" and w != 1) or at + 2 > WORDS:
+            raise No(2, at)
         try:
-            e, at = read(ws, at, "E", 1)
-        except Bad:
-            raise No(2)
+            e, at = read(ws, at + 1, "E", 1)
+        except Bad as x:
+            raise No(2, x.at)
         out.append(e if kind == "places" else (w, e))
     return out
 
@@ -409,7 +385,7 @@ def lift(row, depth, work):
 def offers(n, forced, rows):
     number = 5 if n > 32 and not forced else 0
     n = 0 if number else n
-    said, filled = [number], {}
+    said, filled = [number, 0], {}
     for row in rows:
         try:
             f = form(row, "P")
@@ -423,9 +399,9 @@ def offers(n, forced, rows):
                 raise No(no)
             a, b = len(write(l)), len(write(r))
             filled[i] = (1, 1 + a) if side == "left" else (1 + a, 1 + a + b)
-            said.append(0)
+            said += [0, 0]
         except No as x:
-            said.append(x.k)
+            said += [x.k, x.p]
     return said, n, sorted((n - 1 - i, a, b) for i, (a, b) in filled.items())
 
 
@@ -481,6 +457,21 @@ def cases():
         yield one("%s, a word too few" % op, op, "101 1 4 1", "", 3, enough)
     for op in ("fill", "prune", "point"):
         yield one("%s, an expression" % op, op, "1 4", "", 3, enough)
+    # where a row breaks: each own word, each limit, a form that ended, words that ran out; the whole forms beside them
+    for name, row in [
+            ("an index over 65535", "101 2 0 2 65536"), ("a count too low", "9 301 1 1 4"), ("declarations", "851 33 4"), ("no declaration", "851 0 610"),
+            ("a name of a declaration", "852 3 4 65536 5"), ("a mark over 3", "9 803 4 1 4 610 1 4"), ("a sort", "101 1 4 610"), ("after a whole form", "101 1 4 1 5 1 4"),
+            ("the last words", "351 2 610 851 2 4"), ("a count for which there is no room", "9 4 8190"), ("the largest count", "9 4 8189"),
+            ("depth 65", "64*8 610"), ("depth 64", "63*8 610"), ("depth 64, a count that may be 0", "62*8 9 4 1"), ("depth 64, that count", "62*8 9 4 0"),
+            ("no room for two children", "11 4 8189 3*401 6 401 401"), ("no room for a child", "10 8190 8188*401 761 401"), ("8192 words", "10 8190 8190*401"),
+            ("the last of 8192 words", "10 8190 8189*401 3")]:
+        yield one("shift, breaks: %s" % name, "shift", row, "", 3)
+    for name, lst in [("no expression", "4"), ("a predicate", "4 3 0 5 610"), ("a name over 65535", "65536 3 0"), ("no room", "4 4 8190"), ("room", "4 4 8189"),
+                      ("a pair after 8189 words", "4 4 8186 8186*401 5 401"), ("a child after 8191 words", "4 4 8186 8186*401 5 761"),
+                      ("a name as the last of 8192 words", "4 4 8188 8188*401 5"), ("an index over 65535", "4 2 65536")]:
+        yield one("free, list breaks: %s" % name, "free", "1 4", lst, 3, enough)
+    for name, lst in [("2", "0 2"), ("no expression", "0 1"), ("8192 places", "8192*0"), ("1 as the last of 8192", "8191*0 1"), ("an expression of 8191 words", "1 4 8189"), ("of 8192", "1 4 8190")]:
+        yield one("fill, list breaks: %s" % name, "fill", "852 1 4 610", lst, 3, enough)
     yield one("bind, the form's 2 before the list's 1", "bind", "0", "8193*0", 3)
     yield one("bind, a list of 8193 words", "bind", "1 4", "8193*0", 3)
     yield one("bind, the list's 1 before 4", "bind", "1 4", "8193*4", 3)
@@ -582,7 +573,7 @@ def expected(case):
         ws = call(op, out, work, by, w(lst), w(row))
         number, length = 0, len(ws)
     except No as x:
-        ws, number, length = [], x.k, 0
+        ws, number, length = [], x.k, x.p
     return "%s: %d %d |%s" % (name, number, length, say(ws + [OLD_OUT] * (out - len(ws))))
 
 

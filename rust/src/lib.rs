@@ -17,44 +17,45 @@ pub const MAX_PLACES: usize = 32;
 
 /// Why a call was refused. Its number is that of the paper and of the C header.
 #[derive(Clone, Copy, Debug, PartialEq, Eq)]
-#[repr(u32)]
 pub enum Refusal {
     /// a row longer than 8,192 words
-    TooLong = 1,
-    /// a row that is not exactly one form, or list, within the limits; or no predicate where one is needed
-    NotAForm = 2,
+    TooLong,
+    /// a row that is not exactly one form, or list, within the limits; or no predicate where one is needed. With the
+    /// position of the first word at which no row of the kind can go on, or the number of words where they ran out,
+    /// counted over the form, or over the list where that is at fault
+    NotAForm(usize),
     /// fill or prune of what is not 851 or 852
-    NotQuantified = 3,
+    NotQuantified,
     /// a name listed twice, a name over 65,535, over 32 names
-    BadNames = 4,
+    BadNames,
     /// another number of places than of declarations; a set for over 32 declarations
-    BadCount = 5,
+    BadCount,
     /// a dangling index would come below its depth
-    Capture = 6,
+    Capture,
     /// a result outside the row limits
-    OutsideLimits = 7,
+    OutsideLimits,
     /// a line that is not a command ([`text`] alone)
-    NotACommand = 8,
+    NotACommand,
     /// nothing to rewrite
-    NothingToDo = 9,
+    NothingToDo,
     /// an offer that is not 101 with a bound side
-    NoEquality = 10,
+    NoEquality,
     /// a target not below the number of declarations
-    NoTarget = 11,
+    NoTarget,
     /// a replacement with a dangling index not above its target
-    UsesTarget = 12,
+    UsesTarget,
     /// the place is filled
-    PlaceFilled = 13,
+    PlaceFilled,
     /// the output row is shorter than the result
-    OutShort = 14,
+    OutShort,
     /// the work row is under 16,384 words
-    WorkShort = 15,
+    WorkShort,
 }
 
 impl Refusal {
     const ALL: [Refusal; 15] = [
         Refusal::TooLong,
-        Refusal::NotAForm,
+        Refusal::NotAForm(0),
         Refusal::NotQuantified,
         Refusal::BadNames,
         Refusal::BadCount,
@@ -72,13 +73,18 @@ impl Refusal {
 
     /// The refusal's number.
     pub fn number(self) -> u32 {
-        self as u32
+        let kind = std::mem::discriminant(&self);
+        let at = Refusal::ALL.iter().position(|r| std::mem::discriminant(r) == kind);
+        at.map_or(0, |at| at as u32 + 1)
     }
 
-    /// The refusal with that number, from 1 to 15.
-    pub fn of(number: u32) -> Option<Refusal> {
+    /// The refusal with that number, from 1 to 15, and that position, which 2 alone has.
+    pub fn of(number: u32, position: usize) -> Option<Refusal> {
         let at = (number as usize).checked_sub(1)?;
-        Refusal::ALL.get(at).copied()
+        match Refusal::ALL.get(at).copied() {
+            Some(Refusal::NotAForm(_)) => Some(Refusal::NotAForm(position)),
+            other => other,
+        }
     }
 }
 
@@ -131,11 +137,11 @@ mod c {
     }
 }
 
-/// The length, or the refusal in the upper 32 bits.
+/// The length, or the refusal in the upper 32 bits and its position in the lower ones.
 fn length(answer: u64) -> Result<usize, Refusal> {
     match answer >> 32 {
         0 => Ok(answer as usize),
-        k => Err(Refusal::of(k as u32).expect("the library answers the refusals 1 to 15")),
+        k => Err(Refusal::of(k as u32, answer as u32 as usize).expect("the library answers the refusals 1 to 15")),
     }
 }
 

@@ -181,7 +181,7 @@ fn held(group: &Group, spelled: Option<String>) -> Result<(), Refusal> {
 /// A list's 1 and 2; its other refusals come after its 8.
 fn early(checked: Result<(), Refusal>) -> Result<(), Refusal> {
     match checked {
-        Err(Refusal::TooLong | Refusal::NotAForm) => checked,
+        Err(Refusal::TooLong | Refusal::NotAForm(_)) => checked,
         _ => Ok(()),
     }
 }
@@ -235,10 +235,11 @@ impl Runner {
         Ok(&self.out[..n])
     }
 
-    /// The line that a command line is answered: a form, or `[no k]`.
+    /// The line that a command line is answered: a form, `[no 2 p]`, or `[no k]`.
     pub fn answer(&mut self, line: &str) -> String {
         match self.run(line) {
             Ok(row) => spell(row).expect("an answer is one form"),
+            Err(Refusal::NotAForm(p)) => format!("[no 2 {p}]"),
             Err(refusal) => format!("[no {}]", refusal.number()),
         }
     }

@@ -14,7 +14,8 @@ fn an_answer_and_a_refusal_leave_the_rest() {
     let mut out = [OLD; 7];
     assert_eq!(sogbayile::shift(&EXISTS, -1, &mut out), Err(Refusal::OutShort));
     assert_eq!(sogbayile::shift(&EXISTS, -2, &mut out), Err(Refusal::Capture));
-    assert_eq!(sogbayile::shift(&[], 0, &mut out), Err(Refusal::NotAForm));
+    assert_eq!(sogbayile::shift(&[], 0, &mut out), Err(Refusal::NotAForm(0)));
+    assert_eq!(sogbayile::shift(&[852, 1, 9, 101, 2, 0, 610], 0, &mut out), Err(Refusal::NotAForm(6)));
     assert_eq!(sogbayile::shift(&[0; MAX_WORDS + 1], 0, &mut out), Err(Refusal::TooLong));
     assert_eq!(sogbayile::prune(&[610], &mut out), Err(Refusal::NotQuantified));
     assert_eq!(sogbayile::bind(&[4, 4], &EXISTS, &mut out), Err(Refusal::BadNames));
@@ -67,14 +68,14 @@ fn the_dangling_set() {
 #[test]
 fn checks() {
     assert_eq!(sogbayile::check_expression(&[1, 7]), Ok(()));
-    assert_eq!(sogbayile::check_predicate(&[1, 7]), Err(Refusal::NotAForm));
-    assert_eq!(sogbayile::check_expression(&EXISTS), Err(Refusal::NotAForm));
+    assert_eq!(sogbayile::check_predicate(&[1, 7]), Err(Refusal::NotAForm(0)));
+    assert_eq!(sogbayile::check_expression(&EXISTS), Err(Refusal::NotAForm(0)));
     assert_eq!(sogbayile::check_predicate(&EXISTS), Ok(()));
     assert_eq!(sogbayile::check(&EXISTS), Ok(()));
     assert_eq!(sogbayile::check_names(&[4, 5]), Ok(()));
     assert_eq!(sogbayile::check_names(&[4, 65536]), Err(Refusal::BadNames));
     assert_eq!(sogbayile::check_pairs(&[4, 1, 7]), Ok(()));
-    assert_eq!(sogbayile::check_pairs(&[4]), Err(Refusal::NotAForm));
+    assert_eq!(sogbayile::check_pairs(&[4]), Err(Refusal::NotAForm(1)));
     assert_eq!(sogbayile::check_places(&[0, 1, 1, 7], 2), Ok(()));
     assert_eq!(sogbayile::check_places(&[0, 1, 1, 7], 3), Err(Refusal::BadCount));
 }
@@ -87,7 +88,8 @@ fn a_set_of_places() {
     assert_eq!(places.offer(&[610]), Err(Refusal::NoEquality));
     assert_eq!(places.offer(&[101, 2, 2, 1, 7]), Err(Refusal::NoTarget));
     assert_eq!(places.offer(&[101, 2, 1, 2, 1]), Err(Refusal::UsesTarget));
-    assert_eq!(places.offer(&[1, 7]), Err(Refusal::NotAForm));
+    assert_eq!(places.offer(&[1, 7]), Err(Refusal::NotAForm(0)));
+    assert_eq!(places.offer(&[101, 2, 0]), Err(Refusal::NotAForm(3)));
     assert_eq!(places, Places::new(2).unwrap());
     assert_eq!(places.offer(&equality), Ok(()));
     assert_eq!((places.get(0), places.get(1), places.get(2)), (None, Some(3..5), None));

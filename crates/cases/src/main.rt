@@ -5,8 +5,8 @@
 // calls: 1 shift, 2 bind, 3 free, 4 fill, 5 prune, 6 point, 7 dangling, 8 lift, 9 a new set of places, 10 a set that no constructor makes.
 // The rows that are offered to a set stand in the row, each behind the number of its words. The sign is 1, 2 or 3 for the offsets -1, -2
 // and -2147483648. The output row holds 88 everywhere before the call and the work row 77. What is printed: the name, document 01's number,
-// the length, and every word of the output row. For lift it is the part that it answers; for a set of places its number, the numbers of the
-// offers, the number of declarations, and place, start and end of each filled place.
+// the length of an answer or the position of a refusal, and every word of the output row. For lift it is the part that it answers; for a set
+// of places its number and position, those of the offers, the number of declarations, and place, start and end of each filled place.
 mod place_sets;
 mod print;
 mod text;
@@ -52,7 +52,7 @@ fn answer_of(
         5 => prune::prune::remove_unused_decls(row, out),
         6 => one_point::one_point_inference::one_point_inference(row, work, out),
         7 => subst::dangling::dangling_bound_indices(row, out),
-        _ => Answer::No(99),
+        _ => Answer::No(99, 0),
     }
 }
 

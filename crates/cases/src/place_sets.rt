@@ -16,6 +16,7 @@ pub(crate) fn forced(n: usize) -> Offered {
     Offered {
         places: places,
         number: 0,
+        position: 0,
     }
 }
 
@@ -38,9 +39,10 @@ fn show(places: Replacements) {
     }
 }
 
-// The rows offered to a set, each behind the number of its words: the number of the set, of each offer, and the places at the end.
+// The rows offered to a set, each behind the number of its words: number and position of the set and of each offer, and the places at the end.
 pub(crate) fn run(rows: &[u32], made: Offered) {
     print::word(made.number);
+    print::word(made.position);
     let mut places = made.places;
     let mut at = 0;
     let mut left = rows.len();
@@ -49,6 +51,7 @@ pub(crate) fn run(rows: &[u32], made: Offered) {
         let end = std::num::wrapping_add_usize(start, size_at(rows, at));
         let offered = offers::offer_once(places, words_part(rows, start, end));
         print::word(offered.number);
+        print::word(offered.position);
         places = offered.places;
         at = end;
         left -= 1;

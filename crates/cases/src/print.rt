@@ -1,4 +1,4 @@
-// What a case prints: number, length and the words of a row.
+// What a case prints: number, length or position, and the words of a row.
 use form::answer::Answer;
 use libc::STDOUT_FILENO;
 
@@ -30,16 +30,16 @@ pub(crate) fn words(row: &[u32]) {
     }
 }
 
-// Document 01's number and length.
+// Document 01's number, and the length or the position.
 pub(crate) fn answer(a: Answer) {
     match a {
         Answer::Done(n) => {
             word(0);
             count(n);
         }
-        Answer::No(k) => {
+        Answer::No(k, p) => {
             word(k);
-            word(0);
+            word(p);
         }
     }
 }

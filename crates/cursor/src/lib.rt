@@ -115,7 +115,7 @@ pub fn count_declarations(row: &[u32]) -> Answer
     };
     let n = declared(row);
     if n == 0 {
-        return Answer::No(3);
+        return Answer::No(3, 0);
     }
     Answer::Done(n as usize)
 }

@@ -27,13 +27,13 @@ mutual
     ok-more : {d : ℕ} {s : Sort} {ss : List Sort} {f : Form} {fs : Forms} → Ok d s f → OkAll d ss fs → OkAll d (s ∷ ss) (more f fs)
 
 -- a word was read: what it was, and what was read after it
-only-head : (b : Bool) (w : ℕ) (h : Head) (o ds : List ℕ) (p e : ℕ) (r : List ℕ) → only b (addWord w h) ≡ head o ds p e r
+pub only-head : (b : Bool) (w : ℕ) (h : Head) (o ds : List ℕ) (p e : ℕ) (r : List ℕ) → only b (addWord w h) ≡ head o ds p e r
     → (b ≡ true) × (o′ : List ℕ) × (w ∷ o′ ≡ o) × (h ≡ head o′ ds p e r)
 only-head true w (head o′ ds′ p′ e′ r′) o ds p e r q = (refl, o′, cc, cc)
 only-head true w bad o ds p e r q = absurd (clash cc)
 only-head false w h o ds p e r q = absurd (clash cc)
 
-only-name : (b : Bool) (w : ℕ) (h : Head) (o ds : List ℕ) (p e : ℕ) (r : List ℕ) → only b (addName w h) ≡ head o ds p e r
+pub only-name : (b : Bool) (w : ℕ) (h : Head) (o ds : List ℕ) (p e : ℕ) (r : List ℕ) → only b (addName w h) ≡ head o ds p e r
     → (b ≡ true) × (ds′ : List ℕ) × (w ∷ ds′ ≡ ds) × (h ≡ head o ds′ p e r)
 only-name true w (head o′ ds′ p′ e′ r′) o ds p e r q = (refl, ds′, cc, cc)
 only-name true w bad o ds p e r q = absurd (clash cc)
@@ -149,7 +149,7 @@ module _ (d : ℕ) (o ds : List ℕ) (p e : ℕ) where
 abbrev Sound : ℕ → Type 0
 Sound d = (s : Sort) (ws : List ℕ) (f : Form) (r : List ℕ) → decode d s ws ≡ got f r → (ws ≡ encode f ++ r) × Ok d s f
 
-chain-sound : (g : Got) (k : List ℕ → Gots) (ks : Forms) (x : List ℕ) → chain g k ≡ gots ks x
+pub chain-sound : (g : Got) (k : List ℕ → Gots) (ks : Forms) (x : List ℕ) → chain g k ≡ gots ks x
     → (f : Form) × (fs : Forms) × (r : List ℕ) × (g ≡ got f r) × (k r ≡ gots fs x) × (more f fs ≡ ks)
 chain-sound (got f r) k ks x e = go (k r) refl e
   where
@@ -188,7 +188,7 @@ made d s t o ds p e ks true l q h =
     (rw (ok-nil h n, a, append-nil o) w, g, λ z. ok-nil h n)
 made d s t o ds p e ks false l q h = (refl, ok-node l q h, λ z. absurd (clash cc))
 
-close-sound : (t : ℕ) (o ds : List ℕ) (g : Gots) (f : Form) (r : List ℕ) → close t o ds g ≡ got f r → (ks : Forms) × (g ≡ gots ks r) × (make t o ds ks ≡ f)
+pub close-sound : (t : ℕ) (o ds : List ℕ) (g : Gots) (f : Form) (r : List ℕ) → close t o ds g ≡ got f r → (ks : Forms) × (g ≡ gots ks r) × (make t o ds ks ≡ f)
 close-sound t o ds (gots ks x) f r e = (ks, cc, cc)
 close-sound t o ds no-forms f r e = absurd (clash cc)
 

@@ -1,4 +1,10 @@
 pub mod DecodeLaws
 pub mod HeadLaws
+pub mod LeafLaws
 pub mod RowLaws
 pub mod ListLaws
+pub mod BreakLaws
+pub mod PositionLaws
+pub mod ListPositionLaws
+pub mod ViableLaws
+pub mod Positions

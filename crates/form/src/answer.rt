@@ -1,9 +1,9 @@
 // What every public function takes and answers.
 
-// The length of the answer, or the number of a refusal.
+// The length of the answer, or the number of a refusal and the position where the row breaks, 0 unless the number is 2.
 pub enum Answer {
     Done(usize),
-    No(u32),
+    No(u32, u32),
 }
 
 // Which kind of form is asked for.

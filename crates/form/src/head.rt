@@ -1,13 +1,14 @@
 // What stands between a tag and its children: own words and declared names.
 use crate::answer::Limit;
 use tree::tag::Shape;
+use tree::tag::Tag;
 use tree::tag::expr_shape;
 use tree::tag::pred_shape;
 ghost use mathlib.Core.Path.{_≡_};
 ghost use lib.ListN.{drop};
 ghost use Rattle.tree.specs.Tag.{expr, pred, own, ownOf, ask, kids};
 ghost use Rattle.form.specs.Decode.{read, names};
-ghost use Rattle.form.specs.Internal.Heads.{wordAt, headAt, namesAt};
+ghost use Rattle.form.specs.Internal.Heads.{wordAt, headAt, namesAt, startsLeaf};
 
 // Where a part of a row ends, or that it is no such part.
 pub enum Step {
@@ -161,4 +162,26 @@ pub fn pred_head(row: &[u32], at: usize, tag: u32) -> Head
         return own_words(row, at, shape);
     };
     Head::Kids(at, preds, exprs, 0)
+}
+
+// Whether a name or an index stands at `at`, within the depth.
+pub fn is_leaf(row: &[u32], at: usize, depth: u32) -> bool
+    ensures { λ r. ⌜ r ≡ startsLeaf depth (drop at (now (row .entry))) ⌝ }
+{
+    if depth == 0 {
+        return false;
+    }
+    if row.len() <= at {
+        return false;
+    }
+    if row.len() <= at + 1 {
+        return false;
+    }
+    if row[at] == 0 {
+        return false;
+    }
+    if Tag::BOUND_IDENT < row[at] {
+        return false;
+    }
+    row[at + 1] <= Limit::NAME
 }

@@ -10,9 +10,10 @@ use lib.Dec.{eqb}
 use lib.ListN.{length, getD, take, drop, replicate, length-map, length-drop}
 use Rattle.tree.specs.Form.{Form, pick, encode}
 use Rattle.tree.specs.Tag.{Sort, pred}
+use Rattle.form.specs.Break.{breakAt, breakList}
 use Rattle.form.specs.Decode.{rowForm, missing, formOf}
 use Rattle.form.specs.Lists.{Place, kept, filled, Entry, entry, wordOf, placeOf, listOf}
-use Rattle.form.specs.Answer.{Outcome, refusal, needs, isOne, finish}
+use Rattle.form.specs.Answer.{Outcome, refusal, needs, isOne, finish, stop}
 use Rattle.reader.specs.Internal.Reads.{mark, markEntries, emptyTable, tabled, Listing}
 use Rattle.form.specs.declared.answer.Kind.the-variants.{Predicate}
 use Rattle.form.specs.declared.answer.ListKind.the-variants.{Places}
@@ -77,17 +78,17 @@ module _ (list row : List ℕ) (wl room : ℕ) where
     unfolding fillOutcome
     fill-long h = call-long Predicate Places (fillGo room) list row wl enough h
 
-    pub fill-missing : length row ≤ 8192 → formOf Predicate row ≡ missing → fillOutcome list row wl room ≡ refusal 2
+    pub fill-missing : length row ≤ 8192 → formOf Predicate row ≡ missing → fillOutcome list row wl room ≡ stop 2 (breakAt Predicate row)
     unfolding fillOutcome
     fill-missing h q = call-missing Predicate Places (fillGo room) list row wl enough h q
 
-    pub fill-list-long : length row ≤ 8192 → 8192 < length list → fillOutcome list row wl room ≡ refusal (pick (isFound (formOf Predicate row)) 1 2)
+    pub fill-list-long : length row ≤ 8192 → 8192 < length list → fillOutcome list row wl room ≡ pick (isFound (formOf Predicate row)) (refusal 1) (stop 2 (breakAt Predicate row))
     unfolding fillOutcome
     fill-list-long h l = call-list-long Predicate Places (fillGo room) list row wl enough h l
 
     module _ (m : List ℕ) (x : Checked Predicate row m (length row)) where
       module _ (short : length list ≤ 8192) where
-        pub fill-no-list : listOf Places list ≡ absent → fillOutcome list row wl room ≡ refusal 2
+        pub fill-no-list : listOf Places list ≡ absent → fillOutcome list row wl room ≡ stop 2 (breakList Places list)
         unfolding fillOutcome
         fill-no-list o = call-no-list Predicate Places (fillGo room) list row wl enough m x short o
 

@@ -11,9 +11,10 @@ use lib.Dec.{leb, eqb}
 use lib.ListN.{length, getD, take, drop, replicate, length-map, length-drop, List·getD-eq-default}
 use Rattle.tree.specs.Form.{Leaf, free, bound, Form, leaf, pick, encode}
 use Rattle.tree.specs.Tag.{Sort, expr, pred}
+use Rattle.form.specs.Break.{breakAt, breakList}
 use Rattle.form.specs.Decode.{Whole, one, not-one, found, missing, asSort, rowForm, formOf}
 use Rattle.form.specs.Lists.{Place, kept, filled, Entry, entry, wordOf, placeOf, listOf, distinct, goodNames}
-use Rattle.form.specs.Answer.{Outcome, refusal, needs, isOne, finish}
+use Rattle.form.specs.Answer.{Outcome, refusal, needs, isOne, finish, stop}
 use Rattle.reader.specs.Internal.Reads.{asExpr, markEntries, emptyTable, tabled, Listing, goodWords}
 use Rattle.form.specs.declared.answer.Kind.the-variants.{Either}
 use Rattle.form.specs.declared.answer.ListKind.the-variants.{Pairs}
@@ -153,17 +154,17 @@ module _ (list row : List ℕ) (wl room : ℕ) where
     unfolding freeOutcome
     free-long h = call-long Either Pairs (freeGo room) list row wl enough h
 
-    pub free-missing : length row ≤ 8192 → formOf Either row ≡ missing → freeOutcome list row wl room ≡ refusal 2
+    pub free-missing : length row ≤ 8192 → formOf Either row ≡ missing → freeOutcome list row wl room ≡ stop 2 (breakAt Either row)
     unfolding freeOutcome
     free-missing h q = call-missing Either Pairs (freeGo room) list row wl enough h q
 
-    pub free-list-long : length row ≤ 8192 → 8192 < length list → freeOutcome list row wl room ≡ refusal (pick (isFound (formOf Either row)) 1 2)
+    pub free-list-long : length row ≤ 8192 → 8192 < length list → freeOutcome list row wl room ≡ pick (isFound (formOf Either row)) (refusal 1) (stop 2 (breakAt Either row))
     unfolding freeOutcome
     free-list-long h l = call-list-long Either Pairs (freeGo room) list row wl enough h l
 
     module _ (m : List ℕ) (x : Checked Either row m (length row)) where
       module _ (short : length list ≤ 8192) where
-        pub free-no-list : listOf Pairs list ≡ absent → freeOutcome list row wl room ≡ refusal 2
+        pub free-no-list : listOf Pairs list ≡ absent → freeOutcome list row wl room ≡ stop 2 (breakList Pairs list)
         unfolding freeOutcome
         free-no-list o = call-no-list Either Pairs (freeGo room) list row wl enough m x short o
 

@@ -7,12 +7,11 @@ use native.Mathlib.Omega.{arith}
 use lib.ListN.{length, take, replicate}
 use Rattle.tree.specs.Form.{Form, pick, encode}
 use Rattle.tree.specs.Tag.{Sort}
+use Rattle.form.specs.Break.{breakAt}
 use Rattle.form.specs.Decode.{decode, Whole, one, not-one, whole, rowForm, Found, found, missing, asSort, formOf}
-use Rattle.form.specs.Answer.{told, checkOutcome}
 use Rattle.reader.specs.Internal.Reads.{Told, decodeIn, Marked, asExpr}
 use Rattle.form.specs.declared.answer.Kind.{Kind}
-use Rattle.form.specs.declared.answer.Answer.{Answer}
-use Rattle.form.specs.declared.answer.Answer.the-variants.{Done, No}
+use Rattle.form.specs.declared.answer.Answer.the-variants.{No}
 use Rattle.form.specs.declared.head.Step.{Step}
 use Rattle.form.specs.declared.head.Step.the-variants.{End, Bad}
 use Rattle.form.proofs.DecodeLaws.{clash, Ok}
@@ -20,12 +19,11 @@ use Rattle.reader.proofs.ReaderLaws.{in-decode}
 use Rattle.reader.proofs.CheckLaws.{sortFor, form-of, read-bad, read-whole, read-part}
 use Rattle.form.proofs.RowLaws.{whole-exact, row-encode}
 use Rattle.shift.specs.Internal.Items.{store}
-use Rattle.shift.proofs.CheckedLaws.{Checked, marks-of, is-missing}
+use Rattle.shift.proofs.CheckedLaws.{Checked, marks-of, not-found}
 use Rattle.replace.specs.Internal.Pieces.{isFound}
 use Rattle.listed.specs.Internal.Listed.{shallowForm, readingOf}
 use Rattle.listed.specs.declared.marks.Reading.{Reading}
 use Rattle.listed.specs.declared.marks.Reading.the-variants.{Taken, Refused}
-use Rattle.replace.proofs.BuildLaws.{is-found}
 use Rattle.replace.proofs.MarkLaws.{marked-front}
 use Rattle.rules.proofs.OkLaws.{ok-deep}
 
@@ -86,21 +84,21 @@ module _ (deep : ℕ) (most : deep ≤ 64) (kind : Kind) (row : List ℕ) where
             (rw e, marked-front kind row l l′ m h z (rw c at k))
         go missing e q = absurd (clash cc)
 
-    module _ (n : isFound (shallowForm deep kind row) ≡ false) (r : Answer) (j : ℕ) (e : r ≡ told (checkOutcome kind row)) where
-      pub taken-deep : r ≡ Done j → Taken false ≡ readingOf (shallowForm deep kind row) (formOf kind row)
-      taken-deep d = go (shallowForm deep kind row) (formOf kind row) refl refl n (is-found kind row j r e d)
+    module _ (n : isFound (shallowForm deep kind row) ≡ false) (v : Bool) (e : v ≡ isFound (formOf kind row)) where
+      pub taken-deep : v ≡ true → Taken false ≡ readingOf (shallowForm deep kind row) (formOf kind row)
+      taken-deep d = go (shallowForm deep kind row) (formOf kind row) refl refl n (sym e ∙ d)
         where
           go : (o p : Found) → shallowForm deep kind row ≡ o → formOf kind row ≡ p → isFound o ≡ false → isFound p ≡ true → Taken false ≡ readingOf (shallowForm deep kind row) (formOf kind row)
           go (found s f) p a b x y = absurd (clash cc)
           go missing (found s f) a b x y = rw (a, b)
           go missing missing a b x y = absurd (clash cc)
 
-      pub refused-row : r ≡ No j → Refused ≡ readingOf (shallowForm deep kind row) (formOf kind row)
+      pub refused-row : v ≡ false → Refused ≡ readingOf (shallowForm deep kind row) (formOf kind row)
       refused-row d = go (shallowForm deep kind row) refl n
         where
           go : (o : Found) → shallowForm deep kind row ≡ o → isFound o ≡ false → Refused ≡ readingOf (shallowForm deep kind row) (formOf kind row)
           go (found s f) a x = absurd (clash cc)
-          go missing a x = rw (a, is-missing kind row r j short e d)
+          go missing a x = rw (a, not-found (formOf kind row) v e d)
 
 -- the reading taken apart
 module _ (deep : ℕ) (most : deep ≤ 64) (kind : Kind) (row : List ℕ) where
@@ -140,8 +138,8 @@ module _ (deep : ℕ) (most : deep ≤ 64) (kind : Kind) (row : List ℕ) where
 
 -- a list that is too long: the row's own refusal comes first
 module _ (kind : Kind) (row : List ℕ) where
-  pub list-refused : length row ≤ 8192 → (r : Answer) (j : ℕ) → r ≡ told (checkOutcome kind row) → r ≡ No j → No 2 ≡ No (pick (isFound (formOf kind row)) 1 2)
-  list-refused h r j e d = rw (is-missing kind row r j h e d)
+  pub list-refused : (v : Bool) → v ≡ isFound (formOf kind row) → v ≡ false → (p : ℕ) → p ≡ breakAt kind row → No 2 p ≡ pick (isFound (formOf kind row)) (No 1 0) (No 2 (breakAt kind row))
+  list-refused v e d p k = rw (k, sym e ∙ d)
 
-  pub list-long : (r : Answer) (j : ℕ) → r ≡ told (checkOutcome kind row) → r ≡ Done j → No 1 ≡ No (pick (isFound (formOf kind row)) 1 2)
-  list-long r j e d = rw (is-found kind row j r e d)
+  pub list-long : (v : Bool) → v ≡ isFound (formOf kind row) → v ≡ true → No 1 0 ≡ pick (isFound (formOf kind row)) (No 1 0) (No 2 (breakAt kind row))
+  list-long v e d = rw (sym e ∙ d)

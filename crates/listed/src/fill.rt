@@ -3,6 +3,8 @@ use crate::marks::Reading;
 use crate::marks::mark_entries;
 use crate::marks::mark_row;
 use crate::marks::refuse_list;
+use broken::position::broken_at;
+use broken::position::broken_list;
 use form::answer::Answer;
 use form::answer::Kind;
 use form::answer::Limit;
@@ -103,10 +105,10 @@ pub fn instantiate(list: &[u32], row: &[u32], work: &mut [u32], out: &mut [u32])
     ensures { λ _. ⌜ now (out .exit) ≡ written (fillOutcome (now (list .entry)) (now (row .entry)) (length (now (work .entry))) (length (now (out .entry)))) (now (out .entry)) ⌝ }
 {
     if work.len() < 16384 {
-        return Answer::No(15);
+        return Answer::No(15, 0);
     }
     if Limit::WORDS < row.len() {
-        return Answer::No(1);
+        return Answer::No(1, 0);
     }
     if Limit::WORDS < list.len() {
         return refuse_list(row, Kind::Predicate);
@@ -125,17 +127,17 @@ pub fn instantiate(list: &[u32], row: &[u32], work: &mut [u32], out: &mut [u32])
     let n = listed.n;
     let depth = depth_left_by(&starts, &ends, n, list);
     let Reading::Taken(sure) = mark_row(row, Kind::Predicate, depth, work) else {
-        return Answer::No(2);
+        return Answer::No(2, broken_at(row, Kind::Predicate));
     };
     if !listed.ok {
-        return Answer::No(2);
+        return Answer::No(2, broken_list(list, ListKind::Places));
     }
     let names = declared(row);
     if names == 0 {
-        return Answer::No(3);
+        return Answer::No(3, 0);
     }
     if n != names as usize {
-        return Answer::No(5);
+        return Answer::No(5, 0);
     }
     fill_marked(sure, list, row, n, &words, &starts, &ends, work, out)
 }

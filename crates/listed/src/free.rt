@@ -3,6 +3,8 @@ use crate::marks::Reading;
 use crate::marks::mark_entries;
 use crate::marks::mark_row;
 use crate::marks::refuse_list;
+use broken::position::broken_at;
+use broken::position::broken_list;
 use form::answer::Answer;
 use form::answer::Kind;
 use form::answer::Limit;
@@ -73,10 +75,10 @@ pub fn substitute_free_idents(
     ensures { λ _. ⌜ now (out .exit) ≡ written (freeOutcome (now (list .entry)) (now (row .entry)) (length (now (work .entry))) (length (now (out .entry)))) (now (out .entry)) ⌝ }
 {
     if work.len() < 16384 {
-        return Answer::No(15);
+        return Answer::No(15, 0);
     }
     if Limit::WORDS < row.len() {
-        return Answer::No(1);
+        return Answer::No(1, 0);
     }
     if Limit::WORDS < list.len() {
         return refuse_list(row, Kind::Either);
@@ -95,13 +97,13 @@ pub fn substitute_free_idents(
     let n = listed.n;
     let depth = depth_left_by(&starts, &ends, n, list);
     let Reading::Taken(sure) = mark_row(row, Kind::Either, depth, work) else {
-        return Answer::No(2);
+        return Answer::No(2, broken_at(row, Kind::Either));
     };
     if !listed.ok {
-        return Answer::No(2);
+        return Answer::No(2, broken_list(list, ListKind::Pairs));
     }
     if !reader::lists::good_table(&words, n) {
-        return Answer::No(4);
+        return Answer::No(4, 0);
     }
     substitute_marked(sure, list, row, n, &words, &starts, &ends, work, out)
 }

@@ -1,4 +1,5 @@
 // Marks in the work row: the form's at its start, the list's from word 8,192 on.
+use broken::position::broken_at;
 use form::answer::Answer;
 use form::answer::Kind;
 use form::answer::ListKind;
@@ -12,6 +13,7 @@ ghost use Prim.Native.Nat.{_+_, _≤_};
 ghost use lib.ListN.{length, take, drop, replicate};
 ghost use Rattle.tree.specs.Form.{pick};
 ghost use Rattle.tree.specs.Tag.{expr, pred};
+ghost use Rattle.form.specs.Break.{breakAt};
 ghost use Rattle.form.specs.Decode.{decode, formOf};
 ghost use Rattle.form.specs.Lists.{listOf};
 ghost use Rattle.reader.specs.Internal.Reads.{Told, Marked, tableOf, Listing};
@@ -76,10 +78,10 @@ fn mark_front(row: &[u32], kind: Kind, depth: u32, marks: &mut [u32]) -> Reading
         return Reading::Taken(true);
     }
     clear(marks, 0, row.len());
-    let Answer::Done(n) = reader::check::mark(row, kind, marks) else {
-        return Reading::Refused;
-    };
-    Reading::Taken(false)
+    if reader::check::mark_form(row, kind, marks) {
+        return Reading::Taken(false);
+    }
+    Reading::Refused
 }
 
 // The same in the first 8,192 words of the work row.
@@ -96,13 +98,12 @@ pub(crate) fn mark_row(row: &[u32], kind: Kind, depth: u32, work: &mut [u32]) ->
 
 // The refusal of a list that is too long: the row's own comes first.
 pub(crate) fn refuse_list(row: &[u32], kind: Kind) -> Answer
-    requires { ⌜ length (now row) ≤ 8192 ⌝ }
-    ensures { λ r. ⌜ r ≡ No (pick (isFound (formOf kind (now (row .entry)))) 1 2) ⌝ }
+    ensures { λ r. ⌜ r ≡ pick (isFound (formOf kind (now (row .entry)))) (No 1 0) (No 2 (breakAt kind (now (row .entry)))) ⌝ }
 {
-    let Answer::Done(n) = reader::check::check(row, kind) else {
-        return Answer::No(2);
-    };
-    Answer::No(1)
+    if reader::check::is_form(row, kind) {
+        return Answer::No(1, 0);
+    }
+    Answer::No(2, broken_at(row, kind))
 }
 
 // The entries of the list, which are marked from word 8,192 of the work row on; the rows of their table are lent.

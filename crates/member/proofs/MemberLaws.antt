@@ -9,14 +9,14 @@ use lib.Seq.{drop-at, drop-drop}
 use Rattle.tree.specs.Form.{Form, node, none, more, encode}
 use Rattle.tree.specs.Tag.{Sort, expr, pred}
 use Rattle.form.specs.Decode.{got, decode, formOf}
-use Rattle.form.specs.Answer.{Outcome, refusal, told, finish, checkOutcome}
+use Rattle.form.specs.Answer.{Outcome, refusal, told, finish, checkOutcome, stop}
 use Rattle.reader.specs.Internal.Reads.{mark, Marked}
 use Rattle.form.specs.declared.answer.Kind.the-variants.{Predicate}
 use Rattle.form.specs.declared.answer.Answer.{Answer}
 use Rattle.form.specs.declared.answer.Answer.the-variants.{No}
 use Rattle.reader.specs.declared.lists.Table.{Table}
 use Rattle.form.proofs.DecodeLaws.{Ok, decode-encode, decode-sound}
-use Rattle.shift.proofs.CheckedLaws.{is-missing, too-long, no-form-there, form-there}
+use Rattle.shift.proofs.CheckedLaws.{too-long, form-there, check-refuses}
 use Rattle.shift.proofs.RowLaws.{marksOf, only-mark, mark-front}
 use Rattle.rules.proofs.OkLaws.{ok-deep}
 use Rattle.rules.specs.Split.{parts}
@@ -140,9 +140,9 @@ module _ (row : List ℕ) (wl room : ℕ) where
     member-long h = rw (le-leb 16384 wl enough) (too-long Predicate row go h)
 
     module _ (short : length row ≤ 8192) where
-      pub member-missing : (a : Answer) (k : ℕ) → a ≡ told (checkOutcome Predicate row) → a ≡ No k → memberOutcome row wl room ≡ refusal 2
+      pub member-refused : (a : Answer) (k p : ℕ) → a ≡ told (checkOutcome Predicate row) → a ≡ No k p → memberOutcome row wl room ≡ stop k p
       unfolding memberOutcome
-      member-missing a k e n = rw (le-leb 16384 wl enough) (no-form-there Predicate row go short (is-missing Predicate row a k short e n))
+      member-refused a k p e n = rw (le-leb 16384 wl enough) (check-refuses Predicate row go a k p e n)
 
       module _ (x : PredRow row) where
         pub row-read : decode 64 pred row ≡ got (x .form) []

@@ -36,7 +36,7 @@ fn rewrite_body(
 {
     let n = set.n;
     let Step::End(e) = pred_at(&work[..end], marks, 0, 65, n) else {
-        return Answer::No(2);
+        return Answer::No(2, 0);
     };
     let body = write_body(row, row_marks, set, n, work);
     let table = body.table;
@@ -86,11 +86,12 @@ fn rewrite_marked(row: &[u32], marks: &mut [u32], work: &mut [u32], out: &mut [u
     ensures { λ r. ⌜ r ≡ told (memberOutcome (now (row .entry)) (length (now (work .entry))) (length (now (out .entry)))) ⌝ }
     ensures { λ _. ⌜ now (out .exit) ≡ written (memberOutcome (now (row .entry)) (length (now (work .entry))) (length (now (out .entry)))) (now (out .entry)) ⌝ }
 {
-    let Answer::Done(k) = reader::check::mark(row, Kind::Predicate, marks) else {
-        return Answer::No(2);
+    let checked = reader::check::mark(row, Kind::Predicate, marks);
+    let Answer::Done(k) = checked else {
+        return checked;
     };
     let Membership::In(set) = membership_of(row) else {
-        return Answer::No(9);
+        return Answer::No(9, 0);
     };
     rewrite_set(row, marks, set, &mut work[..16384], out)
 }
@@ -101,10 +102,10 @@ pub fn rewrite_in_compset(row: &[u32], work: &mut [u32], out: &mut [u32]) -> Ans
     ensures { λ _. ⌜ now (out .exit) ≡ written (memberOutcome (now (row .entry)) (length (now (work .entry))) (length (now (out .entry)))) (now (out .entry)) ⌝ }
 {
     if work.len() < 16384 {
-        return Answer::No(15);
+        return Answer::No(15, 0);
     }
     if Limit::WORDS < row.len() {
-        return Answer::No(1);
+        return Answer::No(1, 0);
     }
     if row.len() <= 64 {
         let mut marks = [0u32; 64];

@@ -6,6 +6,7 @@ use Prim.Native.Nat.{ℕ}
 use lib.Dec.{leb, ltb, eqb}
 use lib.ListN.{length, getD}
 use Rattle.tree.specs.Form.{Form, leaf, node, none, more, pick}
+use Rattle.form.specs.Break.{breakAt}
 use Rattle.form.specs.Decode.{Found, found, missing, formOf}
 use Rattle.form.specs.declared.answer.Kind.the-variants.{Predicate}
 use Rattle.rules.specs.Replacement.{Offer, offer, no-offer, offered, above, sideOf}
@@ -41,10 +42,10 @@ module _ (p : Replacements) where
   form-leaves (node t o ds (more l (more r none))) = either (eqb t 101) (offerSides p l r (offered l r)) (says p 10) (sides-leave l r (offered l r)) (refused 10)
   form-leaves (node t o ds (more l (more r (more f fs)))) = refused 10
 
-  found-leaves : (z : Found) → Leaves (offerFound p z)
-  found-leaves (found s f) = either (leb (p .n) 32) (offerForm p f) (says p 5) (form-leaves f) (refused 5)
-  found-leaves missing = refused 2
+  found-leaves : (q : ℕ) (z : Found) → Leaves (offerFound p q z)
+  found-leaves q (found s f) = either (leb (p .n) 32) (offerForm p f) (says p 5) (form-leaves f) (refused 5)
+  found-leaves q missing = λ h. refl
 
   pub refusal-leaves : (row : List ℕ) → (offerAnswer p row .number ≡ 0 → ⊥) → offerAnswer p row .places ≡ p
   unfolding offerAnswer
-  refusal-leaves row = either (leb (length row) 8192) (offerFound p (formOf Predicate row)) (says p 1) (found-leaves (formOf Predicate row)) (refused 1)
+  refusal-leaves row = either (leb (length row) 8192) (offerFound p (breakAt Predicate row) (formOf Predicate row)) (says p 1) (found-leaves (breakAt Predicate row) (formOf Predicate row)) (refused 1)

@@ -5,13 +5,22 @@ ghost use mathlib.Core.Path.{_≡_};
 ghost use Rattle.places.specs.Places.{offerAnswer};
 ghost use Rattle.offers.specs.Offers.{offerTwo};
 
-// A predicate row offered to the lent set: its number is answered, and a refusal leaves the set as it is.
-pub fn offer(places: &mut Replacements, row: &[u32]) -> u32
-    ensures { λ r. ⌜ (r ≡ offerAnswer (now (places .entry)) (now (row .entry)) .number) × (now (places .exit) ≡ offerAnswer (now (places .entry)) (now (row .entry)) .places) ⌝ }
+// Document 01's number of an offer, and the position where that is 2.
+pub struct Verdict {
+    pub number: u32,
+    pub position: u32,
+}
+
+// A predicate row offered to the lent set: its number and its position are answered, and a refusal leaves the set as it is.
+pub fn offer(places: &mut Replacements, row: &[u32]) -> Verdict
+    ensures { λ r. ⌜ (r .number ≡ offerAnswer (now (places .entry)) (now (row .entry)) .number) × (r .position ≡ offerAnswer (now (places .entry)) (now (row .entry)) .position) × (now (places .exit) ≡ offerAnswer (now (places .entry)) (now (row .entry)) .places) ⌝ }
 {
     let offered = Replacements::check(*places, row);
     *places = offered.places;
-    offered.number
+    Verdict {
+        number: offered.number,
+        position: offered.position,
+    }
 }
 
 // A set by value, lent to one offer.
@@ -19,10 +28,11 @@ pub fn offer_once(places: Replacements, row: &[u32]) -> Offered
     ensures { λ r. ⌜ r ≡ offerAnswer places (now (row .entry)) ⌝ }
 {
     let mut lent = places;
-    let number = offer(&mut lent, row);
+    let told = offer(&mut lent, row);
     Offered {
         places: lent,
-        number: number,
+        number: told.number,
+        position: told.position,
     }
 }
 

@@ -9,8 +9,9 @@ use lib.ListN.{length, take, drop}
 use lib.Seq.{take-at}
 use Rattle.tree.specs.Form.{Form, pick, encode}
 use Rattle.tree.specs.Tag.{Sort, pred}
+use Rattle.form.specs.Break.{breakAt}
 use Rattle.form.specs.Decode.{Whole, one, not-one, rowForm, Found, found, missing, formOf}
-use Rattle.form.specs.Answer.{Outcome, answer, refusal, told, written, ofFound, needs, isOne, finish}
+use Rattle.form.specs.Answer.{Outcome, answer, refusal, told, written, ofFound, needs, isOne, finish, stop}
 use Rattle.form.specs.declared.answer.Kind.the-variants.{Predicate}
 use Rattle.form.specs.declared.answer.Answer.the-variants.{Done}
 use Rattle.form.proofs.DecodeLaws.{clash, Ok, decode-encode}
@@ -62,7 +63,7 @@ module _ (row : List ℕ) (ws : List ℕ) (room : ℕ) where
       record { form = f; result = g; is-read = q ∙ ap (λ (u : Sort). found u f) p; is-said = rw v (shaped-found g z i); reduced = r }
   pointed-of s f q absent r e = absurd (clash cc)
 
-  found-pointed : (o : Found) → formOf Predicate row ≡ o → ofFound (λ s f. ofResult room (onePoint f)) o ≡ answer ws → Pointed row ws
+  found-pointed : (o : Found) → formOf Predicate row ≡ o → ofFound (breakAt Predicate row) (λ s f. ofResult room (onePoint f)) o ≡ answer ws → Pointed row ws
   found-pointed (found s f) q e = pointed-of s f q (onePoint f) refl e
   found-pointed missing q e = absurd (clash cc)
 
@@ -70,7 +71,7 @@ module _ (row : List ℕ) (ws : List ℕ) (room : ℕ) where
   unfolding pointOutcome
   pointed work e = go (leb 16384 work) (leb (length row) 8192) e
     where
-      go : (a b : Bool) → pick a (pick b (ofFound (λ s f. ofResult room (onePoint f)) (formOf Predicate row)) (refusal 1)) (refusal 15) ≡ answer ws → Pointed row ws
+      go : (a b : Bool) → pick a (pick b (ofFound (breakAt Predicate row) (λ s f. ofResult room (onePoint f)) (formOf Predicate row)) (refusal 1)) (refusal 15) ≡ answer ws → Pointed row ws
       go true true e = found-pointed (formOf Predicate row) refl e
       go true false e = absurd (clash cc)
       go false b e = absurd (clash cc)
@@ -80,4 +81,4 @@ pub told-words : (o : Outcome) (out out′ : List ℕ) (n : ℕ) → Done n ≡ 
 told-words (answer ws) out out′ n e w =
     let l : length ws ≡ n = cc in
     rw w (ap (λ (z : List ℕ). answer z) (sym (take-at ws (drop (length ws) out) n l)))
-told-words (refusal k) out out′ n e w = absurd (clash cc)
+told-words (stop k p) out out′ n e w = absurd (clash cc)

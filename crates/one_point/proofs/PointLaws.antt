@@ -11,7 +11,7 @@ use lib.ListN.{length, take, drop, replicate, length-take, length-drop, length-r
 use Rattle.tree.specs.Form.{Form, pick, encode}
 use Rattle.tree.specs.Tag.{Sort, expr, pred}
 use Rattle.form.specs.Decode.{read, Got, got, no-form, decode, one, whole as whole-of}
-use Rattle.form.specs.Answer.{Outcome, answer, refusal, told, written}
+use Rattle.form.specs.Answer.{Outcome, answer, refusal, told, written, stop}
 use Rattle.form.specs.declared.answer.Answer.{Answer}
 use Rattle.form.proofs.DecodeLaws.{clash, Ok, decode-encode}
 use Rattle.form.proofs.HeadLaws.{gone}
@@ -294,7 +294,7 @@ module _ (d : ℕ) (most : d ≤ 63) (t : ℕ) (ns body : List ℕ) (room : ℕ)
 -- a refusal leaves the output as it was
 pub bad-refusal : (o : Outcome) (r : Answer) → r ≡ told o → isBad r ≡ true → (out : List ℕ) → written o out ≡ out
 bad-refusal (answer ws) r e b out = let z = rw e at b in absurd (clash cc)
-bad-refusal (refusal k) r e b out = refl
+bad-refusal (stop k p) r e b out = refl
 
 -- what a second call answers after a first that left the output as it was
 pub told-again : (o : ℕ → Outcome) (r : Answer) (out out′ out″ : List ℕ) → out′ ≡ out → (r ≡ told (o (length out′))) × (out″ ≡ written (o (length out′)) out′) → (r ≡ told (o (length out))) × (out″ ≡ written (o (length out)) out)

@@ -1,25 +1,26 @@
 -- One point: the head of a quantified predicate, and the whole call. Assumes nothing.
 use mathlib.Core.Path.{_≡_, refl, ap, sym, _∙_}
 use mathlib.Core.Bool.{Bool, true, false, _||_}
-use mathlib.Core.Option.{none as absent}
+use mathlib.Core.Option.{Option, none as absent, some}
 use mathlib.Core.List.{List, [], _∷_, _++_, append-nil}
 use Prim.Native.Nat.{ℕ, _+_, _-_, _≤_, _<_}
 use native.Mathlib.Omega.{arith}
 use borrow.Author.Tests.{le-leb, lt-leb, ltb-false, eqb-true, eqb-false}
-use lib.Dec.{ltb, eqb}
+use lib.Dec.{leb, ltb, eqb}
 use lib.ListN.{length, getD, take, drop, length-append, length-take, length-drop}
 use lib.Seq.{take-at, drop-drop}
 use Rattle.tree.specs.Form.{Form, node, none as no-more, more, pick, encode}
 use Rattle.tree.specs.Tag.{Sort, pred, own}
 use Rattle.form.specs.Decode.{Head, head, bad, read, Got, got, no-form, close, decode, decodeAll, Whole, one, not-one, whole as whole-of, rowForm, asSort, formOf}
-use Rattle.form.specs.Answer.{Outcome, refusal, told, ofFound, checkOutcome}
+use Rattle.form.specs.Break.{breakAt}
+use Rattle.form.specs.Answer.{Outcome, answer, stop, refusal, told, written, ofFound, needs, isOne, finish, checkOutcome}
 use Rattle.form.specs.Internal.Heads.{headAt}
 use Rattle.form.specs.declared.answer.Kind.the-variants.{Predicate}
 use Rattle.form.specs.declared.answer.Answer.{Answer}
 use Rattle.form.specs.declared.answer.Answer.the-variants.{No}
 use Rattle.form.proofs.DecodeLaws.{clash, ok-node, ok-none, ok-more, read-exact, read-at, decode-encode}
 use Rattle.reader.proofs.ReaderLaws.{node-here}
-use Rattle.shift.proofs.CheckedLaws.{is-missing, too-long, no-form-there, form-there}
+use Rattle.shift.proofs.CheckedLaws.{check-refuses, too-long, form-there}
 use Rattle.rules.specs.Fill.{quantified}
 use Rattle.replace.specs.Internal.Pieces.{declaredIn, areNames}
 use Rattle.replace.proofs.BuildLaws.{rest-part}
@@ -28,10 +29,11 @@ use Rattle.replace.proofs.OkLaws.{node-names}
 use Rattle.rules.specs.Replacement.{nothing}
 use Rattle.rules.specs.Scan.{scan}
 use Rattle.rules.specs.Point.{polarity, restOf, reduce, onePoint, ofResult, pointOutcome}
-use Rattle.one_point.specs.Internal.Reduce.{isQuantifier, headed, quantifierIn, reducedIn, bodyOutcome, Reducing}
+use Rattle.one_point.specs.Internal.Reduce.{isQuantifier, headed, quantifierIn, reducedIn, bodyOutcome, isBad, Reducing}
 use Rattle.one_point.specs.declared.one_point_inference.Quantifier.{Quantifier}
 use Rattle.one_point.specs.declared.one_point_inference.Quantifier.the-variants.{Of, None}
 use Rattle.places.proofs.PlacesLaws.{PredRow}
+use Rattle.one_point.proofs.PointLaws.{bad-refusal}
 use Rattle.one_point.proofs.ScanLimits.{rest-ok}
 
 -- the head of a quantified predicate that a row begins with
@@ -133,6 +135,17 @@ module _ (row : List ℕ) (t p : ℕ) (h : HeadRead row t p) where
 abbrev pointGo : ℕ → Sort → Form → Outcome
 pointGo room s f = ofResult room (onePoint f)
 
+-- what a body is reduced to is refused by 9, 7 or 14, never by 2
+never-bad : (room : ℕ) (o : Option Form) → isBad (told (ofResult room o)) ≡ true → ⊥
+unfolding finish
+never-bad room (some g) e = go (isOne (rowForm pred (encode g))) (leb (length (encode g)) room) e
+  where
+    go : (a b : Bool) → isBad (told (needs 7 a (needs 14 b (answer (encode g))))) ≡ true → ⊥
+    go true true e = clash cc
+    go true false e = clash cc
+    go false b e = clash cc
+never-bad room absent e = clash cc
+
 module _ (row : List ℕ) (wl room : ℕ) where
   pub point-small : wl < 16384 → pointOutcome row wl room ≡ refusal 15
   unfolding pointOutcome
@@ -144,9 +157,9 @@ module _ (row : List ℕ) (wl room : ℕ) where
     point-long h = rw (le-leb 16384 wl enough) (too-long Predicate row (pointGo room) h)
 
     module _ (short : length row ≤ 8192) where
-      pub point-missing : (a : Answer) (k : ℕ) → a ≡ told (checkOutcome Predicate row) → a ≡ No k → pointOutcome row wl room ≡ refusal 2
+      pub point-refused : (a : Answer) (k p : ℕ) → a ≡ told (checkOutcome Predicate row) → a ≡ No k p → pointOutcome row wl room ≡ stop k p
       unfolding pointOutcome
-      point-missing a k e n = rw (le-leb 16384 wl enough) (no-form-there Predicate row (pointGo room) short (is-missing Predicate row a k short e n))
+      point-refused a k p e n = rw (le-leb 16384 wl enough) (check-refuses Predicate row (pointGo room) a k p e n)
 
       pub point-other : PredRow row → (q : Quantifier) → q ≡ quantifierIn row → q ≡ None → pointOutcome row wl room ≡ refusal 9
       unfolding pointOutcome onePoint
@@ -161,10 +174,26 @@ module _ (row : List ℕ) (wl room : ℕ) where
             let l = length-take (length row - p) (drop p row) in
             record { which = h .which; few = rw (h .are) (h .few); names = rw (h .are) (h .good); short = omega arith; enough = enough }
 
-        pub point-body : bodyOutcome 63 t (take (p - 2) (drop 2 row)) (take (length row - p) (drop p row)) room ≡ pointOutcome row wl room
+        pub point-body : isBad (told (bodyOutcome 63 t (take (p - 2) (drop 2 row)) (take (length row - p) (drop p row)) room)) ≡ false → bodyOutcome 63 t (take (p - 2) (drop 2 row)) (take (length row - p) (drop p row)) room ≡ pointOutcome row wl room
         unfolding bodyOutcome pointOutcome formOf rowForm
-        point-body = rw (h .are, rest-part row p, le-leb 16384 wl enough, le-leb (length row) 8192 short, row-whole row t p h) (go (whole-of (decode 63 pred (drop p row))))
+        point-body e = rw (h .are, rest-part row p, le-leb 16384 wl enough, le-leb (length row) 8192 short, row-whole row t p h) (go (whole-of (decode 63 pred (drop p row))) (rw (h .are, rest-part row p) at e))
           where
-            go : (w : Whole) → reducedIn t (h .names) room w ≡ ofFound (pointGo room) (asSort pred (aroundWhole row t p h w))
-            go (one f) = ap (ofResult room) (sym (around-point row t p h f))
-            go not-one = refl
+            go : (w : Whole) → isBad (told (reducedIn t (h .names) room w)) ≡ false → reducedIn t (h .names) room w ≡ ofFound (breakAt Predicate row) (pointGo room) (asSort pred (aroundWhole row t p h w))
+            go (one f) e = ap (ofResult room) (sym (around-point row t p h f))
+            go not-one e = absurd (clash cc)
+
+        -- a body that is no predicate: the row breaks
+        pub point-broken : isBad (told (bodyOutcome 63 t (take (p - 2) (drop 2 row)) (take (length row - p) (drop p row)) room)) ≡ true → pointOutcome row wl room ≡ stop 2 (breakAt Predicate row)
+        unfolding bodyOutcome pointOutcome formOf rowForm
+        point-broken e = rw (le-leb 16384 wl enough, le-leb (length row) 8192 short, row-whole row t p h) (go (whole-of (decode 63 pred (drop p row))) (rw (h .are, rest-part row p) at e))
+          where
+            go : (w : Whole) → isBad (told (reducedIn t (h .names) room w)) ≡ true → ofFound (breakAt Predicate row) (pointGo room) (asSort pred (aroundWhole row t p h w)) ≡ stop 2 (breakAt Predicate row)
+            go (one f) e = absurd (never-bad room (reduce t (h .names) (scan (length (h .names)) (polarity t) f)) e)
+            go not-one e = refl
+
+        abbrev body : Outcome
+        body = bodyOutcome 63 t (take (p - 2) (drop 2 row)) (take (length row - p) (drop p row)) room
+
+        pub point-bad : (r : Answer) (out out′ : List ℕ) → (r ≡ told body) × (out′ ≡ written body out) → isBad r ≡ true → (q : ℕ) → q ≡ breakAt Predicate row
+            → (No 2 q ≡ told (pointOutcome row wl room)) × (out′ ≡ written (pointOutcome row wl room) out)
+        point-bad r out out′ u e q k = rw (point-broken (sym (ap isBad (u .0)) ∙ e), k) (refl, u .1 ∙ bad-refusal body r (u .0) e out)

@@ -1,5 +1,7 @@
 // One point: a quantified predicate is reduced by the first equality that its body offers.
+use crate::reduce::is_bad;
 use crate::reduce::reduce;
+use broken::position::broken_at;
 use form::answer::Answer;
 use form::answer::Kind;
 use form::answer::Limit;
@@ -38,16 +40,21 @@ pub fn one_point_inference(row: &[u32], work: &mut [u32], out: &mut [u32]) -> An
     ensures { λ _. ⌜ now (out .exit) ≡ written (pointOutcome (now (row .entry)) (length (now (work .entry))) (length (now (out .entry)))) (now (out .entry)) ⌝ }
 {
     if work.len() < 16384 {
-        return Answer::No(15);
+        return Answer::No(15, 0);
     }
     if Limit::WORDS < row.len() {
-        return Answer::No(1);
+        return Answer::No(1, 0);
     }
     let Quantifier::Of(tag, start) = quantifier_of(row) else {
-        let Answer::Done(k) = reader::check::check(row, Kind::Predicate) else {
-            return Answer::No(2);
+        let checked = reader::check::check(row, Kind::Predicate);
+        let Answer::Done(k) = checked else {
+            return checked;
         };
-        return Answer::No(9);
+        return Answer::No(9, 0);
     };
-    reduce(tag, &row[2..start], &row[start..], work, out)
+    let r = reduce(tag, &row[2..start], &row[start..], work, out);
+    if is_bad(r) {
+        return Answer::No(2, broken_at(row, Kind::Predicate));
+    }
+    r
 }

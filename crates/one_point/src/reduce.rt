@@ -65,7 +65,7 @@ fn place(
     ensures { λ _. ⌜ now (out .exit) ≡ written (placedOutcome tag (now (names .entry)) target (now (part .entry)) (now (rest .entry)) (length (now (out .entry)))) (now (out .entry)) ⌝ }
 {
     let Step::End(end) = expr_at(part, part_marks, 0, Depth::MOST, 0) else {
-        return Answer::No(2);
+        return Answer::No(2, 0);
     };
     let sure = is_sure(part, rest, depth);
     raise(marks, target + 1);
@@ -117,14 +117,14 @@ fn reduce_in(
         0,
     );
     if !s.ok {
-        return Answer::No(2);
+        return Answer::No(2, 0);
     }
     if s.next != body.len() {
-        return Answer::No(2);
+        return Answer::No(2, 0);
     }
     let found = s.found;
     let Replacement::Is(target, start, end) = found else {
-        return Answer::No(9);
+        return Answer::No(9, 0);
     };
     let stop = rest_end(tag, s.gone, s.end, work);
     place(
@@ -196,12 +196,12 @@ fn reduce_at(
 }
 
 // Whether the body was no predicate as deep as it was read.
-fn is_bad(r: Answer) -> bool
+pub(crate) fn is_bad(r: Answer) -> bool
     ensures { λ b. ⌜ b ≡ isBad r ⌝ }
 {
     match r {
         Answer::Done(n) => false,
-        Answer::No(k) => k == 2,
+        Answer::No(k, p) => k == 2,
     }
 }
 

@@ -10,18 +10,20 @@ use lib.ListN.{length, take, drop, length-append}
 use lib.Seq.{drop-append-seam}
 use Rattle.tree.specs.Form.{Form, node, Forms, none, more, encode}
 use Rattle.tree.specs.Tag.{expr, pred}
-use Rattle.form.specs.Decode.{Whole, one, not-one, rowForm, found, asSort, formOf}
+use Rattle.form.specs.Break.{breakAt}
+use Rattle.form.specs.Decode.{Whole, one, not-one, rowForm, Found, found, missing, asSort, formOf}
 use Rattle.form.specs.Answer.{answer, told, ofFound, checkOutcome}
 use Rattle.form.specs.declared.answer.Kind.the-variants.{Predicate}
 use Rattle.form.specs.declared.answer.Answer.{Answer}
-use Rattle.form.specs.declared.answer.Answer.the-variants.{Done, No}
+use Rattle.form.specs.declared.answer.Answer.the-variants.{Done}
 use Rattle.form.proofs.DecodeLaws.{clash, Ok, decode-encode}
-use Rattle.shift.proofs.CheckedLaws.{is-missing}
+use Rattle.reader.specs.Internal.Reads.{isFound}
+use Rattle.shift.proofs.CheckedLaws.{not-found}
 use Rattle.form.proofs.RowLaws.{row-one}
 use Rattle.rules.proofs.OkLaws.{ok-deep}
 use Rattle.rules.specs.Replacement.{left, right, Offer, offer, no-offer, offered}
 use Rattle.rules.specs.Split.{equal}
-use Rattle.places.specs.Places.{says, offerForm, offerAnswer}
+use Rattle.places.specs.Places.{says, breaks, offerForm, offerAnswer}
 use Rattle.places.specs.Internal.Positions.{endAt}
 use Rattle.places.specs.Internal.Sides.{equalityWords, replacementWords, aboveWords, offerPart}
 use Rattle.places.specs.declared.sides.Sides.{Sides}
@@ -145,13 +147,22 @@ pub record PredRow (row : List ℕ) : Type 0 where
   pub words : row ≡ encode form
   pub ok : Ok 64 pred form
 
-pub pred-row : (row : List ℕ) (a : Answer) (j : ℕ) → length row ≤ 8192 → a ≡ told (checkOutcome Predicate row) → a ≡ Done j → PredRow row
-unfolding checkOutcome formOf
-pred-row row a j short q e = go (rowForm pred row) refl (sym e ∙ (rw (le-leb (length row) 8192 short) at q))
+pub pred-form : (row : List ℕ) (v : Bool) → v ≡ isFound (formOf Predicate row) → v ≡ true → PredRow row
+unfolding formOf
+pred-form row v q e = go (rowForm pred row) refl (sym q ∙ e)
   where
-    go : (w : Whole) → rowForm pred row ≡ w → Done j ≡ told (ofFound (λ s f. answer []) (asSort pred w)) → PredRow row
+    go : (w : Whole) → rowForm pred row ≡ w → isFound (asSort pred w) ≡ true → PredRow row
     go (one f) r t = let (l, w, k) = row-one pred row f r in record { form = f; is-found = rw r; words = w; ok = k }
     go not-one r t = absurd (clash cc)
+
+-- the same of a row that the check took
+pub pred-row : (row : List ℕ) (a : Answer) (j : ℕ) → length row ≤ 8192 → a ≡ told (checkOutcome Predicate row) → a ≡ Done j → PredRow row
+unfolding checkOutcome
+pred-row row a j short q e = pred-form row true (go (formOf Predicate row) (sym e ∙ (rw (le-leb (length row) 8192 short) at q))) refl
+  where
+    go : (o : Found) → Done j ≡ told (ofFound (breakAt Predicate row) (λ s f. answer []) o) → true ≡ isFound o
+    go (found s f) t = refl
+    go missing t = absurd (clash cc)
 
 module _ (p : Replacements) (row : List ℕ) where
   pub offer-long : 8192 < length row → says p 1 ≡ offerAnswer p row
@@ -159,9 +170,9 @@ module _ (p : Replacements) (row : List ℕ) where
   offer-long h = rw (lt-leb (length row) 8192 h)
 
   module _ (short : length row ≤ 8192) where
-    pub offer-missing : (a : Answer) (k : ℕ) → a ≡ told (checkOutcome Predicate row) → a ≡ No k → says p 2 ≡ offerAnswer p row
+    pub offer-missing : (v : Bool) → v ≡ isFound (formOf Predicate row) → v ≡ false → (q : ℕ) → q ≡ breakAt Predicate row → breaks p q ≡ offerAnswer p row
     unfolding offerAnswer
-    offer-missing a k q e = rw (le-leb (length row) 8192 short, is-missing Predicate row a k short q e)
+    offer-missing v q e j l = rw (le-leb (length row) 8192 short, not-found (formOf Predicate row) v q e, l)
 
     module _ (x : PredRow row) where
       pub offer-many : 32 < p .n → says p 5 ≡ offerAnswer p row

@@ -4,6 +4,7 @@ use Prim.Native.Nat.{ℕ, suc, _+_, _-_}
 use lib.Dec.{leb, ltb, eqb}
 use lib.ListN.{length, getD, set, replicate}
 use Rattle.tree.specs.Form.{Form, leaf, node, pick, encode}
+use Rattle.form.specs.Break.{breakAt}
 use Rattle.form.specs.Decode.{Found, found, missing, formOf}
 use Rattle.form.specs.declared.answer.Kind.the-variants.{Predicate}
 use Rattle.rules.specs.Replacement.{Side, left, right, sideOf, Offer, offer, no-offer, offered, above}
@@ -15,7 +16,10 @@ abbrev pub emptyFor : ℕ → Replacements
 emptyFor n = record { starts = replicate 32 0; ends = replicate 32 0; n = n }
 
 abbrev pub says : Replacements → ℕ → Offered
-says p k = record { places = p; number = k }
+says p k = record { places = p; number = k; position = 0 }
+
+abbrev pub breaks : Replacements → ℕ → Offered
+breaks p q = record { places = p; number = 2; position = q }
 
 -- for at most 32 declarations; refused by 5, it is the set for 0
 unfoldable pub newOf : ℕ → Offered
@@ -46,9 +50,9 @@ offerForm p (leaf x) = says p 10
 offerForm p (node t o ds ks) =
     ofTwo (says p 10) (λ l r. pick (eqb t 101) (offerSides p l r (offered l r)) (says p 10)) ks
 
-abbrev pub offerFound : Replacements → Found → Offered
-offerFound p = elim [ found s f ↦ pick (leb (p .n) 32) (offerForm p f) (says p 5) | missing ↦ says p 2 ]
+abbrev pub offerFound : Replacements → ℕ → Found → Offered
+offerFound p q = elim [ found s f ↦ pick (leb (p .n) 32) (offerForm p f) (says p 5) | missing ↦ breaks p q ]
 
 -- in order 1, 2, 5, 10, 11, 12, 13
 unfoldable pub offerAnswer : Replacements → List ℕ → Offered
-offerAnswer p row = pick (leb (length row) 8192) (offerFound p (formOf Predicate row)) (says p 1)
+offerAnswer p row = pick (leb (length row) 8192) (offerFound p (breakAt Predicate row) (formOf Predicate row)) (says p 1)

@@ -4,13 +4,13 @@ use crate::sides::Replacement;
 use crate::sides::equality_of;
 use crate::sides::is_above;
 use crate::sides::match_replacement;
-use form::answer::Answer;
+use broken::position::broken_at;
 use form::answer::Kind;
 use form::answer::Limit;
 ghost use mathlib.Core.Path.{_≡_};
 ghost use Prim.Native.Nat.{_≤_};
 ghost use lib.ListN.{length};
-ghost use Rattle.places.specs.Places.{says, newOf, offerAnswer};
+ghost use Rattle.places.specs.Places.{says, newOf, offerAnswer, breaks};
 ghost use Rattle.places.specs.Internal.Sides.{offerPart};
 
 // Places for n declarations, the first declaration's first; an end of 0 is a free place.
@@ -24,6 +24,7 @@ pub struct Replacements {
 pub struct Offered {
     pub places: Replacements,
     pub number: u32,
+    pub position: u32,
 }
 
 impl Replacements {
@@ -60,6 +61,18 @@ impl Replacements {
         Offered {
             places: self,
             number: number,
+            position: 0,
+        }
+    }
+
+    // Refused by 2, with the position where the row breaks.
+    fn breaks(self, at: u32) -> Offered
+        ensures { λ r. ⌜ r ≡ breaks self at ⌝ }
+    {
+        Offered {
+            places: self,
+            number: 2,
+            position: at,
         }
     }
 
@@ -93,9 +106,9 @@ impl Replacements {
         if Limit::WORDS < row.len() {
             return self.says(1);
         }
-        let Answer::Done(length) = reader::check::check(row, Kind::Predicate) else {
-            return self.says(2);
-        };
+        if !reader::check::is_form(row, Kind::Predicate) {
+            return self.breaks(broken_at(row, Kind::Predicate));
+        }
         let n = self.n;
         if Self::LIMIT < n {
             return self.says(5);

@@ -1,7 +1,6 @@
 // An equality and its replacement, by the positions of the two sides in a row.
 use crate::positions::skip_expr;
 use crate::replacements::Replacements;
-use form::answer::Answer;
 use form::answer::Kind;
 use form::answer::Limit;
 use form::head::Step;
@@ -101,9 +100,9 @@ fn above_marked(part: &[u32], target: u32, marks: &mut [u32]) -> bool
     requires { ⌜ (target < 32) × Fresh (now part) (now marks) ⌝ }
     ensures { λ r. ⌜ r ≡ aboveWords target (now (part .entry)) ⌝ }
 {
-    let Answer::Done(n) = reader::check::mark(part, Kind::Expression, marks) else {
+    if !reader::check::mark_form(part, Kind::Expression, marks) {
         return false;
-    };
+    }
     all_in(part, marks, target + 1, 65536)
 }
 

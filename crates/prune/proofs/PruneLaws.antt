@@ -12,9 +12,11 @@ use lib.ListN.{length, take, drop, replicate, length-append, length-drop, length
 use lib.Seq.{take-at, length-take-le}
 use Rattle.tree.specs.Form.{Leaf, free, bound, Form, leaf, pick, encode}
 use Rattle.tree.specs.Tag.{Sort, pred}
+use Rattle.form.specs.declared.answer.Answer.the-variants.{No}
+use Rattle.form.specs.declared.answer.Answer.{Answer}
 use Rattle.form.specs.Decode.{missing, formOf}
 use Rattle.form.specs.Lists.{Place, kept, filled}
-use Rattle.form.specs.Answer.{Outcome, answer, refusal, needs, finish}
+use Rattle.form.specs.Answer.{Outcome, answer, refusal, needs, finish, stop, told, checkOutcome}
 use Rattle.reader.specs.Internal.Reads.{mark}
 use Rattle.form.specs.declared.answer.Kind.the-variants.{Predicate}
 use Rattle.rules.specs.Walk.{Binding, inside, outside, binding, collectIndex, collectLeaf}
@@ -23,7 +25,7 @@ use Rattle.shift.specs.declared.items.Item.{Item}
 use Rattle.shift.specs.declared.items.Item.the-variants.{Plain, Ident}
 use Rattle.rules.proofs.WalkLaws.{binding-inside, binding-back}
 use Rattle.shift.proofs.RowLaws.{identOf, itemsOf, each-items-in}
-use Rattle.shift.proofs.CheckedLaws.{Checked, too-long, no-form-there, form-there}
+use Rattle.shift.proofs.CheckedLaws.{Checked, too-long, check-refuses, form-there}
 use Rattle.rules.specs.Fill.{keptCount, fill, ofQuantified, quantified}
 use Rattle.rules.specs.Prune.{isNot, unused, usedPlaces, prune, pruneOutcome}
 use Rattle.replace.specs.Internal.Pieces.{filledWords, declaredIn}
@@ -118,9 +120,9 @@ module _ (row : List ℕ) (room : ℕ) where
   unfolding pruneOutcome
   prune-long h = too-long Predicate row (pruneGo room) h
 
-  pub prune-missing : length row ≤ 8192 → formOf Predicate row ≡ missing → pruneOutcome row room ≡ refusal 2
+  pub prune-refused : (r : Answer) (k p : ℕ) → r ≡ told (checkOutcome Predicate row) → r ≡ No k p → pruneOutcome row room ≡ stop k p
   unfolding pruneOutcome
-  prune-missing h q = no-form-there Predicate row (pruneGo room) h q
+  prune-refused r k p q e = check-refuses Predicate row (pruneGo room) r k p q e
 
   module _ (m : List ℕ) (x : Checked Predicate row m (length row)) (n : ℕ) (e : n ≡ declaredIn row) where
     prune-read : pruneOutcome row room ≡ pruneGo room (x .sort) (x .form)

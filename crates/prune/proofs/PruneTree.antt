@@ -9,9 +9,10 @@ use lib.Dec.{eqb, leb}
 use lib.ListN.{length, length-append, length-reverse}
 use Rattle.tree.specs.Form.{Leaf, free, bound, Form, leaf, none, more, pick, encode}
 use Rattle.tree.specs.Tag.{pred}
+use Rattle.form.specs.Break.{breakAt}
 use Rattle.form.specs.Decode.{Whole, one, not-one, rowForm, asSort, formOf}
 use Rattle.form.specs.Lists.{Place, kept, filled}
-use Rattle.form.specs.Answer.{Outcome, answer, refusal, ofFound, needs, isOne, finish}
+use Rattle.form.specs.Answer.{Outcome, answer, refusal, ofFound, needs, isOne, finish, stop}
 use Rattle.form.specs.declared.answer.Kind.the-variants.{Predicate}
 use Rattle.form.proofs.DecodeLaws.{clash, Ok}
 use Rattle.form.proofs.RowLaws.{row-exact, row-encode}
@@ -244,7 +245,7 @@ module _ (f : Form) (ok : Ok 64 pred f) (short : length (encode f) ≤ 8192) (q 
 -- no row and no output row make prune refuse by 7
 abbrev code : Outcome → ℕ
 code (answer ws) = 0
-code (refusal n) = n
+code (stop n p) = n
 
 code-room : (b : Bool) (ws : List ℕ) → code (needs 14 b (answer ws)) ≡ 7 → ⊥
 code-room true ws h = omega arith
@@ -267,13 +268,13 @@ code-form room f ok short h = go (declaredIn (encode f)) refl
         let q = is-quant ok (omega arith) in
         code-finish (not (eqb (keptCount (usedPlaces (q .decls) (q .body))) (length (q .decls)))) room (prune (q .tag) (q .decls) (q .body)) (prune-inside f ok short q) (rw (q .is) at h)
 
-code-row : (row : List ℕ) (room : ℕ) (w : Whole) → rowForm pred row ≡ w → length row ≤ 8192 → code (ofFound (λ s f. pruned room f) (asSort pred w)) ≡ 7 → ⊥
+code-row : (row : List ℕ) (room : ℕ) (w : Whole) → rowForm pred row ≡ w → length row ≤ 8192 → code (ofFound (breakAt Predicate row) (λ s f. pruned room f) (asSort pred w)) ≡ 7 → ⊥
 code-row row room not-one e short h = omega arith
 code-row row room (one f) e short h =
     let (words, ok) = row-exact pred row f e in
     code-form room f ok (rw words at short) h
 
-code-within : (row : List ℕ) (room : ℕ) (b : Bool) → leb (length row) 8192 ≡ b → code (pick b (ofFound (λ s f. pruned room f) (formOf Predicate row)) (refusal 1)) ≡ 7 → ⊥
+code-within : (row : List ℕ) (room : ℕ) (b : Bool) → leb (length row) 8192 ≡ b → code (pick b (ofFound (breakAt Predicate row) (λ s f. pruned room f) (formOf Predicate row)) (refusal 1)) ≡ 7 → ⊥
 unfolding formOf
 code-within row room true e h = code-row row room (rowForm pred row) refl (leb-true (length row) 8192 e) h
 code-within row room false e h = omega arith

@@ -88,14 +88,14 @@ fn drop_decls(words: &[u32], row: &[u32], marks: &[u32], out: &mut [u32]) -> Ans
     let mut falls = [0u32; 33];
     count_falls(words, &mut falls);
     if falls[0] == 0 {
-        return Answer::No(9);
+        return Answer::No(9, 0);
     }
     let mut head = [0u32; 34];
     let h = write_head(words, row, &mut head);
     let from = 2 + words.len();
     let n = h + (row.len() - from);
     if out.len() < n {
-        return Answer::No(14);
+        return Answer::No(14, 0);
     }
     put_words(&head[..h], out, 0);
     write_fallen(words, &falls, row, marks, from, out, h);
@@ -117,12 +117,13 @@ fn prune_in(row: &[u32], marks: &mut [u32], out: &mut [u32]) -> Answer
     ensures { λ r. ⌜ r ≡ told (pruneOutcome (now (row .entry)) (length (now (out .entry)))) ⌝ }
     ensures { λ _. ⌜ now (out .exit) ≡ written (pruneOutcome (now (row .entry)) (length (now (out .entry)))) (now (out .entry)) ⌝ }
 {
-    let Answer::Done(k) = mark_fresh(row, Kind::Predicate, marks) else {
-        return Answer::No(2);
+    let checked = mark_fresh(row, Kind::Predicate, marks);
+    let Answer::Done(k) = checked else {
+        return checked;
     };
     let n = declared(row);
     if n == 0 {
-        return Answer::No(3);
+        return Answer::No(3, 0);
     }
     let m = n as usize;
     let mut words = [1u32; 33];
@@ -148,7 +149,7 @@ pub fn remove_unused_decls(row: &[u32], out: &mut [u32]) -> Answer
         return prune_in(row, &mut marks, out);
     }
     if Limit::WORDS < row.len() {
-        return Answer::No(1);
+        return Answer::No(1, 0);
     }
     let mut marks = [0u32; 8192];
     prune_in(row, &mut marks, out)

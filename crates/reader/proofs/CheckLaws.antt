@@ -9,8 +9,9 @@ use lib.ListN.{length, getD, length-append}
 use Rattle.tree.specs.Form.{Form, pick, encode}
 use Rattle.tree.specs.Tag.{Sort, expr, pred, shapeOf}
 use Rattle.form.specs.Decode.{got, decode, Whole, one, not-one, whole, rowForm, Found, found, missing, asSort, either, formOf}
-use Rattle.form.specs.Answer.{Outcome, answer, refusal, told, ofFound, checkOutcome}
-use Rattle.reader.specs.Internal.Reads.{mark, Told, Marked, known, asExpr}
+use Rattle.form.specs.Break.{breakAt}
+use Rattle.form.specs.Answer.{answer, told, ofFound, checkOutcome}
+use Rattle.reader.specs.Internal.Reads.{mark, Told, isFound, Marked, known, asExpr}
 use Rattle.form.specs.declared.answer.Kind.{Kind}
 use Rattle.form.specs.declared.answer.Kind.the-variants.{Expression, Predicate, Either}
 use Rattle.form.specs.declared.answer.Answer.the-variants.{Done, No}
@@ -94,36 +95,55 @@ module _ (d : ℕ) (s : Sort) (row a b : List ℕ) (r : Step) (t : Told 0 0 (dec
       go f [] g e = absurd (e refl)
       go f (w ∷ y) g e = rw g
 
+-- a row read as a form of the kind: whether it is one, and its marks
 module _ (kind : Kind) (row a b : List ℕ) where
-  pub row-long : 8192 < length row → (No 1 ≡ told (checkOutcome kind row)) × Marked (formOf kind row) a b
-  unfolding checkOutcome Marked formOf rowForm
-  row-long h = rw (lt-leb (length row) 8192 h) (refl, long-marked kind)
+  pub row-long : 8192 < length row → (false ≡ isFound (formOf kind row)) × Marked (formOf kind row) a b
+  unfolding Marked formOf rowForm
+  row-long h = by kind
     where
-      long-marked : (kind : Kind) → Marked (formOf kind row) a b
-      long-marked Expression = rw (lt-leb (length row) 8192 h) tt
-      long-marked Predicate = rw (lt-leb (length row) 8192 h) tt
-      long-marked Either = rw (lt-leb (length row) 8192 h) tt
+      by : (kind : Kind) → (false ≡ isFound (formOf kind row)) × Marked (formOf kind row) a b
+      by Expression = rw (lt-leb (length row) 8192 h) (refl, tt)
+      by Predicate = rw (lt-leb (length row) 8192 h) (refl, tt)
+      by Either = rw (lt-leb (length row) 8192 h) (refl, tt)
 
   module _ (h : length row ≤ 8192) (x : Bool) (k : x ≡ asExpr kind row) (r : Step) (t : Told 0 0 (decode 64 (sortFor x) row) a b r) where
     as-read : (w : Whole) → whole (decode 64 (sortFor x) row) ≡ w → formOf kind row ≡ asSort (sortFor x) w
     unfolding rowForm
     as-read w e = form-of kind row x k ∙ rw (le-leb (length row) 8192 h, e)
 
-    ends : (w : Whole) → whole (decode 64 (sortFor x) row) ≡ w → (o : Outcome) → ofFound (λ s f. answer []) (asSort (sortFor x) w) ≡ o → Marked (asSort (sortFor x) w) a b
-        → (told o ≡ told (checkOutcome kind row)) × Marked (formOf kind row) a b
-    unfolding checkOutcome
-    ends w e o q m = rw (as-read w e, le-leb (length row) 8192 h, q) (refl, m)
-
-    pub row-bad : r ≡ Bad → (No 2 ≡ told (checkOutcome kind row)) × Marked (formOf kind row) a b
+    pub row-bad : r ≡ Bad → (false ≡ isFound (formOf kind row)) × Marked (formOf kind row) a b
     unfolding Marked
-    row-bad e = ends not-one (read-bad 64 (sortFor x) row a b r t e) (refusal 2) refl tt
+    row-bad e = rw (as-read not-one (read-bad 64 (sortFor x) row a b r t e)) (refl, tt)
 
-    pub row-whole : (p : ℕ) → r ≡ End p → p ≡ length row → (Done 0 ≡ told (checkOutcome kind row)) × Marked (formOf kind row) a b
+    pub row-whole : (p : ℕ) → r ≡ End p → p ≡ length row → (true ≡ isFound (formOf kind row)) × Marked (formOf kind row) a b
     unfolding Marked
     row-whole p e q =
         let (f, w, m) = read-whole 64 (sortFor x) row a b r t p e q in
-        ends (one f) w (answer []) refl m
+        rw (as-read (one f) w) (refl, m)
 
-    pub row-part : (p : ℕ) → r ≡ End p → (p ≡ length row → ⊥) → (No 2 ≡ told (checkOutcome kind row)) × Marked (formOf kind row) a b
+    pub row-part : (p : ℕ) → r ≡ End p → (p ≡ length row → ⊥) → (false ≡ isFound (formOf kind row)) × Marked (formOf kind row) a b
     unfolding Marked
-    row-part p e q = ends not-one (read-part 64 (sortFor x) row a b r t p e q) (refusal 2) refl tt
+    row-part p e n = rw (as-read not-one (read-part 64 (sortFor x) row a b r t p e n)) (refl, tt)
+
+-- the check's answer
+module _ (kind : Kind) (row : List ℕ) where
+  pub check-long : 8192 < length row → No 1 0 ≡ told (checkOutcome kind row)
+  unfolding checkOutcome
+  check-long h = rw (lt-leb (length row) 8192 h)
+
+  module _ (h : length row ≤ 8192) (v : Bool) (e : v ≡ isFound (formOf kind row)) where
+    pub check-done : v ≡ true → Done 0 ≡ told (checkOutcome kind row)
+    unfolding checkOutcome
+    check-done t = rw (le-leb (length row) 8192 h) (go (formOf kind row) (sym e ∙ t))
+      where
+        go : (o : Found) → isFound o ≡ true → Done 0 ≡ told (ofFound (breakAt kind row) (λ s f. answer []) o)
+        go (found s f) q = refl
+        go missing q = absurd (clash cc)
+
+    pub check-broken : v ≡ false → (p : ℕ) → p ≡ breakAt kind row → No 2 p ≡ told (checkOutcome kind row)
+    unfolding checkOutcome
+    check-broken t p k = rw (le-leb (length row) 8192 h, k) (go (formOf kind row) (sym e ∙ t))
+      where
+        go : (o : Found) → isFound o ≡ false → No 2 (breakAt kind row) ≡ told (ofFound (breakAt kind row) (λ s f. answer []) o)
+        go (found s f) q = absurd (clash cc)
+        go missing q = refl

@@ -11,27 +11,14 @@ use lib.ListN.{length, getD, drop, set, replicate, length-append, length-drop}
 use Rattle.tree.specs.Form.{Leaf, Form, leaf, node, Forms, none, pick, encode, encodeAll}
 use Rattle.tree.specs.Tag.{Sort, expr, own, ownOf, shapeOf, exprTags, sorts}
 use Rattle.form.specs.Decode.{Head, head, bad, read, Got, got, no-form, Gots, gots, no-forms, leafAt, isLeaf, make, addForm, close, chain, decodeAll, branch, decode}
-use Rattle.form.specs.Internal.Heads.{headAt}
-use Rattle.reader.specs.Internal.Reads.{mark, markAll, markTag, startsLeaf, Told, ToldAll, decodeIn}
+use Rattle.form.specs.Internal.Heads.{headAt, startsLeaf}
+use Rattle.reader.specs.Internal.Reads.{mark, markAll, markTag, Told, ToldAll, decodeIn}
 use Rattle.form.specs.declared.head.Step.{Step}
 use Rattle.form.specs.declared.head.Step.the-variants.{End, Bad}
 use Rattle.form.specs.declared.head.Head as code
 use Rattle.form.specs.declared.head.Head.the-variants.{Kids, None}
 use Rattle.form.proofs.DecodeLaws.{clash, high-tag, read-exact, read-at, all-sound, decode-at, made}
 use Rattle.form.proofs.HeadLaws.{gone, here, head-rises}
-
--- tags that are marked
-pub leaf-tag : (t : ℕ) → (t ≡ 0 → ⊥) → t ≤ 2 → isLeaf t ≡ true
-leaf-tag zero n h = absurd (n refl)
-leaf-tag (suc zero) n h = refl
-leaf-tag (suc (suc zero)) n h = refl
-leaf-tag (suc (suc (suc t))) n h = absurd (omega arith)
-
-pub other-tag : (t : ℕ) → 2 < t → isLeaf t ≡ false
-other-tag zero h = absurd (omega arith)
-other-tag (suc zero) h = absurd (omega arith)
-other-tag (suc (suc zero)) h = absurd (omega arith)
-other-tag (suc (suc (suc t))) h = high-tag t
 
 -- what is read at a position: nothing past the end, else the node that begins there
 pub no-word : (d : ℕ) (s : Sort) → decode d s [] ≡ no-form
@@ -225,35 +212,7 @@ module _ (s : Sort) (row : List ℕ) (at u : ℕ) where
         go z e = let q = head-rises (at + 1) p x y w z e in omega arith
 
 -- a name or an index, read without the table of tags
-pub leaf-deep : (d : ℕ) (l : List ℕ) → d ≡ 0 → startsLeaf d l ≡ false
-unfolding startsLeaf
-leaf-deep d [] e = refl
-leaf-deep d (t ∷ []) e = refl
-leaf-deep d (t ∷ w ∷ l) e = rw e
-
 module _ (row : List ℕ) (at d : ℕ) where
-  pub leaf-gone : length row ≤ at → startsLeaf d (drop at row) ≡ false
-  unfolding startsLeaf
-  leaf-gone h = rw (gone row at h)
-
-  one-word : at < length row → length row ≤ at + 1 → drop at row ≡ getD row at 0 ∷ []
-  one-word h k = here row at h ∙ rw (gone row (at + 1) k)
-
-  pub two-words : at + 1 < length row → drop at row ≡ getD row at 0 ∷ (getD row (at + 1) 0 ∷ drop (at + 1 + 1) row)
-  two-words h = here row at (omega arith) ∙ rw (here row (at + 1) h)
-
-  pub leaf-short : at < length row → length row ≤ at + 1 → startsLeaf d (drop at row) ≡ false
-  unfolding startsLeaf
-  leaf-short h k = rw (one-word h k)
-
-  pub leaf-here : (d ≡ 0 → ⊥) → at + 1 < length row → startsLeaf d (drop at row) ≡ (isLeaf (getD row at 0) && leb (getD row (at + 1) 0) 65535)
-  unfolding startsLeaf
-  leaf-here n h = rw (two-words h, le-leb 1 d (pos d n))
-    where
-      pos : (d : ℕ) → (d ≡ 0 → ⊥) → 1 ≤ d
-      pos zero n = absurd (n refl)
-      pos (suc d) n = omega arith
-
   pub leaf-told : (u : ℕ) (a : List ℕ) → startsLeaf d (drop at row) ≡ true → Told at u (decode d expr (drop at row)) a (set a at (suc u)) (End (at + 2))
   unfolding decode decodeAll read own ownOf shapeOf exprTags Told encode mark startsLeaf
   leaf-told u a e = go d (drop at row) e
@@ -274,23 +233,6 @@ module _ (row : List ℕ) (at d : ℕ) where
       go d (t ∷ []) e = absurd (clash cc)
       go zero (t ∷ w ∷ ws) e = absurd (clash cc)
       go (suc d) (t ∷ w ∷ ws) e = both t d w ws (isLeaf t) (leb w 65535) refl refl (rw (le-leb 1 (suc d) (omega arith)) at e)
-
-  -- what a true test tells: the depth is not 0, and two words stand here
-  pub leaf-room : startsLeaf d (drop at row) ≡ true → (1 ≤ d) × (at + 1 < length row)
-  unfolding startsLeaf
-  leaf-room e = go d (drop at row) refl e
-    where
-      deep : (d : ℕ) (b c : Bool) → leb 1 d ≡ b → (b && c) ≡ true → 1 ≤ d
-      deep d true c l k = leb-true 1 d l
-      deep d false c l k = absurd (clash cc)
-
-      go : (d : ℕ) (l : List ℕ) → drop at row ≡ l → startsLeaf d l ≡ true → (1 ≤ d) × (at + 1 < length row)
-      go d [] q k = absurd (clash cc)
-      go d (t ∷ []) q k = absurd (clash cc)
-      go d (t ∷ w ∷ ws) q k =
-          let n : length (drop at row) ≡ length (t ∷ w ∷ ws) = ap length q in
-          let m = length-drop at row in
-          (deep d (leb 1 d) (isLeaf t && leb w 65535) refl k, omega arith)
 
   leaf-was : (b : Bool) (p q : ℕ) (r : Step) → r ≡ pick b (End p) Bad → r ≡ End q → (b ≡ true) × (q ≡ p)
   leaf-was true p q r e k = (refl, cc)

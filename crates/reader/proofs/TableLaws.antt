@@ -14,6 +14,7 @@ use Rattle.tree.specs.Form.{pick}
 use Rattle.tree.specs.Tag.{expr}
 use Rattle.form.specs.Decode.{Got, got, no-form, decode}
 use Rattle.form.specs.Lists.{Entry, entry, wordOf, withExpr, placeEntry, entryOf, addEntry, andThen, listOf, entryWords, distinct, goodNames}
+use Rattle.form.specs.Break.{breakList}
 use Rattle.form.specs.Answer.{told, answer, needs, namesOutcome, pairsOutcome, placesOutcome}
 use Rattle.reader.specs.Internal.Reads.{Told, markEntry, markEntries, ToldEntry, tableOf, emptyTable, addRow, tabled, ListingFrom, Listing, memberOf, goodWords}
 use Rattle.form.specs.declared.answer.Answer.the-variants.{Done, No}
@@ -247,7 +248,7 @@ module _ (o : Option (List Entry)) (t u : Table) (a b : List ℕ) (ok : Bool) (h
 
 -- the answers: names, pairs, places
 module _ (row : List ℕ) where
-  pub names-long : 8192 < length row → No 1 ≡ told (namesOutcome row)
+  pub names-long : 8192 < length row → No 1 0 ≡ told (namesOutcome row)
   unfolding namesOutcome
   names-long h = rw (lt-leb (length row) 8192 h)
 
@@ -255,11 +256,11 @@ module _ (row : List ℕ) where
   unfolding namesOutcome
   names-answer h v g e k = rw (le-leb (length row) 8192 h, ← e, k)
 
-  pub pairs-long : 8192 < length row → No 1 ≡ told (pairsOutcome row)
+  pub pairs-long : 8192 < length row → No 1 0 ≡ told (pairsOutcome row)
   unfolding pairsOutcome
   pairs-long h = rw (lt-leb (length row) 8192 h)
 
-  pub places-long : (n : ℕ) → 8192 < length row → No 1 ≡ told (placesOutcome n row)
+  pub places-long : (n : ℕ) → 8192 < length row → No 1 0 ≡ told (placesOutcome n row)
   unfolding placesOutcome
   places-long n h = rw (lt-leb (length row) 8192 h)
 
@@ -268,9 +269,9 @@ module _ (row : List ℕ) where
     abbrev Read : ListKind → Type 0
     Read kind = Listing (listOf kind row) emptyTable u a b ok
 
-    pub pairs-none : Read Pairs → ok ≡ false → No 2 ≡ told (pairsOutcome row)
+    pub pairs-none : Read Pairs → ok ≡ false → (q : ℕ) → q ≡ breakList Pairs row → No 2 q ≡ told (pairsOutcome row)
     unfolding pairsOutcome
-    pairs-none t e = rw (le-leb (length row) 8192 h, listing-no _ _ _ _ _ _ t e)
+    pairs-none t e q k = rw (le-leb (length row) 8192 h, listing-no _ _ _ _ _ _ t e, k)
 
     pairs-some : (es : List Entry) → listOf Pairs row ≡ some es → u ≡ tabled es 0 emptyTable → (v : Bool) → goodWords (u .n) (u .words) ≡ v → told (needs 4 v (answer [])) ≡ told (pairsOutcome row)
     unfolding pairsOutcome
@@ -281,9 +282,9 @@ module _ (row : List ℕ) where
         let (es, o, t, m) = listing-yes _ _ _ _ _ _ t e in
         pairs-some es o t v (sym k ∙ q)
 
-    pub places-none : (d : ℕ) → Read Places → ok ≡ false → No 2 ≡ told (placesOutcome d row)
+    pub places-none : (d : ℕ) → Read Places → ok ≡ false → (q : ℕ) → q ≡ breakList Places row → No 2 q ≡ told (placesOutcome d row)
     unfolding placesOutcome
-    places-none d t e = rw (le-leb (length row) 8192 h, listing-no _ _ _ _ _ _ t e)
+    places-none d t e q k = rw (le-leb (length row) 8192 h, listing-no _ _ _ _ _ _ t e, k)
 
     places-some : (d : ℕ) (es : List Entry) → listOf Places row ≡ some es → u ≡ tabled es 0 emptyTable → (v : Bool) → (leb d 32 && eqb (u .n) d) ≡ v → told (needs 5 v (answer [])) ≡ told (placesOutcome d row)
     unfolding placesOutcome
@@ -295,10 +296,10 @@ module _ (row : List ℕ) where
           let (es, o, t, m) = listing-yes _ _ _ _ _ _ t e in
           places-some d es o t v q
 
-      pub places-over : 32 < d → No 5 ≡ told (placesOutcome d row)
+      pub places-over : 32 < d → No 5 0 ≡ told (placesOutcome d row)
       places-over g = places-answer false (rw (lt-leb d 32 g))
 
-      pub places-other : d ≤ 32 → (u .n ≡ d → ⊥) → No 5 ≡ told (placesOutcome d row)
+      pub places-other : d ≤ 32 → (u .n ≡ d → ⊥) → No 5 0 ≡ told (placesOutcome d row)
       places-other g o = places-answer false (rw (le-leb d 32 g, ne-eqb (u .n) d o))
 
       pub places-done : d ≤ 32 → u .n ≡ d → Done 0 ≡ told (placesOutcome d row)

@@ -1,6 +1,7 @@
 // The shape check: whether a row is exactly one form of the kind asked for, within the limits.
 use crate::reader::mark_expr;
 use crate::reader::mark_pred;
+use broken::position::broken_at;
 use form::answer::Answer;
 use form::answer::Kind;
 use form::answer::Limit;
@@ -12,7 +13,7 @@ ghost use Rattle.tree.specs.Form.{pick};
 ghost use Rattle.tree.specs.Tag.{expr, pred};
 ghost use Rattle.form.specs.Decode.{decode, formOf};
 ghost use Rattle.form.specs.Answer.{told, checkOutcome};
-ghost use Rattle.reader.specs.Internal.Reads.{Told, Marked, known, asExpr};
+ghost use Rattle.reader.specs.Internal.Reads.{Told, isFound, Marked, known, asExpr};
 
 fn is_known(shape: Shape) -> bool
     ensures { λ r. ⌜ r ≡ known shape ⌝ }
@@ -56,25 +57,47 @@ fn first_form(row: &[u32], is_expr: bool, marks: &mut [u32]) -> Step
     }
 }
 
-// The check, which also marks the names and indices of the form. The marks are a work row: what they hold after a refusal is free.
+// Whether the row is exactly one form of the kind, within the limits; its names and indices are then marked. Where it is none, the marks are
+// free: they are a work row.
+pub fn mark_form(row: &[u32], kind: Kind, marks: &mut [u32]) -> bool
+    ensures { λ r. ⌜ r ≡ isFound (formOf kind (now (row .entry))) ⌝ }
+    ensures { λ r. ⌜ Marked (formOf kind (now (row .entry))) (now (marks .entry)) (now (marks .exit)) ⌝ }
+{
+    if Limit::WORDS < row.len() {
+        return false;
+    }
+    let Step::End(p) = first_form(row, is_expr(row, kind), marks) else {
+        return false;
+    };
+    if p == row.len() {
+        return true;
+    }
+    false
+}
+
+// Whether the row is exactly one form of the kind, within the limits.
+pub fn is_form(row: &[u32], kind: Kind) -> bool
+    ensures { λ r. ⌜ r ≡ isFound (formOf kind (now (row .entry))) ⌝ }
+{
+    let mut marks = [0u32; 1];
+    mark_form(row, kind, &mut marks)
+}
+
+// The check, which also marks the names and indices of the form, and says where a row that is none breaks.
 pub fn mark(row: &[u32], kind: Kind, marks: &mut [u32]) -> Answer
     ensures { λ r. ⌜ r ≡ told (checkOutcome kind (now (row .entry))) ⌝ }
     ensures { λ r. ⌜ Marked (formOf kind (now (row .entry))) (now (marks .entry)) (now (marks .exit)) ⌝ }
 {
     if Limit::WORDS < row.len() {
-        return Answer::No(1);
+        return Answer::No(1, 0);
     }
-    let Step::End(p) = first_form(row, is_expr(row, kind), marks) else {
-        return Answer::No(2);
-    };
-    if p == row.len() {
-        Answer::Done(0)
-    } else {
-        Answer::No(2)
+    if mark_form(row, kind, marks) {
+        return Answer::Done(0);
     }
+    Answer::No(2, broken_at(row, kind))
 }
 
-// Whether the row is exactly one form of the kind, within the limits.
+// The check of a row that is to be one form of the kind.
 pub fn check(row: &[u32], kind: Kind) -> Answer
     ensures { λ r. ⌜ r ≡ told (checkOutcome kind (now (row .entry))) ⌝ }
 {

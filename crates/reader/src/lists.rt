@@ -1,5 +1,6 @@
 // The lists: names; name and expression in turn; for each declaration 0, or 1 and an expression.
 use crate::reader::mark_child;
+use broken::position::broken_list;
 use form::answer::Answer;
 use form::answer::Limit;
 use form::answer::ListKind;
@@ -132,10 +133,10 @@ pub fn check_names(row: &[u32]) -> Answer
     ensures { λ r. ⌜ r ≡ told (namesOutcome (now (row .entry))) ⌝ }
 {
     if Limit::WORDS < row.len() {
-        return Answer::No(1);
+        return Answer::No(1, 0);
     }
     if !good_names(row) {
-        return Answer::No(4);
+        return Answer::No(4, 0);
     }
     Answer::Done(0)
 }
@@ -165,7 +166,7 @@ pub fn check_pairs(row: &[u32]) -> Answer
     ensures { λ r. ⌜ r ≡ told (pairsOutcome (now (row .entry))) ⌝ }
 {
     if Limit::WORDS < row.len() {
-        return Answer::No(1);
+        return Answer::No(1, 0);
     }
     let mut marks = [0u32; 1];
     let mut words = [0u32; 32];
@@ -180,10 +181,10 @@ pub fn check_pairs(row: &[u32]) -> Answer
         &mut ends,
     );
     if !listed.ok {
-        return Answer::No(2);
+        return Answer::No(2, broken_list(row, ListKind::Pairs));
     }
     if !good_table(&words, listed.n) {
-        return Answer::No(4);
+        return Answer::No(4, 0);
     }
     Answer::Done(0)
 }
@@ -193,7 +194,7 @@ pub fn check_places(row: &[u32], n: u32) -> Answer
     ensures { λ r. ⌜ r ≡ told (placesOutcome n (now (row .entry))) ⌝ }
 {
     if Limit::WORDS < row.len() {
-        return Answer::No(1);
+        return Answer::No(1, 0);
     }
     let mut marks = [0u32; 1];
     let mut words = [0u32; 32];
@@ -208,13 +209,13 @@ pub fn check_places(row: &[u32], n: u32) -> Answer
         &mut ends,
     );
     if !listed.ok {
-        return Answer::No(2);
+        return Answer::No(2, broken_list(row, ListKind::Places));
     }
     if Limit::DECLARATIONS < n {
-        return Answer::No(5);
+        return Answer::No(5, 0);
     }
     if listed.n != n as usize {
-        return Answer::No(5);
+        return Answer::No(5, 0);
     }
     Answer::Done(0)
 }

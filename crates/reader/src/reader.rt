@@ -4,15 +4,16 @@ use form::answer::Limit;
 use form::head::Head;
 use form::head::Step;
 use form::head::expr_head;
+use form::head::is_leaf;
 use form::head::pred_head;
-use tree::tag::Tag;
 ghost use mathlib.Core.Path.{_≡_};
 ghost use Prim.Native.Nat.{_+_, _*_, _^_, _<_};
 ghost use lib.ListN.{drop, set, replicate};
 ghost use Rattle.tree.specs.Form.{pick};
 ghost use Rattle.tree.specs.Tag.{expr, pred, sorts};
 ghost use Rattle.form.specs.Decode.{decode, decodeAll};
-ghost use Rattle.reader.specs.Internal.Reads.{markTag, startsLeaf, Told, ToldAll, decodeIn};
+ghost use Rattle.form.specs.Internal.Heads.{startsLeaf};
+ghost use Rattle.reader.specs.Internal.Reads.{markTag, Told, ToldAll, decodeIn};
 ghost use Rattle.form.specs.declared.head.Step.the-variants.{End, Bad};
 
 // Stores a mark, where there is room.
@@ -36,28 +37,6 @@ fn mark_tag(marks: &mut [u32], at: usize, tag: u32, under: u32)
         return;
     }
     put_mark(marks, at, under + 1);
-}
-
-// Whether a name or an index stands at `at`, within the depth.
-pub fn is_leaf(row: &[u32], at: usize, depth: u32) -> bool
-    ensures { λ r. ⌜ r ≡ startsLeaf depth (drop at (now (row .entry))) ⌝ }
-{
-    if depth == 0 {
-        return false;
-    }
-    if row.len() <= at {
-        return false;
-    }
-    if row.len() <= at + 1 {
-        return false;
-    }
-    if row[at] == 0 {
-        return false;
-    }
-    if Tag::BOUND_IDENT < row[at] {
-        return false;
-    }
-    row[at + 1] <= Limit::NAME
 }
 
 // A name or an index at `at`, under so many open declarations; whatever else stands there is left to the reader of expressions.

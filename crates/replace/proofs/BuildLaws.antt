@@ -12,14 +12,14 @@ use lib.Seq.{take-at, take-all}
 use Rattle.tree.specs.Form.{Form, encode, pick}
 use Rattle.tree.specs.Tag.{Sort, expr, pred}
 use Rattle.form.specs.Decode.{Whole, one, not-one, rowForm, Found, found, missing, asSort, formOf}
-use Rattle.form.specs.Answer.{answer, refusal, told, written, isOne, finish, checkOutcome}
+use Rattle.form.specs.Answer.{answer, refusal, told, written, isOne, finish}
 use Rattle.form.specs.declared.answer.Kind.{Kind}
 use Rattle.form.specs.declared.answer.Kind.the-variants.{Expression, Predicate}
-use Rattle.form.specs.declared.answer.Answer.{Answer}
-use Rattle.form.specs.declared.answer.Answer.the-variants.{Done, No}
+use Rattle.form.specs.declared.answer.Answer.the-variants.{Done}
 use Rattle.form.proofs.DecodeLaws.{clash}
 use Rattle.shift.specs.Internal.Items.{items, store}
 use Rattle.form.proofs.RowLaws.{found-row}
+use Rattle.shift.proofs.CheckedLaws.{not-found}
 use Rattle.shift.proofs.ItemLaws.{stored, store-append}
 use Rattle.replace.specs.Internal.Pieces.{sizes, lengthRefusal, InRow, isFound, shortWords, emitted, replacedWords, replaced}
 use Rattle.replace.specs.declared.pieces.Plan.{Plan}
@@ -27,18 +27,6 @@ use Rattle.replace.proofs.LengthLaws.{not-refused, refused-many}
 use Rattle.replace.proofs.PieceLaws.{planned-length}
 
 module _ (kind : Kind) (ws : List ℕ) where
-  told-no : (o : Found) → formOf kind ws ≡ o → o ≡ missing → (j : ℕ) → told (checkOutcome kind ws) ≡ Done j → ⊥
-  unfolding checkOutcome
-  told-no o q e j d = go (leb (length ws) 8192) refl (rw (q, e) at d)
-    where
-      go : (b : Bool) → leb (length ws) 8192 ≡ b → told (pick b (refusal 2) (refusal 1)) ≡ Done j → ⊥
-      go true q d = clash cc
-      go false q d = clash cc
-
-  told-yes : (s : Sort) (f : Form) → formOf kind ws ≡ found s f → told (checkOutcome kind ws) ≡ Done 0
-  unfolding checkOutcome
-  told-yes s f q = rw (le-leb (length ws) 8192 (found-row ws s f kind q .0), q)
-
   long-missing : 8192 < length ws → formOf kind ws ≡ missing
   long-missing h = go (formOf kind ws) refl
     where
@@ -50,23 +38,15 @@ module _ (kind : Kind) (ws : List ℕ) where
   unfolding emitted
   missing-emitted room q = rw q
 
-  pub emit-no : (room j : ℕ) (r : Answer) → r ≡ told (checkOutcome kind ws) → r ≡ No j → emitted false kind ws room ≡ refusal 7
-  emit-no room j r e n = go (formOf kind ws) refl
-    where
-      go : (o : Found) → formOf kind ws ≡ o → emitted false kind ws room ≡ refusal 7
-      go (found s f) q = let y = told-yes s f q in absurd (clash cc)
-      go missing q = missing-emitted room q
-
   emit-long : (room : ℕ) → 8192 < length ws → emitted false kind ws room ≡ refusal 7
   emit-long room h = missing-emitted room (long-missing h)
 
-  module _ (j : ℕ) (r : Answer) (e : r ≡ told (checkOutcome kind ws)) (n : r ≡ Done j) where
-    pub is-found : isFound (formOf kind ws) ≡ true
-    is-found = go (formOf kind ws) refl
-      where
-        go : (o : Found) → formOf kind ws ≡ o → isFound o ≡ true
-        go (found s f) q = refl
-        go missing q = absurd (told-no missing q refl j (sym e ∙ n))
+  pub emit-no : (room : ℕ) (v : Bool) → v ≡ isFound (formOf kind ws) → v ≡ false → emitted false kind ws room ≡ refusal 7
+  emit-no room v e n = missing-emitted room (not-found (formOf kind ws) v e n)
+
+  module _ (v : Bool) (e : v ≡ isFound (formOf kind ws)) (n : v ≡ true) where
+    is-found : isFound (formOf kind ws) ≡ true
+    is-found = sym e ∙ n
 
     pub emit-room : (room : ℕ) → room < length ws → emitted false kind ws room ≡ refusal 14
     unfolding emitted

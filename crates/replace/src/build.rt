@@ -83,7 +83,7 @@ fn replace_counted(
         out.len(),
     );
     if no != 0 {
-        return Answer::No(no);
+        return Answer::No(no, 0);
     }
     Answer::Done(write_words(
         head,
@@ -216,7 +216,7 @@ fn replace_checked(
         Limit::WORDS,
     );
     if no != 0 {
-        return Answer::No(7);
+        return Answer::No(7, 0);
     }
     let mut work = [0u32; Limit::WORDS];
     let n = write_words(

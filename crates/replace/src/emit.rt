@@ -27,11 +27,11 @@ pub(crate) fn emit(kind: Kind, words: &[u32], out: &mut [u32]) -> Answer
     ensures { λ r. ⌜ r ≡ told (emitted false kind (now (words .entry)) (length (now (out .entry)))) ⌝ }
     ensures { λ _. ⌜ now (out .exit) ≡ written (emitted false kind (now (words .entry)) (length (now (out .entry)))) (now (out .entry)) ⌝ }
 {
-    let Answer::Done(n) = reader::check::check(words, kind) else {
-        return Answer::No(7);
-    };
+    if !reader::check::is_form(words, kind) {
+        return Answer::No(7, 0);
+    }
     if out.len() < words.len() {
-        return Answer::No(14);
+        return Answer::No(14, 0);
     }
     copy(words, out, 0);
     Answer::Done(words.len())
@@ -43,10 +43,10 @@ pub(crate) fn emit_short(words: &[u32], out: &mut [u32]) -> Answer
     ensures { λ _. ⌜ now (out .exit) ≡ written (shortWords (now (words .entry)) (length (now (out .entry)))) (now (out .entry)) ⌝ }
 {
     if Limit::WORDS < words.len() {
-        return Answer::No(7);
+        return Answer::No(7, 0);
     }
     if out.len() < words.len() {
-        return Answer::No(14);
+        return Answer::No(14, 0);
     }
     copy(words, out, 0);
     Answer::Done(words.len())

@@ -109,7 +109,7 @@ pub fn instantiate_partial(
 {
     let from = inner_end(tag, front, stay, row);
     if !has_room(front.len(), stay.len(), from, row.len()) {
-        return Answer::No(7);
+        return Answer::No(7, 0);
     }
     let mut head = [0u32; 98];
     let h = write_head(tag, front, stay, &row[inner_start(from)..from], &mut head);

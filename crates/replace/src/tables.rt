@@ -84,7 +84,7 @@ pub fn fill_places(
     ensures { λ _. ⌜ now (out .exit) ≡ written (placedRow sure (now (head .entry)) (tableOf n (now (words .entry)) (now (starts .entry)) (now (ends .entry))) down (now (list .entry)) (now («list_marks» .entry)) (drop from (now (row .entry))) (drop from (now (marks .entry))) (length (now (out .entry)))) (now (out .entry)) ⌝ }
 {
     if !is_ready(n, starts, ends, list, list_marks) {
-        return Answer::No(7);
+        return Answer::No(7, 0);
     }
     let rule = Rule {
         n: n,
@@ -129,7 +129,7 @@ pub fn free_names(
     ensures { λ _. ⌜ now (out .exit) ≡ written (freedRow sure kind (tableOf n (now (words .entry)) (now (starts .entry)) (now (ends .entry))) (now (list .entry)) (now («list_marks» .entry)) (now (row .entry)) (now (marks .entry)) (length (now (out .entry)))) (now (out .entry)) ⌝ }
 {
     if !is_ready(n, starts, ends, list, list_marks) {
-        return Answer::No(7);
+        return Answer::No(7, 0);
     }
     let rule = Rule {
         n: n,

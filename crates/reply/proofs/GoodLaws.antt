@@ -1,7 +1,7 @@
 -- Every answer to a line is the row of one form, so a line is always answered where there is room for 106,496 bytes. Assumes nothing.
 use mathlib.Core.Path.{_≡_, refl}
 use mathlib.Core.Bool.{Bool, true, false, not}
-use mathlib.Core.List.{List, [], _∷_, map}
+use mathlib.Core.List.{List, [], _∷_, _++_, map}
 use mathlib.Core.Option.{Option, none as absent, some}
 use Prim.Native.Nat.{ℕ, _≤_}
 use native.Mathlib.Omega.{arith}
@@ -9,11 +9,12 @@ use borrow.Author.Tests.{le-leb}
 use lib.Dec.{leb, eqb}
 use lib.IntN.{ℤ}
 use lib.ListN.{length, length-append}
-use Rattle.tree.specs.Form.{Form, encode}
+use Rattle.tree.specs.Form.{Form, pick, encode}
 use Rattle.tree.specs.Tag.{Sort, expr, pred}
 use Rattle.form.specs.Decode.{Whole, one, not-one, rowForm, Found, found, missing, formOf}
+use Rattle.form.specs.Break.{breakAt, breakList}
 use Rattle.form.specs.Lists.{Entry, wordOf, placeOf, listOf, goodNames}
-use Rattle.form.specs.Answer.{Outcome, answer, refusal, withForm, ofFound, withList, ofList, needs, isOne, finish}
+use Rattle.form.specs.Answer.{Outcome, answer, stop, withForm, ofFound, withList, ofList, needs, isOne, finish}
 use Rattle.form.specs.declared.answer.Kind.{Kind}
 use Rattle.form.specs.declared.answer.Kind.the-variants.{Predicate, Either}
 use Rattle.form.specs.declared.answer.ListKind.{ListKind}
@@ -26,7 +27,7 @@ use Rattle.rules.specs.Fill.{Quantified, quantifier, other, quantified, ofQuant
 use Rattle.rules.specs.Prune.{usedPlaces, prune, pruneOutcome}
 use Rattle.rules.specs.Point.{onePoint, ofResult, pointOutcome}
 use Rattle.rules.specs.Member.{membership, memberOutcome}
-use Rattle.spell.specs.Spell.{digits, decimal, spell, spellNo, printOutcome, printNo}
+use Rattle.spell.specs.Spell.{digits, decimal, spell, ending, spellNo, printOutcome, printNo}
 use Rattle.line.specs.Line.{Formed, formed, readLine}
 use Rattle.spell.proofs.PrintLaws.{spell-few}
 use Rattle.spell.proofs.WriteLaws.{digits-few}
@@ -39,7 +40,7 @@ use Rattle.reply.proofs.LateLaws.{Gate, passes, refuses, form-tests, li
 -- an answer is the row of one form
 abbrev pub Good : Outcome → Type 0
 Good (answer ws) = (s : Sort) × (f : Form) × (rowForm s ws ≡ one f)
-Good (refusal k) = Unit {0}
+Good (stop k p) = Unit {0}
 
 good-needs : (k : ℕ) (b : Bool) (o : Outcome) → Good o → Good (needs k b o)
 good-needs k true o h = h
@@ -48,14 +49,14 @@ good-needs k false o h = tt
 good-form : (kind : Kind) (row : List ℕ) (go : Sort → Form → Outcome) → ((s : Sort) (f : Form) → Good (go s f)) → Good (withForm kind row go)
 good-form kind row go h = good-needs 1 (leb (length row) 8192) _ (by-case (formOf kind row))
   where
-    by-case : (x : Found) → Good (ofFound go x)
+    by-case : (x : Found) → Good (ofFound (breakAt kind row) go x)
     by-case (found s f) = h s f
     by-case missing = tt
 
 good-list : (kind : ListKind) (row : List ℕ) (go : List Entry → Outcome) → ((es : List Entry) → Good (go es)) → Good (withList kind row go)
 good-list kind row go h = good-needs 1 (leb (length row) 8192) _ (by-case (listOf kind row))
   where
-    by-case : (x : Option (List Entry)) → Good (ofList go x)
+    by-case : (x : Option (List Entry)) → Good (ofList (breakList kind row) go x)
     by-case (some es) = h es
     by-case absent = tt
 
@@ -116,7 +117,7 @@ good-member row work room = good-needs 15 (leb 16384 work) _ (good-form Predicat
 
 good-gate : (g : Outcome → Outcome) → Gate g → (o : Outcome) → Good o → Good (g o)
 good-gate g (passes h) o k = rw (h o) k
-good-gate g (refuses n h) o k = rw (h o) tt
+good-gate g (refuses n p h) o k = rw (h o) tt
 
 good-command : (h : Head) (z : ℤ) (listText list text row : List ℕ) (work room : ℕ) → Good (commandOutcome h z listText list text row work room)
 good-command Shift z listText list text row work room = good-gate _ (form-tests Either text row .gate) _ (good-shift row z room)
@@ -145,12 +146,20 @@ either-found row pred f e = by-case (rowForm expr row) refl
     by-case (one g) h = (expr, g, rw h)
     by-case not-one h = (pred, f, rw (h, e))
 
-no-few : (k : ℕ) → length (spellNo k) ≤ 15
+ending-few : (k p : ℕ) → length (ending k p) ≤ 12
+unfolding ending decimal
+ending-few k p = by-case (eqb k 2)
+  where
+    by-case : (b : Bool) → length (pick b (32 ∷ (digits 10 p ++ (93 ∷ []))) (93 ∷ [])) ≤ 12
+    by-case true = let h = digits-few 10 p in rw (length-append (digits 10 p) (93 ∷ [])) (omega arith)
+    by-case false = omega arith
+
+no-few : (k p : ℕ) → length (spellNo k p) ≤ 26
 unfolding spellNo decimal
-no-few k = let h = digits-few 10 k in rw (length-append (digits 10 k) (93 ∷ [])) (omega arith)
+no-few k p = let h = digits-few 10 k in let e = ending-few k p in rw (length-append (digits 10 k) (ending k p)) (omega arith)
 
 -- what holds of every spelling holds of the answer
-module _ (P : List ℕ → Type 0) (forms : (f : Form) → P (spell f)) (refusals : (k : ℕ) → P (spellNo k)) where
+module _ (P : List ℕ → Type 0) (forms : (f : Form) → P (spell f)) (refusals : (k p : ℕ) → P (spellNo k p)) where
   good-printed : (o : Outcome) (bytes : ℕ) → Good o → 106496 ≤ bytes → (bs : List ℕ) × (printed bytes o ≡ answer bs) × P bs
   unfolding printOutcome printNo
   good-printed (answer ws) bytes (s, f, e) h =
@@ -159,7 +168,7 @@ module _ (P : List ℕ → Type 0) (forms : (f : Form) → P (spell f)) (refusal
       let n : length (encode g) ≤ 8192 = rw (← is) short in
       let m = spell-few g in
       (spell g, rw (le-leb (length ws) 8192 short, k, le-leb (length (spell g)) bytes (omega arith)), forms g)
-  good-printed (refusal k) bytes g h = let m = no-few k in (spellNo k, rw (le-leb (length (spellNo k)) bytes (omega arith)), refusals k)
+  good-printed (stop k p) bytes g h = let m = no-few k p in (spellNo k p, rw (le-leb (length (spellNo k p)) bytes (omega arith)), refusals k p)
 
   pub reply-answers : (line : List ℕ) (list form work room bytes : ℕ) → 106496 ≤ bytes → (bs : List ℕ) × (replyOutcome line list form work room bytes ≡ answer bs) × P bs
   unfolding replyOutcome

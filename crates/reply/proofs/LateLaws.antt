@@ -13,8 +13,9 @@ use lib.ListN.{length, take}
 use Rattle.tree.specs.Form.{Form, pick}
 use Rattle.tree.specs.Tag.{Sort}
 use Rattle.form.specs.Decode.{Found, found, missing, formOf}
+use Rattle.form.specs.Break.{breakAt, breakList}
 use Rattle.form.specs.Lists.{Entry, listOf}
-use Rattle.form.specs.Answer.{Outcome, answer, refusal, told, written, within, ofFound, ofList, withForm, needs, checkOutcome}
+use Rattle.form.specs.Answer.{Outcome, answer, stop, refusal, told, written, within, ofFound, ofList, withForm, needs, checkOutcome}
 use Rattle.reader.specs.Internal.Reads.{asExpr, Listing}
 use Rattle.form.specs.declared.answer.Kind.{Kind}
 use Rattle.form.specs.declared.answer.Kind.the-variants.{Either}
@@ -37,22 +38,22 @@ use Rattle.line.specs.declared.line.Parts.{Parts}
 use Rattle.reply.specs.Reply.{textOf, spelledForm, spelledList, spelledNames}
 use Rattle.reply.specs.Internal.Parts.{Held, HeldBoth, formWords, kindOf, listTest, partsTest, runOutcome}
 
--- a test before a command: it passes every outcome on, or refuses them all by one number
+-- a test before a command: it passes every outcome on, or refuses them all by one number and position
 pub data Gate (g : Outcome → Outcome) : Type 0 where
   passes : ((o : Outcome) → g o ≡ o) → Gate g
-  refuses : (n : ℕ) → ((o : Outcome) → g o ≡ refusal n) → Gate g
+  refuses : (n p : ℕ) → ((o : Outcome) → g o ≡ stop n p) → Gate g
 
 gate-pick : (b : Bool) (n : ℕ) (g : Outcome → Outcome) → Gate g → Gate (λ o. pick b (g o) (refusal n))
 gate-pick true n g h = h
-gate-pick false n g h = refuses n (λ o. refl)
+gate-pick false n g h = refuses n 0 (λ o. refl)
 
-gate-found : (x : Found) (g : Outcome → Outcome) → Gate g → Gate (λ o. ofFound (λ s f. g o) x)
-gate-found (found s f) g h = h
-gate-found missing g h = refuses 2 (λ o. refl)
+gate-found : (p : ℕ) (x : Found) (g : Outcome → Outcome) → Gate g → Gate (λ o. ofFound p (λ s f. g o) x)
+gate-found p (found s f) g h = h
+gate-found p missing g h = refuses 2 p (λ o. refl)
 
-gate-list : (x : Option (List Entry)) (g : Outcome → Outcome) → Gate g → Gate (λ o. ofList (λ es. g o) x)
-gate-list (some es) g h = h
-gate-list absent g h = refuses 2 (λ o. refl)
+gate-list : (p : ℕ) (x : Option (List Entry)) (g : Outcome → Outcome) → Gate g → Gate (λ o. ofList p (λ es. g o) x)
+gate-list p (some es) g h = h
+gate-list p absent g h = refuses 2 p (λ o. refl)
 
 gate-8 : (b : Bool) → Gate (needs 8 b)
 gate-8 b = gate-pick b 8 (λ o. o) (passes (λ o. refl))
@@ -66,15 +67,15 @@ within-tests : (row : List ℕ) (g : Outcome → Outcome) → Gate g → Tests r
 within-tests row g h = record { gate = gate-pick (leb (length row) 8192) 1 g h; long = λ l o. rw (lt-leb (length row) 8192 l) }
 
 pub check-tests : (kind : Kind) (row : List ℕ) → Tests row (λ o. withForm kind row (λ s f. o))
-check-tests kind row = within-tests row _ (gate-found (formOf kind row) (λ o. o) (passes (λ o. refl)))
+check-tests kind row = within-tests row _ (gate-found (breakAt kind row) (formOf kind row) (λ o. o) (passes (λ o. refl)))
 
 pub form-tests : (kind : Kind) (text row : List ℕ) → Tests row (spelledForm kind text row)
 unfolding spelledForm
-form-tests kind text row = within-tests row _ (gate-found (formOf kind row) _ (gate-8 (fitsForm text row)))
+form-tests kind text row = within-tests row _ (gate-found (breakAt kind row) (formOf kind row) _ (gate-8 (fitsForm text row)))
 
 pub list-tests : (kind : ListKind) (text row : List ℕ) → Tests row (spelledList kind text row)
 unfolding spelledList
-list-tests kind text row = within-tests row _ (gate-list (listOf kind row) _ (gate-8 (fitsList kind text row)))
+list-tests kind text row = within-tests row _ (gate-list (breakList kind row) (listOf kind row) _ (gate-8 (fitsList kind text row)))
 
 pub names-tests : (text row : List ℕ) → Tests row (spelledNames text row)
 unfolding spelledNames
@@ -82,20 +83,20 @@ names-tests text row = within-tests row _ (gate-8 (fitsNames text row))
 
 -- what a test answers for the empty answer it answers for all
 module _ (g : Outcome → Outcome) (r : Answer) (n : ℕ) (e : r ≡ told (g (answer []))) where
-  pub gate-refused : Gate g → r ≡ No n → (o : Outcome) → g o ≡ refusal n
+  pub gate-refused : {p : ℕ} → Gate g → r ≡ No n p → (o : Outcome) → g o ≡ stop n p
   gate-refused (passes h) q o = let z = rw (h (answer [])) at e in absurd (clash cc)
-  gate-refused (refuses m h) q o = let z = rw (h (answer [])) at e in h o ∙ ap refusal (let y : m ≡ n = cc in y)
+  gate-refused {p} (refuses m k h) q o = let z = rw (h (answer [])) at e in let x : m ≡ n = cc in let y : k ≡ p = cc in h o ∙ rw (x, y)
 
   pub gate-done : Gate g → r ≡ Done n → (o : Outcome) → g o ≡ o
   gate-done (passes h) q o = h o
-  gate-done (refuses m h) q o = let z = rw (h (answer [])) at e in absurd (clash cc)
+  gate-done (refuses m k h) q o = let z = rw (h (answer [])) at e in absurd (clash cc)
 
-pub told-long : (row : List ℕ) (g : Outcome → Outcome) → Tests row g → 8192 < length row → (o : Outcome) → No 1 ≡ told (g o)
+pub told-long : (row : List ℕ) (g : Outcome → Outcome) → Tests row g → 8192 < length row → (o : Outcome) → No 1 0 ≡ told (g o)
 told-long row g t l o = ap told (sym (t .long l o))
 
 -- a form's check, then its 8
 module _ (kind : Kind) (row : List ℕ) (b : Bool) (r : Answer) (n : ℕ) (e : r ≡ told (checkOutcome kind row)) where
-  pub late-refused : r ≡ No n → r ≡ told (withForm kind row (λ s f. needs 8 b (answer [])))
+  pub late-refused : {p : ℕ} → r ≡ No n p → r ≡ told (withForm kind row (λ s f. needs 8 b (answer [])))
   unfolding checkOutcome
   late-refused q = q ∙ sym (ap told (gate-refused _ r n e (check-tests kind row .gate) q (needs 8 b (answer []))))
 
@@ -132,9 +133,9 @@ module _ (kind : Kind) (text row : List ℕ) where
 
 -- a list's
 module _ (kind : ListKind) (text row : List ℕ) (short : length row ≤ 8192) (u v : Table) (a b : List ℕ) (ok : Bool) (t : Listing (listOf kind row) u v a b ok) where
-  pub list-none : ok ≡ false → No 2 ≡ told (spelledList kind text row (answer []))
+  pub list-none : ok ≡ false → (q : ℕ) → q ≡ breakList kind row → No 2 q ≡ told (spelledList kind text row (answer []))
   unfolding spelledList
-  list-none e = rw (le-leb (length row) 8192 short, listing-no _ _ _ _ _ _ t e)
+  list-none e q k = rw (le-leb (length row) 8192 short, listing-no _ _ _ _ _ _ t e, k)
 
   pub list-told : ok ≡ true → (c : Bool) → c ≡ fitsList kind text row → told (needs 8 c (answer [])) ≡ told (spelledList kind text row (answer []))
   unfolding spelledList
@@ -163,7 +164,7 @@ row-holds line row ws p h n l = let c = h .room in omega arith
 abbrev pub Said : Answer → Outcome → List ℕ → List ℕ → Type 0
 Said r o result result′ = (r ≡ told o) × (result′ ≡ written o result)
 
-pub said-no : (o : Outcome) (n : ℕ) (result : List ℕ) → o ≡ refusal n → Said (No n) o result result
+pub said-no : (o : Outcome) (n : ℕ) {p : ℕ} (result : List ℕ) → o ≡ stop n p → Said (No n p) o result result
 said-no o n result e = rw e (refl, refl)
 
 pub said-same : (o p : Outcome) (r : Answer) (result result′ : List ℕ) → o ≡ p → Said r o result result′ → Said r p result result′
@@ -175,11 +176,11 @@ run-said h x e z list row work room r result result′ s = rw e s
 
 -- one test after another
 after-gate : (f g : Outcome → Outcome) → Gate f → Gate g → Gate (λ o. f (g o))
-after-gate f g (refuses m h) k = refuses m (λ o. h (g o))
+after-gate f g (refuses m p h) k = refuses m p (λ o. h (g o))
 after-gate f g (passes h) (passes k) = passes (λ o. h (g o) ∙ k o)
-after-gate f g (passes h) (refuses m k) = refuses m (λ o. h (g o) ∙ k o)
+after-gate f g (passes h) (refuses m p k) = refuses m p (λ o. h (g o) ∙ k o)
 
-pub test-no : (row : List ℕ) (g : Outcome → Outcome) → Tests row g → (r : Answer) → r ≡ told (g (answer [])) → (n : ℕ) → r ≡ No n → (o : Outcome) → r ≡ told (g o)
+pub test-no : (row : List ℕ) (g : Outcome → Outcome) → Tests row g → (r : Answer) → r ≡ told (g (answer [])) → (n : ℕ) {p : ℕ} → r ≡ No n p → (o : Outcome) → r ≡ told (g o)
 test-no row g t r e n q o = q ∙ sym (ap told (gate-refused g r n e (t .gate) q o))
 
 pub test-yes : (row : List ℕ) (g : Outcome → Outcome) → Tests row g → (r : Answer) → r ≡ told (g (answer [])) → (n : ℕ) → r ≡ Done n → (o : Outcome) (r′ : Answer) → r′ ≡ told o → r′ ≡ told (g o)
@@ -216,7 +217,7 @@ module _ (line : List ℕ) (p : Parts) (r : Answer) (n : ℕ) (e : r ≡ told (p
       let t = form-tests (kindOf (p .head)) (textOf line (p .form)) (formWords line) in
       record { gate = after-gate _ _ (t .gate) (list-gate (p .head) (textOf line (p .list)) (listRow line)); long = λ l o. t .long l _ }
 
-  pub parts-refused : r ≡ No n → (o : Outcome) (result : List ℕ) → Said r (partsTest line p o) result result
+  pub parts-refused : {d : ℕ} → r ≡ No n d → (o : Outcome) (result : List ℕ) → Said r (partsTest line p o) result result
   parts-refused q o result = rw q (said-no _ n result (gate-refused _ r n e (parts-tests .gate) q o))
 
   module _ (q : r ≡ Done n) where
@@ -226,7 +227,7 @@ module _ (line : List ℕ) (p : Parts) (r : Answer) (n : ℕ) (e : r ≡ told (p
       where
         go : Gate (spelledForm (kindOf (p .head)) (textOf line (p .form)) (formWords line)) → r ≡ told (listTest (p .head) (textOf line (p .list)) (listRow line) (answer []))
         go (passes h) = e ∙ ap told (h _)
-        go (refuses m h) = let z = rw h at e in absurd (clash cc)
+        go (refuses m k h) = let z = rw h at e in absurd (clash cc)
 
     module _ (z : ℤ) (list row : List ℕ) (held : HeldBoth line list row (p .list) (p .form)) (work room a b : ℕ) (la : p .list .count ≤ 8192 → a ≡ p .list .count) (lb : p .form .count ≤ 8192 → b ≡ p .form .count) where
       form-part : take b row ≡ formWords line

@@ -9,7 +9,7 @@ use lib.Dec.{leb}
 use lib.IntN.{ℤ}
 use lib.ListN.{length, take, drop, length-append}
 use lib.Seq.{take-append-seam}
-use Rattle.form.specs.Answer.{Outcome, answer, refusal, told, written}
+use Rattle.form.specs.Answer.{Outcome, answer, stop, refusal, told, written}
 use Rattle.form.specs.declared.answer.Answer.{Answer}
 use Rattle.form.specs.declared.answer.Answer.the-variants.{Done, No}
 use Rattle.form.proofs.DecodeLaws.{clash}
@@ -67,7 +67,7 @@ command-is Point z listText list text row work room = refl
 command-is Member z listText list text row work room = refl
 
 module _ (line : List ℕ) (list form work room : ℕ) where
-  pub not-enough : enoughRows list form work ≡ false → (result : List ℕ) → Said (No 15) (lineOutcome line list form work room) result result
+  pub not-enough : enoughRows list form work ≡ false → (result : List ℕ) → Said (No 15 0) (lineOutcome line list form work room) result result
   unfolding lineOutcome
   not-enough e result = said-no (lineOutcome line list form work room) 15 result (rw e)
 
@@ -82,7 +82,7 @@ module _ (line : List ℕ) (list form work room : ℕ) where
     bad-by (formed Misspelled ws) e = refl
 
     module _ (l : Line) (e : l ≡ lineOf (readLine line)) where
-      pub misspelled : l ≡ Misspelled → (result : List ℕ) → Said (No 8) (lineOutcome line list form work room) result result
+      pub misspelled : l ≡ Misspelled → (result : List ℕ) → Said (No 8 0) (lineOutcome line list form work room) result result
       misspelled q result = said-no _ 8 result (is-line ∙ bad-by (readLine line) (sym q ∙ e))
 
       module _ (p : Parts) (q : l ≡ Command p) where
@@ -119,7 +119,7 @@ module _ (o : Outcome) (r : Answer) (before result : List ℕ) (s : Said r o bef
     where
       go : (o : Outcome) → r ≡ told o → result ≡ written o before → n ≤ length result
       go (answer ws) e f = let z : length ws ≡ n = cc in rw f (omega (arith, length-append ws (drop (length ws) before), z))
-      go (refusal k) e f = absurd (clash cc)
+      go (stop k p) e f = absurd (clash cc)
 
   pub too-short : (n : ℕ) → r ≡ Done n → length result < n → {A : Type 0} → A
   too-short n q h = let l = room-there n q in absurd (omega arith)
@@ -129,11 +129,11 @@ module _ (o : Outcome) (r : Answer) (before result : List ℕ) (s : Said r o bef
     where
       go : (o : Outcome) → r ≡ told o → result ≡ written o before → printed bytes (answer (take n result)) ≡ printed bytes o
       go (answer ws) e f = let z : length ws ≡ n = cc in rw (← z, f, take-append-seam ws (drop (length ws) before))
-      go (refusal k) e f = absurd (clash cc)
+      go (stop k p) e f = absurd (clash cc)
 
-  pub no-there : (k bytes : ℕ) → r ≡ No k → printed bytes (refusal k) ≡ printed bytes o
-  no-there k bytes q = go o (s .0)
+  pub no-there : (k p bytes : ℕ) → r ≡ No k p → printed bytes (stop k p) ≡ printed bytes o
+  no-there k p bytes q = go o (s .0)
     where
-      go : (o : Outcome) → r ≡ told o → printed bytes (refusal k) ≡ printed bytes o
+      go : (o : Outcome) → r ≡ told o → printed bytes (stop k p) ≡ printed bytes o
       go (answer ws) e = absurd (clash cc)
-      go (refusal j) e = let z : j ≡ k = cc in rw z
+      go (stop j m) e = let z : j ≡ k = cc in let y : m ≡ p = cc in rw (z, y)

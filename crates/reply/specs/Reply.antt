@@ -6,7 +6,7 @@ use Prim.Native.Nat.{ℕ, _-_}
 use lib.Dec.{leb}
 use lib.IntN.{ℤ}
 use lib.ListN.{take, drop}
-use Rattle.form.specs.Answer.{Outcome, answer, refusal, within, withForm, withList, needs}
+use Rattle.form.specs.Answer.{Outcome, answer, stop, refusal, within, withForm, withList, needs}
 use Rattle.form.specs.declared.answer.Kind.{Kind}
 use Rattle.form.specs.declared.answer.Kind.the-variants.{Predicate, Either}
 use Rattle.form.specs.declared.answer.ListKind.{ListKind}
@@ -64,7 +64,7 @@ lineOutcome line list form work room = needs 15 (enoughRows list form work) (ofL
 -- the bytes of the answer, in a buffer of so many
 abbrev pub printed : ℕ → Outcome → Outcome
 printed bytes (answer ws) = printOutcome ws bytes
-printed bytes (refusal k) = printNo k bytes
+printed bytes (stop k p) = printNo k p bytes
 
 unfoldable pub replyOutcome : List ℕ → ℕ → ℕ → ℕ → ℕ → ℕ → Outcome
 replyOutcome line list form work room bytes = printed bytes (lineOutcome line list form work room)

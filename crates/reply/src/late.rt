@@ -1,4 +1,5 @@
 // A row's 1 and 2, and then the 8 of brackets that balance but do not hold one node, pair or place each.
+use broken::position::broken_list;
 use form::answer::Answer;
 use form::answer::Kind;
 use form::answer::Limit;
@@ -22,7 +23,7 @@ fn check_row(row: &[u32], kind: Kind, fits: bool) -> Answer
         return checked;
     };
     if !fits {
-        return Answer::No(8);
+        return Answer::No(8, 0);
     }
     Answer::Done(0)
 }
@@ -47,7 +48,7 @@ pub fn check_list_text(text: &[u8], row: &[u32], kind: ListKind) -> Answer
     ensures { λ r. ⌜ r ≡ told (spelledList kind (now (text .entry)) (now (row .entry)) (answer [])) ⌝ }
 {
     if Limit::WORDS < row.len() {
-        return Answer::No(1);
+        return Answer::No(1, 0);
     }
     let mut marks = [0u32; 1];
     let mut words = [0u32; 32];
@@ -55,10 +56,10 @@ pub fn check_list_text(text: &[u8], row: &[u32], kind: ListKind) -> Answer
     let mut ends = [0usize; 32];
     let listed = mark_list(row, kind, &mut marks, &mut words, &mut starts, &mut ends);
     if !listed.ok {
-        return Answer::No(2);
+        return Answer::No(2, broken_list(row, kind));
     }
     if !spell::fits::fits_list(text, row, kind) {
-        return Answer::No(8);
+        return Answer::No(8, 0);
     }
     Answer::Done(0)
 }
@@ -68,10 +69,10 @@ pub fn check_names_text(text: &[u8], row: &[u32]) -> Answer
     ensures { λ r. ⌜ r ≡ told (spelledNames (now (text .entry)) (now (row .entry)) (answer [])) ⌝ }
 {
     if Limit::WORDS < row.len() {
-        return Answer::No(1);
+        return Answer::No(1, 0);
     }
     if !spell::fits::fits_names(text, row) {
-        return Answer::No(8);
+        return Answer::No(8, 0);
     }
     Answer::Done(0)
 }
@@ -85,7 +86,7 @@ pub(crate) fn check_form_part(line: &[u8], row: &[u32], part: Part, kind: Kind) 
     let end = part.end;
     let count = part.count;
     if Limit::WORDS < count {
-        return Answer::No(1);
+        return Answer::No(1, 0);
     }
     check_text(&line[start..end], &row[..count], kind)
 }
@@ -99,7 +100,7 @@ pub(crate) fn check_list_part(line: &[u8], row: &[u32], part: Part, kind: ListKi
     let end = part.end;
     let count = part.count;
     if Limit::WORDS < count {
-        return Answer::No(1);
+        return Answer::No(1, 0);
     }
     check_list_text(&line[start..end], &row[..count], kind)
 }
@@ -113,7 +114,7 @@ pub(crate) fn check_names_part(line: &[u8], row: &[u32], part: Part) -> Answer
     let end = part.end;
     let count = part.count;
     if Limit::WORDS < count {
-        return Answer::No(1);
+        return Answer::No(1, 0);
     }
     check_names_text(&line[start..end], &row[..count])
 }

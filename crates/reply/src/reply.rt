@@ -37,10 +37,10 @@ pub fn answer_line(
     ensures { λ _. ⌜ now (result .exit) ≡ written (lineOutcome (now (line .entry)) (length (now (list .entry))) (length (now (form .entry))) (length (now (work .entry))) (length (now (result .entry)))) (now (result .entry)) ⌝ }
 {
     if !are_enough(list.len(), form.len(), work.len()) {
-        return Answer::No(15);
+        return Answer::No(15, 0);
     }
     let Line::Command(parts) = line::line::read_line(line, list, form) else {
-        return Answer::No(8);
+        return Answer::No(8, 0);
     };
     let checked = check_parts(line, list, form, parts);
     let Answer::Done(k) = checked else {
@@ -67,10 +67,10 @@ pub fn reply(
     match answer_line(line, list, form, work, result) {
         Answer::Done(n) => {
             if result.len() < n {
-                return Answer::No(14);
+                return Answer::No(14, 0);
             }
             print_form(&result[..n], bytes)
         }
-        Answer::No(k) => print_no(k, bytes),
+        Answer::No(k, p) => print_no(k, p, bytes),
     }
 }

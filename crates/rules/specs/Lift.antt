@@ -6,7 +6,7 @@ use lib.Dec.{leb, eqb}
 use lib.ListN.{length, drop}
 use Rattle.tree.specs.Form.{pick}
 use Rattle.form.specs.Decode.{Found, found, missing, formOf}
-use Rattle.form.specs.Answer.{Outcome, answer, refusal, finish}
+use Rattle.form.specs.Answer.{Outcome, answer, stop, finish}
 use Rattle.form.specs.declared.answer.Kind.the-variants.{Either}
 use Rattle.rules.specs.Walk.{lift}
 use Rattle.rules.specs.Dangling.{closed}
@@ -18,7 +18,7 @@ pub data Part : Type 0 where
   empty : Part
 
 abbrev pub ofCopy : Outcome → Part
-ofCopy = elim [ answer ws ↦ copy ws | refusal n ↦ empty ]
+ofCopy = elim [ answer ws ↦ copy ws | stop n p ↦ empty ]
 
 abbrev pub liftFound : ℕ → ℕ → Found → Part
 liftFound depth room (found s f) = pick (eqb depth 0 || closed f) base (ofCopy (finish s room (lift depth f)))

@@ -11,10 +11,11 @@ use lib.IntN.{ℤ, pos, negsuc}
 use lib.ListN.{length, replicate}
 use Rattle.tree.specs.Form.{Leaf, free, bound, Form, leaf, pick, between, encode}
 use Rattle.tree.specs.Tag.{Sort}
-use Rattle.form.specs.Decode.{missing, formOf}
-use Rattle.form.specs.Answer.{answer, refusal, finish}
+use Rattle.form.specs.Answer.{answer, stop, refusal, told, finish, checkOutcome}
 use Rattle.reader.specs.Internal.Reads.{mark}
 use Rattle.form.specs.declared.answer.Kind.the-variants.{Either}
+use Rattle.form.specs.declared.answer.Answer.{Answer}
+use Rattle.form.specs.declared.answer.Answer.the-variants.{No}
 use Rattle.form.proofs.DecodeLaws.{clash, Ok}
 use Rattle.form.proofs.HeadLaws.{between-in}
 use Rattle.rules.specs.Walk.{Binding, inside, outside, binding, Outer, named, dangling, walkIndex, walkLeaf, walk, up, lift, put, collectIndex, collectLeaf, each}
@@ -24,7 +25,7 @@ use Rattle.shift.specs.declared.items.Item.{Item}
 use Rattle.shift.specs.declared.items.Item.the-variants.{Plain, Ident}
 use Rattle.rules.proofs.WalkLaws.{binding-inside, binding-back, each-agree, each-all, walk-agree}
 use Rattle.rules.proofs.LimitLaws.{small, ok-small, fine, walk-length, inside-limits}
-use Rattle.shift.proofs.CheckedLaws.{Checked, too-long, no-form-there}
+use Rattle.shift.proofs.CheckedLaws.{Checked, too-long, check-refuses}
 use Rattle.shift.proofs.RowLaws.{identOf, mark-length, marked-items, walk-items, each-items}
 use Rattle.shift.proofs.WordwiseLaws.{wordwise-items, marks-apart}
 
@@ -242,9 +243,9 @@ module _ (row : List ℕ) (z : ℤ) (room : ℕ) where
   unfolding shiftOutcome
   shift-long h = too-long Either row (λ s f. ofShifted s room (shift z f)) h
 
-  pub shift-missing : length row ≤ 8192 → formOf Either row ≡ missing → shiftOutcome row z room ≡ refusal 2
+  pub shift-refused : (r : Answer) (k p : ℕ) → r ≡ told (checkOutcome Either row) → r ≡ No k p → shiftOutcome row z room ≡ stop k p
   unfolding shiftOutcome
-  shift-missing h e = no-form-there Either row (λ s f. ofShifted s room (shift z f)) h e
+  shift-refused r k p q e = check-refuses Either row (λ s f. ofShifted s room (shift z f)) r k p q e
 
   pub shift-row : (m : List ℕ) (n : ℕ) → length row ≤ n → (x : Checked Either row m n) → (u d : ℕ) → u ≡ upBy z → d ≡ downBy z → shiftWords row m u d room ≡ shiftOutcome row z room
   unfolding shiftOutcome

@@ -127,13 +127,13 @@ pub fn shift_marked(row: &[u32], marks: &[u32], up: u32, down: u32, out: &mut [u
     ensures { λ _. ⌜ now (out .exit) ≡ written (shiftWords (now (row .entry)) (now (marks .entry)) up down (length (now (out .entry)))) (now (out .entry)) ⌝ }
 {
     if marks.len() < row.len() {
-        return Answer::No(2);
+        return Answer::No(2, 0);
     }
     if !all_in(row, marks, down, top_of(up)) {
-        return Answer::No(low_or_high(down));
+        return Answer::No(low_or_high(down), 0);
     }
     if out.len() < row.len() {
-        return Answer::No(14);
+        return Answer::No(14, 0);
     }
     write_moved(row, marks, up, down, out);
     Answer::Done(row.len())
@@ -145,8 +145,9 @@ fn shift_in(row: &[u32], offset: i32, marks: &mut [u32], out: &mut [u32]) -> Ans
     ensures { λ r. ⌜ r ≡ told (shiftOutcome (now (row .entry)) offset (length (now (out .entry)))) ⌝ }
     ensures { λ _. ⌜ now (out .exit) ≡ written (shiftOutcome (now (row .entry)) offset (length (now (out .entry)))) (now (out .entry)) ⌝ }
 {
-    let Answer::Done(n) = reader::check::mark(row, Kind::Either, marks) else {
-        return Answer::No(2);
+    let checked = reader::check::mark(row, Kind::Either, marks);
+    let Answer::Done(n) = checked else {
+        return checked;
     };
     shift_marked(row, marks, up_by(offset), down_by(offset), out)
 }
@@ -169,7 +170,7 @@ pub fn shift_bound_identifiers(row: &[u32], offset: i32, out: &mut [u32]) -> Ans
         return shift_in(row, offset, &mut marks, out);
     }
     if Limit::WORDS < row.len() {
-        return Answer::No(1);
+        return Answer::No(1, 0);
     }
     let mut marks = [0u32; 8192];
     shift_in(row, offset, &mut marks, out)

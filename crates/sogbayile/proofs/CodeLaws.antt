@@ -2,7 +2,7 @@
 use mathlib.Core.Path.{_≡_, refl}
 use mathlib.Core.Bool.{Bool, true, false, _||_}
 use mathlib.Core.List.{List}
-use Prim.Native.Nat.{ℕ, _≤_}
+use Prim.Native.Nat.{ℕ, _+_, _≤_}
 use native.Mathlib.Omega.{arith}
 use borrow.Author.Tests.{le-leb}
 use lib.Dec.{leb, eqb}
@@ -10,33 +10,36 @@ use lib.ListN.{length}
 use Rattle.tree.specs.Form.{Form, pick, encode}
 use Rattle.tree.specs.Tag.{Sort}
 use Rattle.form.specs.Decode.{Whole, one, not-one, rowForm, Found, found, missing, formOf}
-use Rattle.form.specs.Answer.{Outcome, answer, refusal, told, lengthOf, needs, isOne, finish}
+use Rattle.form.specs.Answer.{Outcome, answer, stop, told, lengthOf, position, needs, isOne, finish}
 use Rattle.form.specs.declared.answer.Kind.the-variants.{Either}
-use Rattle.form.specs.declared.answer.Answer.the-variants.{Done}
+use Rattle.form.specs.declared.answer.Answer.the-variants.{Done, No}
 use Rattle.form.proofs.RowLaws.{row-short}
 use Rattle.rules.specs.Walk.{lift}
 use Rattle.rules.specs.Dangling.{closed}
 use Rattle.rules.specs.Lift.{Part, base, copy, empty, ofCopy, liftFound, liftPart}
 use Rattle.subst.specs.Internal.Lifting.{madeOf}
-use Rattle.sogbayile.specs.Code.{codeOf, partCode}
+use Rattle.sogbayile.specs.Code.{packed, codeOf, partCode}
 use Rattle.sogbayile.specs.Internal.{partLength, madeCode}
 
 pub code-done : (n : ℕ) → codeOf (Done n) ≡ n
 code-done n = omega arith
 
-pub finish-short : (s : Sort) (room : ℕ) (g : Form) → lengthOf (told (finish s room g)) ≤ 8192
+pub code-no : (k p : ℕ) → codeOf (No k p) ≡ packed k p
+code-no k p = omega arith
+
+pub finish-short : (s : Sort) (room : ℕ) (g : Form) → lengthOf (told (finish s room g)) + position (told (finish s room g)) ≤ 8192
 unfolding finish
 finish-short s room g = go (rowForm s (encode g)) refl (leb (length (encode g)) room)
   where
-    go : (w : Whole) → rowForm s (encode g) ≡ w → (b : Bool) → lengthOf (told (needs 7 (isOne (rowForm s (encode g))) (needs 14 b (answer (encode g))))) ≤ 8192
-    go (one f) e true = rw e (row-short s (encode g) f e)
+    go : (w : Whole) → rowForm s (encode g) ≡ w → (b : Bool) → let o = needs 7 (isOne (rowForm s (encode g))) (needs 14 b (answer (encode g))) in lengthOf (told o) + position (told o) ≤ 8192
+    go (one f) e true = let h = row-short s (encode g) f e in rw e (omega (arith, h))
     go (one f) e false = rw e (omega arith)
     go not-one e b = rw e (omega arith)
 
 -- lift
-copy-short : (n : ℕ) (o : Outcome) → lengthOf (told o) ≤ 8192 → partLength n (madeOf (ofCopy o)) ≤ 8192
-copy-short n (answer ws) h = h
-copy-short n (refusal k) h = omega arith
+copy-short : (n : ℕ) (o : Outcome) → lengthOf (told o) + position (told o) ≤ 8192 → partLength n (madeOf (ofCopy o)) ≤ 8192
+copy-short n (answer ws) h = omega (arith, h)
+copy-short n (stop k p) h = omega arith
 
 pub part-short : (row : List ℕ) (depth work : ℕ) → length row ≤ 8192 → partLength (length row) (madeOf (liftPart row depth work)) ≤ 8192
 unfolding liftPart

@@ -1,2 +1,3 @@
 pub mod CodeLaws
 pub mod ShortLaws
+pub mod OfferLaws

@@ -1,21 +1,22 @@
--- No exported rewriting answers over 8,192 words, so number and length can be read off its code. Assumes nothing.
+-- No exported call answers over 8,192 words, and no position is over 8,192, so number, length and position can be read off its code. Assumes nothing.
 use mathlib.Core.Path.{_≡_, refl}
-use mathlib.Core.Bool.{Bool, true, false, not}
+use mathlib.Core.Bool.{Bool, true, false, not, _&&_}
 use mathlib.Core.List.{List, [], _∷_, _++_, map}
 use mathlib.Core.Option.{Option, none as absent, some}
-use Prim.Native.Nat.{ℕ, _+_, _≤_, _/_, _%_, _^_}
+use Prim.Native.Nat.{ℕ, suc, _+_, _≤_, _/_, _%_, _^_}
 use native.Mathlib.Omega.{arith}
 use borrow.Author.Tests.{leb-true}
 use lib.Dec.{leb, ltb, eqb}
 use lib.IntN.{ℤ}
 use lib.ListN.{length, length-append}
 use Rattle.tree.specs.Form.{free, bound, Form, leaf, node, Forms, none, more, pick, encode, encodeAll}
-use Rattle.tree.specs.Tag.{Sort, pred}
+use Rattle.tree.specs.Tag.{Sort, pred, expr, Own}
 use Rattle.form.specs.Decode.{Found, found, missing, formOf}
+use Rattle.form.specs.Break.{Open, leastAll, after, breakFrom, breakSort, breakAt, breakList, entryOwn}
 use Rattle.form.specs.Lists.{Entry, wordOf, placeOf, listOf, goodNames}
-use Rattle.form.specs.Answer.{Outcome, answer, refusal, told, number, lengthOf, ofFound, ofList, withForm, withList, needs, finish}
+use Rattle.form.specs.Answer.{Outcome, answer, stop, refusal, told, number, lengthOf, position, ofFound, ofList, withForm, withList, needs, finish, checkOutcome, namesOutcome, pairsOutcome, placesOutcome}
 use Rattle.form.specs.declared.answer.Kind.{Kind}
-use Rattle.form.specs.declared.answer.Kind.the-variants.{Either, Predicate}
+use Rattle.form.specs.declared.answer.Kind.the-variants.{Either, Expression, Predicate}
 use Rattle.form.specs.declared.answer.ListKind.{ListKind}
 use Rattle.form.specs.declared.answer.ListKind.the-variants.{Pairs, Places}
 use Rattle.form.proofs.RowLaws.{found-exact, row-exact}
@@ -32,18 +33,49 @@ use Rattle.sogbayile.specs.Code.{codeOf}
 use Rattle.sogbayile.proofs.CodeLaws.{finish-short}
 
 unfoldable pub Short : Outcome → Type 0
-Short o = lengthOf (told o) ≤ 8192
+Short o = lengthOf (told o) + position (told o) ≤ 8192
 
--- the upper 32 bits are the number, the lower ones the length
-pub code-read : (o : Outcome) → Short o → (codeOf (told o) / 2 ^ 32 ≡ number (told o)) × (codeOf (told o) % 2 ^ 32 ≡ lengthOf (told o))
+-- the upper 32 bits are the number; the lower ones the length of an answer, and the position of a refusal
+pub code-read : (o : Outcome) → Short o → (codeOf (told o) / 2 ^ 32 ≡ number (told o)) × (codeOf (told o) % 2 ^ 32 ≡ lengthOf (told o) + position (told o))
 unfolding Short
 code-read (answer ws) h = (omega (arith, h), omega (arith, h))
-code-read (refusal k) h = (omega arith, omega arith)
+code-read (stop k p) h = (omega (arith, h), omega (arith, h))
 
 -- the parts of the definitions
 refused : (k : ℕ) → Short (refusal k)
 unfolding Short
 refused k = omega arith
+
+-- a row that breaks
+break-by : (z : ℕ → Own) (at : ℕ) (x : Open) (ws : List ℕ) → at ≤ 8192 → breakFrom z at x ws ≤ 8192
+unfolding breakFrom
+break-by z at x [] h = h
+break-by z at x (w ∷ ws) h = go (leb (suc at + leastAll (after z x w)) 8192) refl (λ k. break-by z (suc at) (after z x w) ws k)
+  where
+    go : (b : Bool) → leb (suc at + leastAll (after z x w)) 8192 ≡ b → (suc at ≤ 8192 → breakFrom z (suc at) (after z x w) ws ≤ 8192) → pick b (breakFrom z (suc at) (after z x w) ws) at ≤ 8192
+    go true e f = let k = leb-true (suc at + leastAll (after z x w)) 8192 e in f (omega arith)
+    go false e f = h
+
+sort-low : (s : Sort) (row : List ℕ) → breakSort s row ≤ 8192
+sort-low s row = break-by _ 0 _ row (omega arith)
+
+later-low : (b : Bool) (m n : ℕ) → m ≤ 8192 → n ≤ 8192 → pick b m n ≤ 8192
+later-low true m n h k = h
+later-low false m n h k = k
+
+pub break-low : (kind : Kind) (row : List ℕ) → breakAt kind row ≤ 8192
+unfolding breakAt
+break-low Expression row = sort-low expr row
+break-low Predicate row = sort-low pred row
+break-low Either row = later-low (leb (breakSort expr row) (breakSort pred row)) (breakSort pred row) (breakSort expr row) (sort-low pred row) (sort-low expr row)
+
+break-list-low : (kind : ListKind) (row : List ℕ) → breakList kind row ≤ 8192
+unfolding breakList
+break-list-low kind row = break-by (entryOwn kind) 0 _ row (omega arith)
+
+broke : (p : ℕ) → p ≤ 8192 → Short (stop 2 p)
+unfolding Short
+broke p h = omega (arith, h)
 
 finished : (s : Sort) (room : ℕ) (g : Form) → Short (finish s room g)
 unfolding Short
@@ -51,29 +83,49 @@ finished s room g = finish-short s room g
 
 answered : (ws : List ℕ) → length ws ≤ 8192 → Short (answer ws)
 unfolding Short
-answered ws h = h
+answered ws h = omega (arith, h)
 
 tested : (k : ℕ) (b : Bool) (o : Outcome) → Short o → Short (needs k b o)
 tested k true o h = h
 tested k false o h = refused k
 
 form-short : (kind : Kind) (row : List ℕ) (go : Sort → Form → Outcome) → ((s : Sort) (f : Form) → Short (go s f)) → Short (withForm kind row go)
-form-short kind row go h = tested 1 (leb (length row) 8192) (ofFound go (formOf kind row)) (by (formOf kind row))
+form-short kind row go h = tested 1 (leb (length row) 8192) (ofFound (breakAt kind row) go (formOf kind row)) (by (formOf kind row))
   where
-    by : (o : Found) → Short (ofFound go o)
+    by : (o : Found) → Short (ofFound (breakAt kind row) go o)
     by (found s f) = h s f
-    by missing = refused 2
+    by missing = broke (breakAt kind row) (break-low kind row)
 
 list-short : (kind : ListKind) (row : List ℕ) (go : List Entry → Outcome) → ((es : List Entry) → Short (go es)) → Short (withList kind row go)
-list-short kind row go h = tested 1 (leb (length row) 8192) (ofList go (listOf kind row)) (by (listOf kind row))
+list-short kind row go h = tested 1 (leb (length row) 8192) (ofList (breakList kind row) go (listOf kind row)) (by (listOf kind row))
   where
-    by : (o : Option (List Entry)) → Short (ofList go o)
+    by : (o : Option (List Entry)) → Short (ofList (breakList kind row) go o)
     by (some es) = h es
-    by absent = refused 2
+    by absent = broke (breakList kind row) (break-list-low kind row)
 
 quantified-short : (go : ℕ → List ℕ → Form → Outcome) (k : ℕ) (q : Quantified) → ((t : ℕ) (ns : List ℕ) (b : Form) → Short (go t ns b)) → Short (ofQuantified go k q)
 quantified-short go k (quantifier t ns b) h = h t ns b
 quantified-short go k other h = refused k
+
+-- the checks
+nothing-written : Short (answer [])
+nothing-written = answered [] (omega arith)
+
+pub check-short : (kind : Kind) (row : List ℕ) → Short (checkOutcome kind row)
+unfolding checkOutcome
+check-short kind row = form-short kind row _ (λ s f. nothing-written)
+
+pub names-short : (row : List ℕ) → Short (namesOutcome row)
+unfolding namesOutcome
+names-short row = tested 1 (leb (length row) 8192) _ (tested 4 (goodNames row) _ nothing-written)
+
+pub pairs-short : (row : List ℕ) → Short (pairsOutcome row)
+unfolding pairsOutcome
+pairs-short row = list-short Pairs row _ (λ es. tested 4 (goodNames (map wordOf es)) _ nothing-written)
+
+pub places-short : (n : ℕ) (row : List ℕ) → Short (placesOutcome n row)
+unfolding placesOutcome
+places-short n row = list-short Places row _ (λ es. tested 5 (leb n 32 && eqb (length es) n) _ nothing-written)
 
 -- the rewritings
 pub shift-short : (row : List ℕ) (offset : ℤ) (room : ℕ) → Short (shiftOutcome row offset room)
@@ -161,10 +213,10 @@ dangling-short row room = go (leb (length row) 8192) refl
         let i = insertAll-length [] (collect [] _++_ indexOf 0 f) in
         omega (arith, l, c, i)
 
-    by : (o : Found) → formOf Either row ≡ o → length row ≤ 8192 → Short (ofFound (setOutcome room) o)
+    by : (o : Found) → formOf Either row ≡ o → length row ≤ 8192 → Short (ofFound (breakAt Either row) (setOutcome room) o)
     by (found s f) e h = tested 14 (leb (length (danglingSet f)) room) (answer (danglingSet f)) (answered (danglingSet f) (set s f e h))
-    by missing e h = refused 2
+    by missing e h = broke (breakAt Either row) (break-low Either row)
 
-    go : (b : Bool) → leb (length row) 8192 ≡ b → Short (needs 1 b (ofFound (setOutcome room) (formOf Either row)))
+    go : (b : Bool) → leb (length row) 8192 ≡ b → Short (needs 1 b (ofFound (breakAt Either row) (setOutcome room) (formOf Either row)))
     go true e = by (formOf Either row) refl (leb-true (length row) 8192 e)
     go false e = refused 1

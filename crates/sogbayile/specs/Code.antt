@@ -2,7 +2,7 @@
 use mathlib.Core.List.{List}
 use Prim.Native.Nat.{ℕ, _+_, _*_, _^_}
 use lib.ListN.{length}
-use Rattle.form.specs.Answer.{number, lengthOf}
+use Rattle.form.specs.Answer.{number, lengthOf, position}
 use Rattle.form.specs.declared.answer.Answer.{Answer}
 use Rattle.rules.specs.Lift.{Part, base, copy, empty}
 use Rattle.places.specs.declared.replacements.Replacements.{Replacements}
@@ -11,9 +11,9 @@ use Rattle.places.specs.declared.replacements.Replacements.{Replacements}
 abbrev pub packed : ℕ → ℕ → ℕ
 packed k n = k * 2 ^ 32 + n
 
--- document 01's number (0 for an answer) and length (0 for a refusal)
+-- document 01's number (0 for an answer) and its length, or for a refusal the position; one of these is 0
 abbrev pub codeOf : Answer → ℕ
-codeOf a = packed (number a) (lengthOf a)
+codeOf a = packed (number a) (lengthOf a + position a)
 
 -- lift: 1 and the length of the base, 2 and the length of the copy, or 0
 abbrev pub partCode : List ℕ → Part → ℕ

@@ -5,20 +5,20 @@ ghost use mathlib.Core.Path.{_≡_};
 ghost use Rattle.sogbayile.specs.Code.{packed, codeOf};
 ghost use Rattle.sogbayile.specs.Internal.{ShortPart, madeCode};
 
-// The number of a refusal in the upper 32 bits.
-pub fn refusal_code(number: u32) -> u64
-    ensures { λ r. ⌜ r ≡ packed number 0 ⌝ }
+// The number of a refusal in the upper 32 bits, and its position in the lower ones.
+pub fn refusal_code(number: u32, position: u32) -> u64
+    ensures { λ r. ⌜ r ≡ packed number position ⌝ }
 {
-    (number as u64) * 4294967296
+    (number as u64) * 4294967296 + (position as u64)
 }
 
-// The length of an answer, or the number of a refusal in the upper 32 bits.
+// The length of an answer, or the number of a refusal in the upper 32 bits and its position in the lower ones.
 pub fn code_of(answer: Answer) -> u64
     ensures { λ r. ⌜ r ≡ codeOf answer ⌝ }
 {
     match answer {
         Answer::Done(length) => length as u64,
-        Answer::No(number) => refusal_code(number),
+        Answer::No(number, position) => refusal_code(number, position),
     }
 }
 

@@ -8,7 +8,7 @@ ghost use Rattle.sogbayile.specs.Code.{packed, placesOf};
 // An empty set for n declarations.
 #[no_mangle]
 pub extern "C" fn sgb_places(n: usize, starts: &mut [usize; 32], ends: &mut [usize; 32]) -> u64
-    ensures { λ r. ⌜ r ≡ packed (newOf n .number) 0 ⌝ }
+    ensures { λ r. ⌜ r ≡ packed (newOf n .number) (newOf n .position) ⌝ }
     ensures { λ _. ⌜ now (starts .exit) ≡ newOf n .places .starts ⌝ }
     ensures { λ _. ⌜ now (ends .exit) ≡ newOf n .places .ends ⌝ }
 {
@@ -18,7 +18,7 @@ pub extern "C" fn sgb_places(n: usize, starts: &mut [usize; 32], ends: &mut [usi
     let past = places.ends;
     *starts = first;
     *ends = past;
-    refusal_code(made.number)
+    refusal_code(made.number, made.position)
 }
 
 // A predicate row offered to the set; a refusal leaves the set as it is.
@@ -29,7 +29,7 @@ pub extern "C" fn sgb_offer(
     ends: &mut [usize; 32],
     row: &[u32],
 ) -> u64
-    ensures { λ r. ⌜ r ≡ packed (offerAnswer (placesOf (now (starts .entry)) (now (ends .entry)) n) (now (row .entry)) .number) 0 ⌝ }
+    ensures { λ r. ⌜ r ≡ packed (offerAnswer (placesOf (now (starts .entry)) (now (ends .entry)) n) (now (row .entry)) .number) (offerAnswer (placesOf (now (starts .entry)) (now (ends .entry)) n) (now (row .entry)) .position) ⌝ }
     ensures { λ _. ⌜ now (starts .exit) ≡ offerAnswer (placesOf (now (starts .entry)) (now (ends .entry)) n) (now (row .entry)) .places .starts ⌝ }
     ensures { λ _. ⌜ now (ends .exit) ≡ offerAnswer (placesOf (now (starts .entry)) (now (ends .entry)) n) (now (row .entry)) .places .ends ⌝ }
 {
@@ -46,5 +46,5 @@ pub extern "C" fn sgb_offer(
     let past = after.ends;
     *starts = first;
     *ends = past;
-    refusal_code(offered.number)
+    refusal_code(offered.number, offered.position)
 }

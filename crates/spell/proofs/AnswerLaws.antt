@@ -10,6 +10,7 @@ use lib.ListN.{length, getD, take, drop, set, replicate, length-append, length-r
 use lib.Seq.{set-append-seam, take-at}
 use Rattle.tree.specs.Form.{Form, pick, encode}
 use Rattle.tree.specs.Tag.{Sort, expr, pred}
+use Rattle.form.specs.Break.{breakAt}
 use Rattle.form.specs.Decode.{got, decode, Whole, one, not-one, whole, rowForm, Found, found, missing, asSort, formOf}
 use Rattle.form.specs.Answer.{told, written}
 use Rattle.reader.specs.Internal.Reads.{asExpr}
@@ -20,7 +21,7 @@ use Rattle.form.proofs.HeadLaws.{gone, here}
 use Rattle.reader.proofs.CheckLaws.{form-of}
 use Rattle.form.proofs.RowLaws.{row-exact, found-exact}
 use Rattle.spell.specs.Put.{put}
-use Rattle.spell.specs.Spell.{decimal, spell, spellNo, printOutcome, printNo, sameBytes}
+use Rattle.spell.specs.Spell.{decimal, spell, spellNo, printOutcome, printNo, sameBytes, ending}
 use Rattle.spell.specs.Internal.Writes.{Wrote, Printed, PrintedRow, PrintedForm}
 use Rattle.spell.specs.declared.print.Ends.{Ends}
 use Rattle.spell.specs.declared.print.Ends.the-variants.{End, Bad}
@@ -104,17 +105,17 @@ put-front l bs h = put-after [] l bs h
 
 -- the answer of the public printer
 module _ (row out : List ℕ) where
-  pub form-long : 8192 < length row → (No 1 ≡ told (printOutcome row (length out))) × (out ≡ written (printOutcome row (length out)) out)
+  pub form-long : 8192 < length row → (No 1 0 ≡ told (printOutcome row (length out))) × (out ≡ written (printOutcome row (length out)) out)
   unfolding printOutcome
   form-long h = rw (lt-leb (length row) 8192 h) (refl, refl)
 
   module _ (h : length row ≤ 8192) (a b : List ℕ) (r : Spelled) (t : PrintedForm (formOf Either row) a b r) where
-    pub form-none : r ≡ NotOne → (No 2 ≡ told (printOutcome row (length out))) × (out ≡ written (printOutcome row (length out)) out)
+    pub form-none : r ≡ NotOne → (q : ℕ) → q ≡ breakAt Either row → (No 2 q ≡ told (printOutcome row (length out))) × (out ≡ written (printOutcome row (length out)) out)
     unfolding printOutcome
-    form-none e = rw (le-leb (length row) 8192 h, form-missing (formOf Either row) a b r t e) (refl, refl)
+    form-none e q k = rw (le-leb (length row) 8192 h, form-missing (formOf Either row) a b r t e, k) (refl, refl)
 
     module _ (n : ℕ) (e : r ≡ Bytes n) where
-      pub form-room : length out < n → (No 14 ≡ told (printOutcome row (length out))) × (out ≡ written (printOutcome row (length out)) out)
+      pub form-room : length out < n → (No 14 0 ≡ told (printOutcome row (length out))) × (out ≡ written (printOutcome row (length out)) out)
       unfolding printOutcome
       form-room l =
           let (s, f, o, m, v) = form-bytes (formOf Either row) a b r n t e in
@@ -180,19 +181,28 @@ pub zeros : (n : ℕ) → length (replicate {A = ℕ} n 0) ≡ n
 zeros n = length-replicate n 0
 
 -- refusals
-pub wrote-no : (k q r : ℕ) (a b c d e f g : List ℕ) (x y z w : ℕ) → Wrote 0 (91 ∷ []) a b x → Wrote 1 (110 ∷ []) b c y → Wrote 2 (111 ∷ []) c d z → Wrote 3 (32 ∷ []) d e w
-    → Wrote 4 (decimal k) e f q → Wrote q (93 ∷ []) f g r → Wrote 0 (spellNo k) a g r
+module _ (k p o : ℕ) where
+  pub ending-short : (k ≡ 2 → ⊥) → (a b : List ℕ) (r : ℕ) → Wrote o (93 ∷ []) a b r → Wrote o (ending k p) a b r
+  unfolding ending
+  ending-short n a b r h = rw (ne-eqb k 2 n) h
+
+  pub ending-long : k ≡ 2 → (q r x : ℕ) (a b c d : List ℕ) → Wrote o (32 ∷ []) a b x → Wrote x (decimal p) b c q → Wrote q (93 ∷ []) c d r → Wrote o (ending k p) a d r
+  unfolding ending
+  ending-long e q r x a b c d h i j = rw (eq-eqb k 2 e) (wrote-both o x r (32 ∷ []) (decimal p ++ (93 ∷ [])) a b d h (wrote-both x q r (decimal p) (93 ∷ []) b c d i j))
+
+pub wrote-no : (k p q r : ℕ) (a b c d e f g : List ℕ) (x y z w : ℕ) → Wrote 0 (91 ∷ []) a b x → Wrote 1 (110 ∷ []) b c y → Wrote 2 (111 ∷ []) c d z → Wrote 3 (32 ∷ []) d e w
+    → Wrote 4 (decimal k) e f q → Wrote q (ending k p) f g r → Wrote 0 (spellNo k p) a g r
 unfolding spellNo
-wrote-no k q r a b c d e f g x y z w h₀ h₁ h₂ h₃ h₄ h₅ =
-    wrote-next 0 x r (91 ∷ []) _ a b g h₀ (wrote-next 1 y r (110 ∷ []) _ b c g h₁ (wrote-next 2 z r (111 ∷ []) _ c d g h₂ (wrote-next 3 w r (32 ∷ []) _ d e g h₃ (wrote-both 4 q r (decimal k) (93 ∷ []) e f g h₄ h₅))))
+wrote-no k p q r a b c d e f g x y z w h₀ h₁ h₂ h₃ h₄ h₅ =
+    wrote-next 0 x r (91 ∷ []) _ a b g h₀ (wrote-next 1 y r (110 ∷ []) _ b c g h₁ (wrote-next 2 z r (111 ∷ []) _ c d g h₂ (wrote-next 3 w r (32 ∷ []) _ d e g h₃ (wrote-both 4 q r (decimal k) (ending k p) e f g h₄ h₅))))
 
-module _ (k n : ℕ) (u v : List ℕ) (h : Wrote 0 (spellNo k) u v n) (out : List ℕ) where
-  pub no-room : length out < n → (No 14 ≡ told (printNo k (length out))) × (out ≡ written (printNo k (length out)) out)
+module _ (k p n : ℕ) (u v : List ℕ) (h : Wrote 0 (spellNo k p) u v n) (out : List ℕ) where
+  pub no-room : length out < n → (No 14 0 ≡ told (printNo k p (length out))) × (out ≡ written (printNo k p (length out)) out)
   unfolding printNo
-  no-room l = let e = wrote-end 0 n (spellNo k) u v h in rw (lt-leb (length (spellNo k)) (length out) (omega arith)) (refl, refl)
+  no-room l = let e = wrote-end 0 n (spellNo k p) u v h in rw (lt-leb (length (spellNo k p)) (length out) (omega arith)) (refl, refl)
 
-  pub no-done : n ≤ length out → (out′ : List ℕ) (m : ℕ) → Wrote 0 (spellNo k) out out′ m → (Done n ≡ told (printNo k (length out))) × (out′ ≡ written (printNo k (length out)) out)
+  pub no-done : n ≤ length out → (out′ : List ℕ) (m : ℕ) → Wrote 0 (spellNo k p) out out′ m → (Done n ≡ told (printNo k p (length out))) × (out′ ≡ written (printNo k p (length out)) out)
   unfolding printNo Wrote
   no-done l out′ m w =
-      let e = wrote-end 0 n (spellNo k) u v h in
-      rw (le-leb (length (spellNo k)) (length out) (omega arith)) (ap Done (e ∙ omega arith), w .1 ∙ put-front out (spellNo k) (omega arith))
+      let e = wrote-end 0 n (spellNo k p) u v h in
+      rw (le-leb (length (spellNo k p)) (length out) (omega arith)) (ap Done (e ∙ omega arith), w .1 ∙ put-front out (spellNo k p) (omega arith))

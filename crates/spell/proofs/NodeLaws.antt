@@ -13,12 +13,13 @@ use Rattle.tree.specs.Form.{Leaf, free, bound, leaf, node, Forms, none, pick, e
 use Rattle.tree.specs.Tag.{Sort, expr, ownOf, exprTags, shapeOf, own, sorts}
 use Rattle.form.specs.Decode.{Head, head, bad, read, no-form, Gots, gots, no-forms, leafAt, isLeaf, make, close, decodeAll, branch, decode}
 use Rattle.form.specs.Internal.Heads.{headAt}
-use Rattle.reader.specs.Internal.Reads.{startsLeaf}
+use Rattle.form.specs.Internal.Heads.{startsLeaf}
 use Rattle.form.specs.declared.head.Head as code
 use Rattle.form.specs.declared.head.Head.the-variants.{Kids, None}
 use Rattle.form.proofs.DecodeLaws.{clash, high-tag, read-exact, read-at, all-sound, made}
 use Rattle.form.proofs.HeadLaws.{gone}
-use Rattle.reader.proofs.ReaderLaws.{no-word, node-here, two-words, leaf-room}
+use Rattle.form.proofs.LeafLaws.{two-words, leaf-room}
+use Rattle.reader.proofs.ReaderLaws.{no-word, node-here}
 use Rattle.spell.specs.Spell.{decimal, spaced, bracket, spellLeaf, spell, spellAll}
 use Rattle.spell.specs.Put.{put}
 use Rattle.spell.specs.Internal.Writes.{Wrote, Printed, PrintedAll}

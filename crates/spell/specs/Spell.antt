@@ -66,16 +66,19 @@ unfoldable pub spellNames : List ℕ → List ℕ
 spellNames [] = 91 ∷ 93 ∷ []
 spellNames (n ∷ ns) = bracket n ns []
 
--- `[no k]`
-unfoldable pub spellNo : ℕ → List ℕ
-spellNo k = 91 ∷ 110 ∷ 111 ∷ 32 ∷ (decimal k ++ (93 ∷ []))
+-- `[no k]`, and `[no 2 p]`
+unfoldable pub ending : ℕ → ℕ → List ℕ
+ending k p = pick (eqb k 2) (32 ∷ (decimal p ++ (93 ∷ []))) (93 ∷ [])
+
+unfoldable pub spellNo : ℕ → ℕ → List ℕ
+spellNo k p = 91 ∷ 110 ∷ 111 ∷ 32 ∷ (decimal k ++ ending k p)
 
 -- printing a row that is one form: its spelling, if it fits
 unfoldable pub printOutcome : List ℕ → ℕ → Outcome
 printOutcome row room = withForm Either row (λ s f. needs 14 (leb (length (spell f)) room) (answer (spell f)))
 
-unfoldable pub printNo : ℕ → ℕ → Outcome
-printNo k room = needs 14 (leb (length (spellNo k)) room) (answer (spellNo k))
+unfoldable pub printNo : ℕ → ℕ → ℕ → Outcome
+printNo k p room = needs 14 (leb (length (spellNo k p)) room) (answer (spellNo k p))
 
 -- the late 8 of a form: whether a group's bytes are the spelling of the form that its row is
 unfoldable pub sameBytes : List ℕ → List ℕ → Bool

@@ -3,13 +3,15 @@ use crate::decimal::put_byte;
 use crate::decimal::put_decimal;
 use crate::whole::Spelled;
 use crate::whole::print_row;
+use broken::position::broken_at;
 use form::answer::Answer;
+use form::answer::Kind;
 ghost use mathlib.Core.Path.{_≡_};
-ghost use Prim.Native.Nat.{_*_, _≤_};
+ghost use Prim.Native.Nat.{_+_, _*_, _^_, _≤_, _<_};
 ghost use lib.ListN.{length};
 ghost use Rattle.form.specs.Answer.{told, written};
 ghost use Rattle.spell.specs.Put.{put};
-ghost use Rattle.spell.specs.Spell.{printOutcome, spellNo, printNo};
+ghost use Rattle.spell.specs.Spell.{printOutcome, ending, spellNo, printNo};
 ghost use Rattle.spell.specs.Internal.Writes.{Wrote};
 
 // The bytes, stored at the front of the output.
@@ -31,10 +33,10 @@ fn print_form_in(row: &[u32], bytes: &mut [u8], out: &mut [u8]) -> Answer
     ensures { λ r. ⌜ now (out .exit) ≡ written (printOutcome (now (row .entry)) (length (now (out .entry)))) (now (out .entry)) ⌝ }
 {
     let Spelled::Bytes(n) = print_row(row, bytes) else {
-        return Answer::No(2);
+        return Answer::No(2, broken_at(row, Kind::Either));
     };
     if out.len() < n {
-        return Answer::No(14);
+        return Answer::No(14, 0);
     }
     copy(&bytes[..n], out);
     Answer::Done(n)
@@ -58,34 +60,47 @@ pub fn print_form(row: &[u32], out: &mut [u8]) -> Answer
         return print_form_in(row, &mut bytes, out);
     }
     if 8192 < row.len() {
-        return Answer::No(1);
+        return Answer::No(1, 0);
     }
     let mut bytes = [0u8; 106496];
     print_form_in(row, &mut bytes, out)
 }
 
-// `[no k]`, at the front of the output.
-fn put_no(out: &mut [u8], k: u32) -> usize
-    ensures { λ r. ⌜ Wrote 0 (spellNo k) (now (out .entry)) (now (out .exit)) r ⌝ }
+// The position of a refusal by 2, and the bracket.
+fn put_ending(out: &mut [u8], o: usize, k: u32, p: u32) -> usize
+    requires { ⌜ o + 20 < 2 ^ 64 ⌝ }
+    ensures { λ r. ⌜ Wrote o (ending k p) (now (out .entry)) (now (out .exit)) r ⌝ }
+{
+    if k != 2 {
+        return put_byte(out, o, b']');
+    }
+    let from = put_byte(out, o, b' ');
+    let q = put_decimal(out, from, p);
+    put_byte(out, q, b']')
+}
+
+// `[no k]` or `[no 2 p]`, at the front of the output.
+fn put_no(out: &mut [u8], k: u32, p: u32) -> usize
+    ensures { λ r. ⌜ Wrote 0 (spellNo k p) (now (out .entry)) (now (out .exit)) r ⌝ }
 {
     put_byte(out, 0, b'[');
     put_byte(out, 1, b'n');
     put_byte(out, 2, b'o');
     put_byte(out, 3, b' ');
     let q = put_decimal(out, 4, k);
-    put_byte(out, q, b']')
+    put_ending(out, q, k, p)
 }
 
 // The spelling of a refusal.
-pub fn print_no(k: u32, out: &mut [u8]) -> Answer
-    ensures { λ r. ⌜ r ≡ told (printNo k (length (now (out .entry)))) ⌝ }
-    ensures { λ r. ⌜ now (out .exit) ≡ written (printNo k (length (now (out .entry)))) (now (out .entry)) ⌝ }
+pub fn print_no(k: u32, p: u32, out: &mut [u8]) -> Answer
+    ensures { λ r. ⌜ r ≡ told (printNo k p (length (now (out .entry)))) ⌝ }
+    ensures { λ r. ⌜ now (out .exit) ≡ written (printNo k p (length (now (out .entry)))) (now (out .entry)) ⌝ }
 {
     let mut none = [0u8; 1];
-    let n = put_no(&mut none, k);
+    let n = put_no(&mut none, k, p);
     if out.len() < n {
-        return Answer::No(14);
+        return Answer::No(14, 0);
     }
-    put_no(out, k);
+    put_no(out, k, p);
     Answer::Done(n)
 }

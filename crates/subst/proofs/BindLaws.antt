@@ -9,11 +9,12 @@ use lib.Dec.{leb, ltb, eqb}
 use lib.ListN.{length, getD, drop, replicate, length-drop}
 use Rattle.tree.specs.Form.{Leaf, free, bound, Form, leaf, pick, between, encode}
 use Rattle.tree.specs.Tag.{Sort}
-use Rattle.form.specs.Decode.{missing, formOf}
 use Rattle.form.specs.Lists.{distinct, goodNames}
-use Rattle.form.specs.Answer.{refusal, finish}
+use Rattle.form.specs.Answer.{stop, refusal, told, finish, checkOutcome}
 use Rattle.reader.specs.Internal.Reads.{mark}
 use Rattle.form.specs.declared.answer.Kind.the-variants.{Either}
+use Rattle.form.specs.declared.answer.Answer.{Answer}
+use Rattle.form.specs.declared.answer.Answer.the-variants.{No}
 use Rattle.form.proofs.DecodeLaws.{Ok}
 use Rattle.form.proofs.HeadLaws.{between-in, here, gone}
 use Rattle.rules.specs.Walk.{Binding, inside, outside, binding, Outer, named, dangling, walkIndex, walkLeaf, walk, up, put}
@@ -26,7 +27,7 @@ use Rattle.subst.specs.declared.bind.Spot.{Spot}
 use Rattle.subst.specs.declared.bind.Spot.the-variants.{At, Nowhere}
 use Rattle.rules.proofs.WalkLaws.{binding-inside, binding-back, and-left, and-right, each-agree, walk-agree}
 use Rattle.rules.proofs.LimitLaws.{fineLeaf, fine, tight, ok-tight, walk-length, inside-limits}
-use Rattle.shift.proofs.CheckedLaws.{Checked}
+use Rattle.shift.proofs.CheckedLaws.{Checked, check-refuses}
 use Rattle.shift.proofs.RowLaws.{identOf, marked-items, walk-items, each-items}
 use Rattle.shift.proofs.ShiftLaws.{inRange, range-leaf, range-word, same-test, between-high}
 
@@ -181,9 +182,9 @@ module _ (ns row : List ℕ) (room : ℕ) where
   unfolding bindOutcome
   bind-too-long h = rw (lt-leb (length row) 8192 h)
 
-  pub bind-missing : length row ≤ 8192 → formOf Either row ≡ missing → bindOutcome ns row room ≡ refusal 2
+  pub bind-refused : (r : Answer) (k p : ℕ) → r ≡ told (checkOutcome Either row) → r ≡ No k p → bindOutcome ns row room ≡ stop k p
   unfolding bindOutcome
-  bind-missing h e = rw (le-leb (length row) 8192 h, e)
+  bind-refused r k p q e = check-refuses Either row _ r k p q e
 
   module _ (m : List ℕ) (n : ℕ) (x : Checked Either row m n) where
     pub bind-long : 8192 < length ns → bindOutcome ns row room ≡ refusal 1

@@ -11,10 +11,10 @@ use lib.Dec.{leb, ltb, eqb}
 use lib.Seq.{set-out}
 use lib.ListN.{length, getD, drop, set, replicate, length-append, length-set}
 use Rattle.tree.specs.Form.{Leaf, free, bound, Form, leaf, node, Forms, none, more, pick}
-use Rattle.form.specs.Decode.{missing, formOf}
-use Rattle.form.specs.Answer.{refusal, told, written}
+use Rattle.form.specs.Answer.{stop, refusal, told, written, checkOutcome}
 use Rattle.form.specs.declared.answer.Kind.the-variants.{Either}
-use Rattle.form.specs.declared.answer.Answer.the-variants.{Done}
+use Rattle.form.specs.declared.answer.Answer.{Answer}
+use Rattle.form.specs.declared.answer.Answer.the-variants.{Done, No}
 use Rattle.form.proofs.HeadLaws.{here, gone}
 use Rattle.rules.specs.Walk.{Binding, inside, outside, binding, Outer, named, dangling, collectIndex, collectLeaf, collect, collectAll}
 use Rattle.rules.specs.Dangling.{indexOf, insert, insertAll, danglingSet, danglingOutcome}
@@ -24,7 +24,7 @@ use Rattle.shift.specs.declared.items.Item.{Item}
 use Rattle.shift.specs.declared.items.Item.the-variants.{Plain, Ident}
 use Rattle.rules.proofs.WalkLaws.{binding-inside, binding-back, and-left, and-right, each-all}
 use Rattle.rules.proofs.LimitLaws.{small, ok-small}
-use Rattle.shift.proofs.CheckedLaws.{Checked}
+use Rattle.shift.proofs.CheckedLaws.{Checked, check-refuses}
 use Rattle.shift.proofs.RowLaws.{identOf, plain, itemsOf, itemsAll, marked-items, rewritten-append, each-items}
 use Rattle.shift.proofs.ItemLaws.{next, store-append, stored}
 use Rattle.shift.proofs.ShiftLaws.{inRange, range-leaf, range-word, between-high}
@@ -231,6 +231,6 @@ module _ (row : List ℕ) (room : ℕ) where
   unfolding danglingOutcome
   dangling-long h = rw (lt-leb (length row) 8192 h)
 
-  pub dangling-missing : length row ≤ 8192 → formOf Either row ≡ missing → danglingOutcome row room ≡ refusal 2
+  pub dangling-refused : (r : Answer) (k p : ℕ) → r ≡ told (checkOutcome Either row) → r ≡ No k p → danglingOutcome row room ≡ stop k p
   unfolding danglingOutcome
-  dangling-missing h e = rw (le-leb (length row) 8192 h, e)
+  dangling-refused r k p q e = check-refuses Either row _ r k p q e

@@ -9,7 +9,7 @@ use lib.ListN.{length, drop, replicate, length-append}
 use lib.Seq.{take-append-seam}
 use Rattle.tree.specs.Form.{Form, encode}
 use Rattle.form.specs.Decode.{missing, formOf}
-use Rattle.form.specs.Answer.{Outcome, answer, refusal, told, written}
+use Rattle.form.specs.Answer.{Outcome, answer, stop, told, written}
 use Rattle.reader.specs.Internal.Reads.{mark}
 use Rattle.form.specs.declared.answer.Kind.the-variants.{Either}
 use Rattle.form.specs.declared.answer.Answer.{Answer}
@@ -69,18 +69,18 @@ module _ (row work : List ℕ) (depth : ℕ) where
 
     made-by : (o : Outcome) (r : Answer) (work′ : List ℕ) → r ≡ told o → work′ ≡ written o work → (k : ℕ) → r ≡ Done k → Makes (Copy k) (ofCopy o) work work′
     made-by (answer ws) r work′ e w k q = (cc, w)
-    made-by (refusal j) r work′ e w k q = absurd (clash cc)
+    made-by (stop j i) r work′ e w k q = absurd (clash cc)
 
-    none-by : (o : Outcome) (r : Answer) (work′ : List ℕ) → r ≡ told o → work′ ≡ written o work → (k : ℕ) → r ≡ No k → Makes Nothing (ofCopy o) work work′
+    none-by : (o : Outcome) (r : Answer) (work′ : List ℕ) → r ≡ told o → work′ ≡ written o work → (k : ℕ) {p : ℕ} → r ≡ No k p → Makes Nothing (ofCopy o) work work′
     none-by (answer ws) r work′ e w k q = absurd (clash cc)
-    none-by (refusal j) r work′ e w k q = (refl, w)
+    none-by (stop j i) r work′ e w k q = (refl, w)
 
     module _ (b : Bool) (d : depth ≡ 0 → ⊥) (e : b ≡ allItems (itemIn 0 0) (items row m)) (h : b ≡ false) (r : Answer) (work′ : List ℕ)
         (t : (r ≡ told (shiftWords row m depth 0 (length work))) × (work′ ≡ written (shiftWords row m depth 0 (length work)) work)) where
       pub lift-copied : (k : ℕ) → r ≡ Done k → Makes (Copy k) (liftPart row depth (length work)) work work′
       lift-copied k q = rw (copy-is b d e h) (made-by (shiftWords row m depth 0 (length work)) r work′ (t .0) (t .1) k q)
 
-      pub lift-refused : (k : ℕ) → r ≡ No k → Makes Nothing (liftPart row depth (length work)) work work′
+      pub lift-refused : (k : ℕ) {p : ℕ} → r ≡ No k p → Makes Nothing (liftPart row depth (length work)) work work′
       lift-refused k q = rw (copy-is b d e h) (none-by (shiftWords row m depth 0 (length work)) r work′ (t .0) (t .1) k q)
 
 -- the part that is chosen

@@ -75,10 +75,10 @@ fn bind_marked(row: &[u32], marks: &[u32], names: &[u32], out: &mut [u32]) -> An
     ensures { λ _. ⌜ now (out .exit) ≡ written (bindWords (now (names .entry)) (now (row .entry)) (now (marks .entry)) (length (now (out .entry)))) (now (out .entry)) ⌝ }
 {
     if !all_in(row, marks, 0, top_of(names.len() as u32)) {
-        return Answer::No(7);
+        return Answer::No(7, 0);
     }
     if out.len() < row.len() {
-        return Answer::No(14);
+        return Answer::No(14, 0);
     }
     write_bound(row, marks, names, out);
     Answer::Done(row.len())
@@ -90,14 +90,15 @@ fn bind_in(names: &[u32], row: &[u32], marks: &mut [u32], out: &mut [u32]) -> An
     ensures { λ r. ⌜ r ≡ told (bindOutcome (now (names .entry)) (now (row .entry)) (length (now (out .entry)))) ⌝ }
     ensures { λ _. ⌜ now (out .exit) ≡ written (bindOutcome (now (names .entry)) (now (row .entry)) (length (now (out .entry)))) (now (out .entry)) ⌝ }
 {
-    let Answer::Done(n) = reader::check::mark(row, Kind::Either, marks) else {
-        return Answer::No(2);
+    let checked = reader::check::mark(row, Kind::Either, marks);
+    let Answer::Done(n) = checked else {
+        return checked;
     };
     if Limit::WORDS < names.len() {
-        return Answer::No(1);
+        return Answer::No(1, 0);
     }
     if !reader::lists::good_names(names) {
-        return Answer::No(4);
+        return Answer::No(4, 0);
     }
     bind_marked(row, marks, names, out)
 }
@@ -120,7 +121,7 @@ pub fn bind_idents(names: &[u32], row: &[u32], out: &mut [u32]) -> Answer
         return bind_in(names, row, &mut marks, out);
     }
     if Limit::WORDS < row.len() {
-        return Answer::No(1);
+        return Answer::No(1, 0);
     }
     let mut marks = [0u32; 8192];
     bind_in(names, row, &mut marks, out)

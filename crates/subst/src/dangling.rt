@@ -103,7 +103,7 @@ fn set_flagged(row: &[u32], marks: &[u32], flags: &mut [u8], out: &mut [u32]) ->
     flag_items(row, marks, flags);
     let n = count_flags(flags);
     if out.len() < n {
-        return Answer::No(14);
+        return Answer::No(14, 0);
     }
     write_flags(flags, out);
     Answer::Done(n)
@@ -129,8 +129,9 @@ fn dangling_in(row: &[u32], marks: &mut [u32], out: &mut [u32]) -> Answer
     ensures { λ r. ⌜ r ≡ told (danglingOutcome (now (row .entry)) (length (now (out .entry)))) ⌝ }
     ensures { λ _. ⌜ now (out .exit) ≡ written (danglingOutcome (now (row .entry)) (length (now (out .entry)))) (now (out .entry)) ⌝ }
 {
-    let Answer::Done(n) = reader::check::mark(row, Kind::Either, marks) else {
-        return Answer::No(2);
+    let checked = reader::check::mark(row, Kind::Either, marks);
+    let Answer::Done(n) = checked else {
+        return checked;
     };
     set_marked(row, marks, out)
 }
@@ -149,7 +150,7 @@ pub fn dangling_bound_indices(row: &[u32], out: &mut [u32]) -> Answer
         return dangling_in(row, &mut marks, out);
     }
     if Limit::WORDS < row.len() {
-        return Answer::No(1);
+        return Answer::No(1, 0);
     }
     let mut marks = [0u32; 8192];
     dangling_in(row, &mut marks, out)

@@ -23,9 +23,9 @@ fn copy_in(base: &[u32], depth: u32, marks: &mut [u32], work: &mut [u32]) -> Mad
     ensures { λ r. ⌜ r ≡ madeOf (liftPart (now (base .entry)) depth (length (now (work .entry)))) ⌝ }
     ensures { λ _. ⌜ now (work .exit) ≡ workAfter (liftPart (now (base .entry)) depth (length (now (work .entry)))) (now (work .entry)) ⌝ }
 {
-    let Answer::Done(n) = reader::check::mark(base, Kind::Either, marks) else {
+    if !reader::check::mark_form(base, Kind::Either, marks) {
         return Made::Nothing;
-    };
+    }
     if depth == 0 {
         return Made::Base;
     }

@@ -64,7 +64,7 @@ past-none (b ∷ bs) more h = go (eqb b 10) h (past-none bs more)
     go false h k = k (omega arith)
 
 -- a line that is too long is answered the same whatever follows
-pub long-answer : (line : List ℕ) → 65535 < length line → answerTo line ≡ withNewline (printNo 8 131072)
+pub long-answer : (line : List ℕ) → 65535 < length line → answerTo line ≡ withNewline (printNo 8 0 131072)
 unfolding answerTo replyOutcome lineOutcome readLine
 long-answer line h = rw (lt-leb (length line) 65535 h)
 

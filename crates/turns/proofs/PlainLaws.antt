@@ -5,10 +5,10 @@ use mathlib.Core.List.{List, [], _∷_, _++_}
 use Prim.Native.Nat.{ℕ, zero, suc, _+_, _≤_, _/_, _%_}
 use native.Mathlib.Omega.{arith}
 use borrow.Author.Tests.{ne-eqb}
-use lib.Dec.{ltb}
+use lib.Dec.{eqb, ltb}
 use lib.ListN.{length, length-append}
 use Rattle.tree.specs.Form.{Leaf, free, bound, Form, leaf, node, Forms, none, more, pick}
-use Rattle.spell.specs.Spell.{digits, decimal, spaced, bracket, spellLeaf, spell, spellAll, spellNo}
+use Rattle.spell.specs.Spell.{digits, decimal, spaced, bracket, spellLeaf, spell, spellAll, ending, spellNo}
 use Rattle.reply.specs.Split.{newlineIn}
 use Rattle.reply.proofs.GoodLaws.{reply-answers}
 use Rattle.turns.specs.Output.{answerTo}
@@ -61,9 +61,17 @@ mutual
   plain-all none = tt
   plain-all (more f fs) = (omega arith, plain-both (spell f) (spellAll fs) (plain-spell f) (plain-all fs))
 
-plain-no : (k : ℕ) → Plain (spellNo k)
+plain-ending : (k p : ℕ) → Plain (ending k p)
+unfolding ending
+plain-ending k p = go (eqb k 2)
+  where
+    go : (b : Bool) → Plain (pick b (32 ∷ (decimal p ++ (93 ∷ []))) (93 ∷ []))
+    go true = (omega arith, plain-both (decimal p) (93 ∷ []) (plain-decimal p) (omega arith, tt))
+    go false = (omega arith, tt)
+
+plain-no : (k p : ℕ) → Plain (spellNo k p)
 unfolding spellNo
-plain-no k = (omega arith, (omega arith, (omega arith, (omega arith, plain-both (decimal k) (93 ∷ []) (plain-decimal k) (omega arith, tt)))))
+plain-no k p = (omega arith, (omega arith, (omega arith, (omega arith, plain-both (decimal k) (ending k p) (plain-decimal k) (plain-ending k p)))))
 
 plain-line : (bs : List ℕ) → Plain bs → newlineIn (bs ++ (10 ∷ [])) ≡ length bs
 unfolding newlineIn

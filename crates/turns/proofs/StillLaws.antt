@@ -11,7 +11,8 @@ use lib.Dec.{leb, eqb}
 use lib.ListN.{length, take, drop, length-append}
 use lib.Seq.{length-take-le, take-nil, drop-drop, take-append-seam, take-at, drop-append-le}
 use Rattle.tree.specs.Form.{pick}
-use Rattle.form.specs.Answer.{Outcome, answer, refusal, ofFound, needs}
+use Rattle.form.specs.Break.{breakAt}
+use Rattle.form.specs.Answer.{Outcome, answer, stop, refusal, ofFound, needs}
 use Rattle.form.specs.Decode.{Found, found, missing, formOf}
 use Rattle.form.specs.declared.answer.Kind.the-variants.{Either}
 use Rattle.form.proofs.DecodeLaws.{clash}
@@ -42,11 +43,11 @@ few-printed : (o : Outcome) → Few (printed 131072 o)
 unfolding printOutcome printNo
 few-printed (answer ws) = go (leb (length ws) 8192) (formOf Either ws)
   where
-    go : (b : Bool) (x : Found) → Few (pick b (ofFound (λ s f. needs 14 (leb (length (spell f)) 131072) (answer (spell f))) x) (refusal 1))
+    go : (b : Bool) (x : Found) → Few (pick b (ofFound (breakAt Either ws) (λ s f. needs 14 (leb (length (spell f)) 131072) (answer (spell f))) x) (refusal 1))
     go true (found s f) = few-needs (spell f) (leb (length (spell f)) 131072) refl
     go true missing = omega arith
     go false x = omega arith
-few-printed (refusal k) = few-needs (spellNo k) (leb (length (spellNo k)) 131072) refl
+few-printed (stop k p) = few-needs (spellNo k p) (leb (length (spellNo k p)) 131072) refl
 
 answer-few : (line : List ℕ) → length (answerTo line) ≤ 131073
 unfolding answerTo replyOutcome

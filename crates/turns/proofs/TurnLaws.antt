@@ -223,7 +223,7 @@ module _ (st : State) (input list form work result output : List ℕ) (t : Turn)
     reply-done z e v f =
         let (rows, x, y, m) = reply-fits (rowsFit (length list) (length form) (length work) (length result)) st (length input) (length output) s (d .1) end next q in
         let (i, j, l, n) = rows-are (length list) (length form) (length work) (length result) rows in
-        let (bs, o, u) = reply-answers (λ _. Unit {0}) (λ _. tt) (λ _. tt) Answered 8192 8192 16384 8192 131072 (omega arith) in
+        let (bs, o, u) = reply-answers (λ _. Unit {0}) (λ _. tt) (λ _ _. tt) Answered 8192 8192 16384 8192 131072 (omega arith) in
         let (g, w) : (r ≡ told (replyOutcome Answered 8192 8192 16384 8192 131072)) × (sub ≡ written (replyOutcome Answered 8192 8192 16384 8192 131072) (take k (drop (st .used) output))) =
         rw (part-long m, i, j, l, n) at a in
         let p : answerUpTo st input end ≡ bs ++ (10 ∷ []) = ap withNewline o in

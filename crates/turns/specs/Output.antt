@@ -4,12 +4,12 @@ use mathlib.Core.List.{List, [], _∷_, _++_}
 use Prim.Native.Nat.{ℕ}
 use lib.Dec.{eqb}
 use Rattle.tree.specs.Form.{pick}
-use Rattle.form.specs.Answer.{Outcome, answer, refusal}
+use Rattle.form.specs.Answer.{Outcome, answer, stop}
 use Rattle.reply.specs.Reply.{replyOutcome}
 
 abbrev pub withNewline : Outcome → List ℕ
 withNewline (answer bs) = bs ++ (10 ∷ [])
-withNewline (refusal k) = []
+withNewline (stop k p) = []
 
 -- with the program's rows, and room for 131,072 bytes
 unfoldable pub answerTo : List ℕ → List ℕ

@@ -103,7 +103,7 @@ bodyOutcome d t ns body room = reducedIn t ns room (whole (decode d pred body))
 
 abbrev pub isBad : Answer → Bool
 isBad (Done n) = false
-isBad (No k) = eqb k 2
+isBad (No k p) = eqb k 2
 
 -- a body can be read d deep, with new marks for what is left of it
 pub record Reading (d : ℕ) (body ms : List ℕ) : Type 0 where

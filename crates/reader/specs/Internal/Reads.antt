@@ -32,12 +32,6 @@ unfoldable mutual
 unfoldable pub markTag : ℕ → ℕ → ℕ → List ℕ → List ℕ
 markTag t at u l = pick (isLeaf t) (set l at (suc u)) l
 
--- whether the words begin with a name or an index, within the depth
-unfoldable pub startsLeaf : ℕ → List ℕ → Bool
-startsLeaf d [] = false
-startsLeaf d (t ∷ []) = false
-startsLeaf d (t ∷ w ∷ ws) = leb 1 d && (isLeaf t && leb w 65535)
-
 -- a reader at `at` answers r and leaves the marks b, where they were a
 unfoldable pub Told : ℕ → ℕ → Got → List ℕ → List ℕ → Step → Type 0
 Told at u (got f x) a b r = (r ≡ End (at + length (encode f))) × (b ≡ mark f at u a)
@@ -50,6 +44,11 @@ ToldAll at u no-forms a b r = r ≡ Bad
 -- no form is read where the depth or the number of open declarations is over 65,535
 unfoldable pub decodeIn : ℕ → ℕ → Sort → List ℕ → Got
 decodeIn d u s ws = pick (leb d 65535 && leb u 65535) (decode d s ws) no-form
+
+-- whether a form was found, and its marks if it was
+abbrev pub isFound : Found → Bool
+isFound (found s f) = true
+isFound missing = false
 
 unfoldable pub Marked : Found → List ℕ → List ℕ → Type 0
 Marked (found s f) a b = b ≡ mark f 0 0 a

@@ -8,9 +8,9 @@ use lib.Dec.{leb, ltb, eqb}
 use lib.ListN.{length, getD, take, drop}
 use Rattle.tree.specs.Form.{pick, between}
 use Rattle.tree.specs.Tag.{expr}
-use Rattle.form.specs.Decode.{decode, whole, Found, found, missing, formOf}
+use Rattle.form.specs.Decode.{decode, whole, formOf}
 use Rattle.form.specs.Answer.{Outcome, answer, needs, isOne}
-pub use Rattle.reader.specs.Internal.Reads.{tableOf}
+pub use Rattle.reader.specs.Internal.Reads.{isFound, tableOf}
 use Rattle.form.specs.declared.answer.Kind.{Kind}
 use Rattle.form.specs.declared.answer.Kind.the-variants.{Predicate}
 use Rattle.reader.specs.declared.lists.Table.{Table}
@@ -118,11 +118,6 @@ unfoldable pub Fits : Piece → ℕ → Type 0
 Fits Same n = Unit {0}
 Fits (Index v) n = Unit {0}
 Fits (Part s e u d) n = (s ≤ e) × (e ≤ n)
-
--- whether a form was found
-abbrev pub isFound : Found → Bool
-isFound (found s f) = true
-isFound missing = false
 
 -- words that are answered where there is room for them
 abbrev pub fitted : List ℕ → ℕ → Outcome

@@ -15,6 +15,9 @@ abbrev μ-loop : tie.MeasureT-loop
 word-requires : tie.Need-word-requires Inv-loop μ-loop
 word-requires c κs = search needs
 
+word-requires-2 : tie.Need-word-requires-2 Inv-loop μ-loop
+word-requires-2 c κs = search needs
+
 loop-holds : tie.Need-loop-holds Inv-loop μ-loop
 loop-holds c = omega arith
 
@@ -33,8 +36,11 @@ words-part-requires c κs = search needs
 offer-once-requires : tie.Need-offer-once-requires Inv-loop μ-loop
 offer-once-requires c κs = search needs
 
-word-requires-2 : tie.Need-word-requires-2 Inv-loop μ-loop
-word-requires-2 c κs = search needs
+word-requires-3 : tie.Need-word-requires-3 Inv-loop μ-loop
+word-requires-3 c κs = search needs
+
+word-requires-4 : tie.Need-word-requires-4 Inv-loop μ-loop
+word-requires-4 c κs = search needs
 
 sub-left : tie.Need-sub-left Inv-loop μ-loop
 sub-left c = omega arith
@@ -58,13 +64,15 @@ run-spec =
     Inv-loop
     μ-loop
     word-requires
+    word-requires-2
     loop-holds
     add-start
     size-at-requires
     wrapping-add-usize-requires
     words-part-requires
     offer-once-requires
-    word-requires-2
+    word-requires-3
+    word-requires-4
     sub-left
     loop-less
     loop-again

@@ -1,4 +1,7 @@
 -- `listed::free::substitute_free_idents` meets its contract. Assumes nothing.
+use Rattle.replace.specs.Internal.Pieces.{isFound}
+use Rattle.form.specs.Break.{breakAt}
+use Rattle.form.specs.Decode.{formOf}
 use mathlib.Core.Path.{refl}
 use Prim.Native.Nat.{_≤_}
 use native.Mathlib.Omega.{arith}
@@ -7,7 +10,7 @@ use lib.ListN.{length}
 use Rattle.reader.specs.Internal.Reads.{emptyTable}
 use Rattle.reader.proofs.TableLaws.{listing-no}
 use Rattle.shift.proofs.CheckedLaws.{refused, passed}
-use Rattle.listed.proofs.CallLaws.{refused-by}
+use Rattle.listed.proofs.CallLaws.{refused-by, refused-at}
 use Rattle.replace.proofs.MarkLaws.{listing-kept}
 use Rattle.listed.proofs.ShallowLaws.{reading-missing, reading-checked, reading-shallow}
 use Rattle.replace.proofs.SmallLaws.{leaves-by}
@@ -35,7 +38,7 @@ returns-3 : tie.Need-returns-3
 returns-3 c =
     let b3 = c .before .before .before in
     let b8 = b3 .before .before .before .before .before in
-    refused-by _ _ _ _ (free-list-long (b8 .args .list .now) (b8 .args .row .now) _ _ (b3 .if1 .left) (c .before .before .if2 .left) (c .before .if3 .taken)) (c .refuse-list .ensures)
+    refused-by _ (isFound (formOf Either (b8 .args .row .now))) (breakAt Either (b8 .args .row .now)) _ _ (free-list-long (b8 .args .list .now) (b8 .args .row .now) _ _ (b3 .if1 .left) (c .before .before .if2 .left) (c .before .if3 .taken)) (c .refuse-list .ensures)
 
 mark-entries-requires : tie.Need-mark-entries-requires
 mark-entries-requires c κs = search needs
@@ -56,24 +59,30 @@ enum-known-sure c = search needs
 enum-told : tie.Need-enum-told
 enum-told c = search needs
 
+broken-at-requires : tie.Need-broken-at-requires
+broken-at-requires c κs = search needs
+
 same-length : tie.Need-same-length
 same-length c = search needs
 
 returns-4 : tie.Need-returns-4
 returns-4 c =
-    let b4 = c .before .before .before .before in
+    let b4 = c .before .before .before .before .before in
     let b6 = b4 .before .before in
     let b17 = b6 .before .before .before .before .before .before .before .before .before .before .before in
     let b18 = b17 .before in
     let b23 = b18 .before .before .before .before .before in
-    let left = leaves-by _ _ _ _ _ (b6 .depth-left-by .ensures) in refused _ _ _ _ (free-missing (b23 .args .list .now) (b23 .args .row .now) _ _ (b18 .if1 .left) (b17 .if2 .left) (reading-missing _ (left .most) _ _ _ (b4 .mark-row .ensures .0) (c .enum-told .given .1))) refl
+    let left = leaves-by _ _ _ _ _ (b6 .depth-left-by .ensures) in refused-at _ _ _ _ _ (free-missing (b23 .args .list .now) (b23 .args .row .now) _ _ (b18 .if1 .left) (b17 .if2 .left) (reading-missing _ (left .most) _ _ _ (b4 .mark-row .ensures .0) (c .before .enum-told .given .1))) (c .broken-at .ensures)
+
+broken-list-requires : tie.Need-broken-list-requires
+broken-list-requires c κs = search needs
 
 same-length-2 : tie.Need-same-length-2
 same-length-2 c = search needs
 
 returns-5 : tie.Need-returns-5
 returns-5 c =
-    let b3 = c .before .before .before in
+    let b3 = c .before .before .before .before in
     let b7 = b3 .before .before .before .before in
     let b9 = b7 .before .before in
     let b14 = b9 .before .before .before .before .before in
@@ -83,7 +92,7 @@ returns-5 c =
     let b26 = b21 .before .before .before .before .before in
     let left = leaves-by _ _ _ _ _ (b9 .depth-left-by .ensures) in
     let x = reading-checked _ (left .most) Either (b26 .args .row .now) _ (length (b26 .args .row .now)) _ refl _ _ (b20 .if2 .left) (b7 .mark-row .ensures .0) (b3 .sure .given .1) (b7 .mark-row .ensures .1 .0) in
-    refused _ _ _ _ (free-no-list (b26 .args .list .now) (b26 .args .row .now) _ _ (b21 .if1 .left) _ x (b19 .if3 .left) (listing-no _ _ _ _ _ _ (b14 .mark-entries .ensures) (not-true _ (c .if4 .taken)))) refl
+    refused-at _ _ _ _ _ (free-no-list (b26 .args .list .now) (b26 .args .row .now) _ _ (b21 .if1 .left) _ x (b19 .if3 .left) (listing-no _ _ _ _ _ _ (b14 .mark-entries .ensures) (not-true _ (c .before .if4 .taken)))) (c .broken-list .ensures)
 
 good-table-requires : tie.Need-good-table-requires
 good-table-requires c κs = search needs
@@ -164,8 +173,10 @@ substitute-free-idents-spec =
     mark-row-requires
     enum-known-sure
     enum-told
+    broken-at-requires
     same-length
     returns-4
+    broken-list-requires
     same-length-2
     returns-5
     good-table-requires

@@ -1,26 +1,24 @@
 -- `listed::marks::refuse_list` meets its contract. Assumes nothing.
-use borrow.Author.Needs.{needs}
 use Rattle.listed.proofs.ShallowLaws.{list-refused, list-long}
+use borrow.Author.Needs.{needs}
 use Rattle.listed.proofs.marks.refuse_list.Statement.{statement}
 use Rattle.listed.proofs.marks.refuse_list.Tie as tie
 use Rattle.listed.proofs.marks.refuse_list.Reads as reads
 use Rattle.listed.proofs.marks.refuse_list.Lts as lts
-use Rattle.reader.proofs.check.check.Reads as check-reads
+use Rattle.broken.proofs.position.broken_at.Reads as broken-at-reads
+use Rattle.reader.proofs.check.is_form.Reads as is-form-reads
 
-check-requires : tie.Need-check-requires
-check-requires c κs = search needs
-
-enum-known-n : tie.Need-enum-known-n
-enum-known-n c = search needs
-
-enum-told : tie.Need-enum-told
-enum-told c = search needs
+is-form-requires : tie.Need-is-form-requires
+is-form-requires c κs = search needs
 
 returns : tie.Need-returns
-returns c = let b4 = c .before .before .before .before in list-refused _ _ (b4 .pre) _ _ (c .before .before .check .ensures) (c .enum-told .given .1)
+returns c = let is-form = c .before .is-form in let if1 = c .if1 in list-long _ _ _ (is-form .ensures) (if1 .taken)
+
+broken-at-requires : tie.Need-broken-at-requires
+broken-at-requires c κs = search needs
 
 returns-2 : tie.Need-returns-2
-returns-2 c = let b3 = c .before .before .before in list-long _ _ _ _ (b3 .check .ensures) (c .before .n .given .1)
+returns-2 c = let is-form = c .before .before .is-form in let if1 = c .before .if1 in let broken-at = c .broken-at in list-refused _ _ _ (is-form .ensures) (if1 .left) _ (broken-at .ensures)
 
 pub refuse-list-spec : {M : Type 1} → statement M
-refuse-list-spec = tie.close (tie.spec check-requires enum-known-n enum-told returns returns-2)
+refuse-list-spec = tie.close (tie.spec is-form-requires returns broken-at-requires returns-2)

@@ -3,9 +3,9 @@ use mathlib.Core.Path.{refl, sym}
 use native.Mathlib.Omega.{arith}
 use lib.ListN.{length}
 use Rattle.form.specs.declared.answer.Kind.the-variants.{Predicate}
-use Rattle.shift.proofs.CheckedLaws.{refused, passed, is-missing, checked}
+use Rattle.shift.proofs.CheckedLaws.{refused, refused-up, passed, checked}
 use Rattle.prune.proofs.FallLaws.{same-fits}
-use Rattle.prune.proofs.PruneLaws.{ones-length, used-made, used-long, used-fits, prune-missing, prune-other, prune-few, prune-more, prune-apart, prune-row}
+use Rattle.prune.proofs.PruneLaws.{ones-length, used-made, used-long, used-fits, prune-refused, prune-other, prune-few, prune-more, prune-apart, prune-row}
 use borrow.Author.Needs.{needs}
 use Rattle.prune.proofs.prune.prune_in.Statement.{statement}
 use Rattle.prune.proofs.prune.prune_in.Tie as tie
@@ -19,8 +19,8 @@ use Rattle.prune.proofs.prune.drop_decls.Reads as drop-decls-reads
 mark-fresh-requires : tie.Need-mark-fresh-requires
 mark-fresh-requires c κs = search needs
 
-enum-known-k : tie.Need-enum-known-k
-enum-known-k c = search needs
+enum-known-checked : tie.Need-enum-known-checked
+enum-known-checked c = search needs
 
 enum-told : tie.Need-enum-told
 enum-told c = search needs
@@ -30,9 +30,7 @@ same-length c = search needs
 
 returns : tie.Need-returns
 returns c =
-    let b4 = c .before .before .before .before in
-    let b9 = b4 .before .before .before .before .before in
-    refused _ _ _ _ (prune-missing _ _ (b9 .pre .short) (is-missing _ _ _ _ (b9 .pre .short) (b4 .mark-fresh .ensures .0) (c .enum-told .given .1))) refl
+    refused-up _ _ _ _ _ (c .enum-told .given .1) (prune-refused _ _ _ _ _ (c .before .before .before .before .mark-fresh .ensures .0) (c .enum-told .given .1))
 
 declared-requires : tie.Need-declared-requires
 declared-requires c κs = search needs
@@ -45,7 +43,7 @@ returns-2 c =
     let b3 = c .before .before .before in
     let b7 = b3 .before .before .before .before in
     let b12 = b7 .before .before .before .before .before in
-    let x = checked Predicate (b12 .args .row .now) _ (length (b12 .args .row .now)) _ refl _ _ (b12 .pre .short) (b7 .mark-fresh .ensures .0) (b3 .k .given .1) (b7 .mark-fresh .ensures .1) in
+    let x = checked Predicate (b12 .args .row .now) _ (length (b12 .args .row .now)) _ refl _ _ (b12 .pre .short) (b7 .mark-fresh .ensures .0) (b3 .checked .given .1) (b7 .mark-fresh .ensures .1) in
     refused _ _ _ _ (prune-other _ _ _ x _ (c .before .declared .ensures) (c .if1 .taken)) refl
 
 cast-m : tie.Need-cast-m
@@ -62,7 +60,7 @@ array-borrow-prefix-words c =
     let b4 = c .before .before .before .before in
     let b8 = b4 .before .before .before .before in
     let b13 = b8 .before .before .before .before .before in
-    let x = checked Predicate (b13 .args .row .now) _ (length (b13 .args .row .now)) _ refl _ _ (b13 .pre .short) (b8 .mark-fresh .ensures .0) (b4 .k .given .1) (b8 .mark-fresh .ensures .1) in
+    let x = checked Predicate (b13 .args .row .now) _ (length (b13 .args .row .now)) _ refl _ _ (b13 .pre .short) (b8 .mark-fresh .ensures .0) (b4 .checked .given .1) (b8 .mark-fresh .ensures .1) in
     let few = prune-few _ 0 _ x _ (c .before .before .declared .ensures) (c .before .if1 .left) in
     omega arith
 
@@ -72,7 +70,7 @@ slice-aggregate-clear-used c =
     let b5 = b3 .before .before in
     let b9 = b5 .before .before .before .before in
     let b14 = b9 .before .before .before .before .before in
-    let x = checked Predicate (b14 .args .row .now) _ (length (b14 .args .row .now)) _ refl _ _ (b14 .pre .short) (b9 .mark-fresh .ensures .0) (b5 .k .given .1) (b9 .mark-fresh .ensures .1) in
+    let x = checked Predicate (b14 .args .row .now) _ (length (b14 .args .row .now)) _ refl _ _ (b14 .pre .short) (b9 .mark-fresh .ensures .0) (b5 .checked .given .1) (b9 .mark-fresh .ensures .1) in
     let few = prune-few _ 0 _ x _ (b3 .declared .ensures) (c .before .before .if1 .left) in
     sym (ones-length (b3 .declared .result) few)
 
@@ -83,7 +81,7 @@ clear-used-requires c κs =
     let b5 = b3 .before .before in
     let b9 = b5 .before .before .before .before in
     let b14 = b9 .before .before .before .before .before in
-    let x = checked Predicate (b14 .args .row .now) _ (length (b14 .args .row .now)) _ refl _ _ (b14 .pre .short) (b9 .mark-fresh .ensures .0) (b5 .k .given .1) (b9 .mark-fresh .ensures .1) in
+    let x = checked Predicate (b14 .args .row .now) _ (length (b14 .args .row .now)) _ refl _ _ (b14 .pre .short) (b9 .mark-fresh .ensures .0) (b5 .checked .given .1) (b9 .mark-fresh .ensures .1) in
     let few = prune-few _ 0 _ x _ (b3 .declared .ensures) (b2 .if1 .left) in
     let more = prune-more _ 0 _ x _ (b3 .declared .ensures) (b2 .if1 .left) in
     let apart = prune-apart (b14 .args .row .now) (b9 .mark-fresh .last .1 .1 .0) 0 x _ (b3 .declared .ensures) (b2 .if1 .left) in
@@ -106,7 +104,7 @@ part-drop-decls-end c =
     let b8 = b6 .before .before in
     let b12 = b8 .before .before .before .before in
     let b17 = b12 .before .before .before .before .before in
-    let x = checked Predicate (b17 .args .row .now) _ (length (b17 .args .row .now)) _ refl _ _ (b17 .pre .short) (b12 .mark-fresh .ensures .0) (b8 .k .given .1) (b12 .mark-fresh .ensures .1) in
+    let x = checked Predicate (b17 .args .row .now) _ (length (b17 .args .row .now)) _ refl _ _ (b17 .pre .short) (b12 .mark-fresh .ensures .0) (b8 .checked .given .1) (b12 .mark-fresh .ensures .1) in
     let few = prune-few _ 0 _ x _ (b6 .declared .ensures) (b5 .if1 .left) in
     used-fits (b6 .declared .result) few _ (b2 .clear-used .last .1 .1 .1 .1 .0) (b2 .clear-used .kept .1 .1 .1 .1 .0) (b2 .clear-used .ensures)
 
@@ -118,7 +116,7 @@ drop-decls-requires c κs =
     let b11 = b9 .before .before in
     let b15 = b11 .before .before .before .before in
     let b20 = b15 .before .before .before .before .before in
-    let x = checked Predicate (b20 .args .row .now) _ (length (b20 .args .row .now)) _ refl _ _ (b20 .pre .short) (b15 .mark-fresh .ensures .0) (b11 .k .given .1) (b15 .mark-fresh .ensures .1) in
+    let x = checked Predicate (b20 .args .row .now) _ (length (b20 .args .row .now)) _ refl _ _ (b20 .pre .short) (b15 .mark-fresh .ensures .0) (b11 .checked .given .1) (b15 .mark-fresh .ensures .1) in
     let few = prune-few _ 0 _ x _ (b9 .declared .ensures) (b8 .if1 .left) in
     let l = used-long (b9 .declared .result) few _ (b5 .clear-used .last .1 .1 .1 .1 .0) (b5 .clear-used .kept .1 .1 .1 .1 .0) (b5 .clear-used .ensures) in
     let more = prune-more _ 0 _ x _ (b9 .declared .ensures) (b8 .if1 .left) in
@@ -139,7 +137,7 @@ returns-3 c =
     let b14 = b12 .before .before in
     let b18 = b14 .before .before .before .before in
     let b23 = b18 .before .before .before .before .before in
-    let x = checked Predicate (b23 .args .row .now) _ (length (b23 .args .row .now)) _ refl _ _ (b23 .pre .short) (b18 .mark-fresh .ensures .0) (b14 .k .given .1) (b18 .mark-fresh .ensures .1) in
+    let x = checked Predicate (b23 .args .row .now) _ (length (b23 .args .row .now)) _ refl _ _ (b23 .pre .short) (b18 .mark-fresh .ensures .0) (b14 .checked .given .1) (b18 .mark-fresh .ensures .1) in
     let few = prune-few _ 0 _ x _ (b12 .declared .ensures) (b11 .if1 .left) in
     passed _ _ _ _ _ (prune-row (b23 .args .row .now) (b18 .mark-fresh .last .1 .1 .0) _ x _ (b12 .declared .ensures) (b11 .if1 .left) _ (used-made (b12 .declared .result) few _ (b8 .clear-used .last .1 .1 .1 .1 .0) (b8 .clear-used .kept .1 .1 .1 .1 .0) (b8 .clear-used .ensures))) (c .before .before .drop-decls .ensures)
 
@@ -148,7 +146,7 @@ prune-in-spec =
     tie.close
     (tie.spec
     mark-fresh-requires
-    enum-known-k
+    enum-known-checked
     enum-told
     same-length
     returns

@@ -1,58 +1,42 @@
--- `form::check::mark` meets its contract. Assumes nothing.
-use Rattle.reader.proofs.CheckLaws.{row-long, row-bad, row-whole, row-part}
+-- `reader::check::mark` meets its contract. Assumes nothing.
+use Rattle.reader.proofs.CheckLaws.{row-long, check-long, check-done, check-broken}
 use borrow.Author.Needs.{needs}
 use Rattle.reader.proofs.check.mark.Statement.{statement}
 use Rattle.reader.proofs.check.mark.Tie as tie
 use Rattle.reader.proofs.check.mark.Reads as reads
 use Rattle.reader.proofs.check.mark.Lts as lts
-use Rattle.reader.proofs.check.first_form.Reads as first-form-reads
-use Rattle.reader.proofs.check.is_expr.Reads as is-expr-reads
+use Rattle.broken.proofs.position.broken_at.Reads as broken-at-reads
+use Rattle.reader.proofs.check.mark_form.Reads as mark-form-reads
 
 returns : tie.Need-returns
-returns c = row-long _ _ _ _ (c .if1 .taken)
+returns c = let if1 = c .if1 in (check-long _ _ (if1 .taken), row-long _ _ _ _ (if1 .taken) .1)
 
-is-expr-requires : tie.Need-is-expr-requires
-is-expr-requires c κs = search needs
-
-first-form-requires : tie.Need-first-form-requires
-first-form-requires c κs = search needs
-
-enum-known-p : tie.Need-enum-known-p
-enum-known-p c = search needs
-
-enum-told : tie.Need-enum-told
-enum-told c = search needs
+mark-form-requires : tie.Need-mark-form-requires
+mark-form-requires c κs = search needs
 
 same-length : tie.Need-same-length
 same-length c = search needs
 
 returns-2 : tie.Need-returns-2
-returns-2 c = row-bad _ _ _ _ (c .before .before .before .before .before .before .before .if1 .left) _ (c .before .before .before .before .before .before .is-expr .ensures) _ (c .before .before .before .before .first-form .ensures) (c .enum-told .given .1)
+returns-2 c = let if1 = c .before .before .before .before .before .if1 in let mark-form = c .before .before .before .mark-form in let if2 = c .if2 in (check-done _ _ (if1 .left) _ (mark-form .ensures .0) (if2 .taken), mark-form .ensures .1)
+
+broken-at-requires : tie.Need-broken-at-requires
+broken-at-requires c κs = search needs
 
 same-length-2 : tie.Need-same-length-2
 same-length-2 c = search needs
 
 returns-3 : tie.Need-returns-3
-returns-3 c = row-whole _ _ _ _ (c .before .before .before .before .before .before .before .before .before .if1 .left) _ (c .before .before .before .before .before .before .before .before .is-expr .ensures) _ (c .before .before .before .before .before .before .first-form .ensures) _ (c .before .before .p .given .1) (c .if2 .taken)
-
-same-length-3 : tie.Need-same-length-3
-same-length-3 c = search needs
-
-returns-4 : tie.Need-returns-4
-returns-4 c = row-part _ _ _ _ (c .before .before .before .before .before .before .before .before .before .if1 .left) _ (c .before .before .before .before .before .before .before .before .is-expr .ensures) _ (c .before .before .before .before .before .before .first-form .ensures) _ (c .before .before .p .given .1) (c .if2 .left)
+returns-3 c = let if1 = c .before .before .before .before .before .before .if1 in let mark-form = c .before .before .before .before .mark-form in let if2 = c .before .if2 in let broken-at = c .broken-at in (check-broken _ _ (if1 .left) _ (mark-form .ensures .0) (if2 .left) _ (broken-at .ensures), mark-form .ensures .1)
 
 pub mark-spec : {M : Type 1} → statement M
 mark-spec =
     tie.close
     (tie.spec
     returns
-    is-expr-requires
-    first-form-requires
-    enum-known-p
-    enum-told
+    mark-form-requires
     same-length
     returns-2
+    broken-at-requires
     same-length-2
-    returns-3
-    same-length-3
-    returns-4)
+    returns-3)

@@ -16,9 +16,12 @@ slice-aggregate-mark-list c = search needs
 mark-list-requires : tie.Need-mark-list-requires
 mark-list-requires c κs = search needs
 
+broken-list-requires : tie.Need-broken-list-requires
+broken-list-requires c κs = search needs
+
 returns-2 : tie.Need-returns-2
 unfolding emptyTable
-returns-2 c = let b3 = c .before .before .before in let b8 = b3 .before .before .before .before .before in pairs-none _ (b8 .if1 .left) _ _ _ _ (b3 .mark-list .ensures) (not-true _ (c .if2 .taken))
+returns-2 c = let b3 = c .before .before .before .before in let b8 = b3 .before .before .before .before .before in pairs-none _ (b8 .if1 .left) _ _ _ _ (b3 .mark-list .ensures) (not-true _ (c .before .if2 .taken)) _ (c .broken-list .ensures)
 
 good-table-requires : tie.Need-good-table-requires
 good-table-requires c κs = search needs
@@ -38,6 +41,7 @@ check-pairs-spec =
     returns
     slice-aggregate-mark-list
     mark-list-requires
+    broken-list-requires
     returns-2
     good-table-requires
     returns-3

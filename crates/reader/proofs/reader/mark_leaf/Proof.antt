@@ -1,13 +1,13 @@
 -- `form::reader::mark_leaf` meets its contract. Assumes nothing.
 use mathlib.Core.Path.{refl, sym, _∙_}
 use native.Mathlib.Omega.{arith}
-use Rattle.reader.proofs.ReaderLaws.{leaf-room}
+use Rattle.form.proofs.LeafLaws.{leaf-room}
 use borrow.Author.Needs.{needs}
 use Rattle.reader.proofs.reader.mark_leaf.Statement.{statement}
 use Rattle.reader.proofs.reader.mark_leaf.Tie as tie
 use Rattle.reader.proofs.reader.mark_leaf.Reads as reads
 use Rattle.reader.proofs.reader.mark_leaf.Lts as lts
-use Rattle.reader.proofs.reader.is_leaf.Reads as is-leaf-reads
+use Rattle.form.proofs.head.is_leaf.Reads as is-leaf-reads
 use Rattle.reader.proofs.reader.put_mark.Reads as put-mark-reads
 
 is-leaf-requires : tie.Need-is-leaf-requires

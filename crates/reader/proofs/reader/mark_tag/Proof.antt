@@ -1,7 +1,7 @@
 -- `form::reader::mark_tag` meets its contract. Assumes nothing.
 use native.Mathlib.Numerals.{add-one}
 use Rattle.reader.specs.Internal.Reads.{markTag}
-use Rattle.reader.proofs.ReaderLaws.{leaf-tag, other-tag}
+use Rattle.form.proofs.LeafLaws.{leaf-tag, other-tag}
 use borrow.Author.Needs.{needs}
 use Rattle.reader.proofs.reader.mark_tag.Statement.{statement}
 use Rattle.reader.proofs.reader.mark_tag.Tie as tie

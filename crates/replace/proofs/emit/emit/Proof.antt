@@ -1,30 +1,25 @@
 -- `replace::emit::emit` meets its contract. Assumes nothing.
 use mathlib.Core.Path.{refl}
 use native.Mathlib.Omega.{arith}
-use borrow.Author.Needs.{needs}
+use borrow.Author.Tests.{not-true, not-false}
 use Rattle.shift.proofs.CheckedLaws.{refused}
 use Rattle.replace.proofs.BuildLaws.{emit-no, emit-room, emit-done}
+use borrow.Author.Needs.{needs}
 use Rattle.replace.proofs.emit.emit.Statement.{statement}
 use Rattle.replace.proofs.emit.emit.Tie as tie
 use Rattle.replace.proofs.emit.emit.Reads as reads
 use Rattle.replace.proofs.emit.emit.Lts as lts
-use Rattle.reader.proofs.check.check.Reads as check-reads
+use Rattle.reader.proofs.check.is_form.Reads as is-form-reads
 use Rattle.replace.proofs.emit.copy.Reads as copy-reads
 
-check-requires : tie.Need-check-requires
-check-requires c κs = search needs
-
-enum-known-n : tie.Need-enum-known-n
-enum-known-n c = search needs
-
-enum-told : tie.Need-enum-told
-enum-told c = search needs
+is-form-requires : tie.Need-is-form-requires
+is-form-requires c κs = search needs
 
 returns : tie.Need-returns
-returns c = refused _ _ _ _ (emit-no _ _ _ _ _ (c .before .before .check .ensures) (c .enum-told .given .1)) refl
+returns c = let is-form = c .before .is-form in let if1 = c .if1 in refused _ _ _ _ (emit-no _ _ _ _ (is-form .ensures) (not-true _ (if1 .taken))) refl
 
 returns-2 : tie.Need-returns-2
-returns-2 c = refused _ _ _ _ (emit-room _ _ _ _ (c .before .before .before .before .check .ensures) (c .before .before .n .given .1) _ (c .if1 .taken)) refl
+returns-2 c = let is-form = c .before .before .is-form in let if1 = c .before .if1 in let if2 = c .if2 in refused _ _ _ _ (emit-room _ _ _ (is-form .ensures) (not-false _ (if1 .left)) _ (if2 .taken)) refl
 
 copy-requires : tie.Need-copy-requires
 copy-requires c κs = omega arith
@@ -33,17 +28,8 @@ same-length : tie.Need-same-length
 same-length c = search needs
 
 returns-3 : tie.Need-returns-3
-returns-3 c = emit-done _ _ _ _ (c .before .before .before .before .before .before .before .before .check .ensures) (c .before .before .before .before .before .before .n .given .1) (c .before .before .before .before .before .before .before .before .before .before .before .args .out .now) _ (c .before .before .before .before .if1 .left) (c .before .before .copy .ensures)
+returns-3 c = let is-form = c .before .before .before .before .before .before .is-form in let if1 = c .before .before .before .before .before .if1 in let args = c .before .before .before .before .before .before .before .before .before .args in let if2 = c .before .before .before .before .if2 in let copy = c .before .before .copy in emit-done _ _ _ (is-form .ensures) (not-false _ (if1 .left)) (args .out .now) _ (if2 .left) (copy .ensures)
 
 pub emit-spec : {M : Type 1} → statement M
 emit-spec =
-    tie.close
-    (tie.spec
-    check-requires
-    enum-known-n
-    enum-told
-    returns
-    returns-2
-    copy-requires
-    same-length
-    returns-3)
+    tie.close (tie.spec is-form-requires returns returns-2 copy-requires same-length returns-3)

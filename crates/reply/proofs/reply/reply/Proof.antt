@@ -87,7 +87,7 @@ returns-3 : tie.Need-returns-3
 unfolding replyOutcome
 returns-3 c =
     let b5 = c .before .before .before .before .before in let b15 = b5 .before .before .before .before .before .before .before .before .before .before in let b26 = b15 .before .before .before .before .before .before .before .before .before .before .before in
-    said-same _ _ _ _ _ (no-there (lineOutcome (b26 .args .line .now) (length (b26 .args .list .now)) (length (b26 .args .form .now)) (length (b26 .args .work .now)) (length (b26 .args .result .now))) _ _ _ (b15 .answer-line .ensures) _ (length (b26 .args .bytes .now)) (b5 .k .given .1)) (c .before .before .print-no .ensures)
+    said-same _ _ _ _ _ (no-there (lineOutcome (b26 .args .line .now) (length (b26 .args .list .now)) (length (b26 .args .form .now)) (length (b26 .args .work .now)) (length (b26 .args .result .now))) _ _ _ (b15 .answer-line .ensures) _ _ (length (b26 .args .bytes .now)) (b5 .k .given .1)) (c .before .before .print-no .ensures)
 
 pub reply-spec : {M : Type 1} → statement M
 reply-spec =

@@ -1,7 +1,7 @@
 -- `sogbayile::code::code_of` meets its contract. Assumes nothing.
 use mathlib.Core.Path.{sym, ap, _∙_}
 use Rattle.sogbayile.specs.Code.{codeOf}
-use Rattle.sogbayile.proofs.CodeLaws.{code-done}
+use Rattle.sogbayile.proofs.CodeLaws.{code-done, code-no}
 use borrow.Author.Needs.{needs}
 use Rattle.sogbayile.proofs.code.code_of.Statement.{statement}
 use Rattle.sogbayile.proofs.code.code_of.Tie as tie
@@ -19,7 +19,7 @@ returns : tie.Need-returns
 returns c = sym (ap codeOf (c .before .answer .given .1) ∙ code-done _)
 
 returns-2 : tie.Need-returns-2
-returns-2 c = c .refusal-code .ensures ∙ sym (ap codeOf (c .before .before .answer2 .given .1))
+returns-2 c = c .refusal-code .ensures ∙ sym (ap codeOf (c .before .before .answer2 .given .1) ∙ code-no _ _)
 
 pub code-of-spec : {M : Type 1} → statement M
 code-of-spec =

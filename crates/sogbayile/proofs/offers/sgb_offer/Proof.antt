@@ -12,7 +12,7 @@ refusal-code-requires : tie.Need-refusal-code-requires
 refusal-code-requires c κs = search needs
 
 returns : tie.Need-returns
-returns c = (c .refusal-code .ensures ∙ ap (λ o. packed (o .number) 0) (c .before .before .before .before .check .ensures), (ap (λ o. o .places .starts) (c .before .before .before .before .check .ensures), ap (λ o. o .places .ends) (c .before .before .before .before .check .ensures)))
+returns c = (c .refusal-code .ensures ∙ ap (λ o. packed (o .number) (o .position)) (c .before .before .before .before .check .ensures), (ap (λ o. o .places .starts) (c .before .before .before .before .check .ensures), ap (λ o. o .places .ends) (c .before .before .before .before .check .ensures)))
 
 pub sgb-offer-spec : {M : Type 1} → statement M
 sgb-offer-spec = tie.close (tie.spec check-requires refusal-code-requires returns)

@@ -15,11 +15,14 @@ enum-known-n c = search needs
 enum-told : tie.Need-enum-told
 enum-told c = search needs
 
+broken-at-requires : tie.Need-broken-at-requires
+broken-at-requires c κs = search needs
+
 same-length : tie.Need-same-length
 same-length c = search needs
 
 returns : tie.Need-returns
-returns c = form-none _ _ (c .before .before .before .before .before .before .before .before .before .pre .0) _ _ _ (c .before .before .before .before .print-row .ensures) (c .enum-told .given .1)
+returns c = form-none _ _ (c .before .before .before .before .before .before .before .before .before .before .pre .0) _ _ _ (c .before .before .before .before .before .print-row .ensures) (c .before .enum-told .given .1) _ (c .broken-at .ensures)
 
 same-length-2 : tie.Need-same-length-2
 same-length-2 c = search needs
@@ -60,6 +63,7 @@ print-form-in-spec =
     print-row-requires
     enum-known-n
     enum-told
+    broken-at-requires
     same-length
     returns
     same-length-2

@@ -12,7 +12,7 @@ put-no-requires : tie.Need-put-no-requires
 put-no-requires c κs = search needs
 
 returns : tie.Need-returns
-returns c = no-room _ _ _ _ (c .before .before .put-no .ensures) _ (c .if1 .taken)
+returns c = no-room _ _ _ _ _ (c .before .before .put-no .ensures) _ (c .if1 .taken)
 
 put-no-requires-2 : tie.Need-put-no-requires-2
 put-no-requires-2 c κs = search needs
@@ -21,7 +21,7 @@ same-length : tie.Need-same-length
 same-length c = c .before .before .put-no2 .kept .0
 
 returns-2 : tie.Need-returns-2
-returns-2 c = no-done _ _ _ _ (c .before .before .before .before .before .before .put-no .ensures) _ (c .before .before .before .before .if1 .left) _ _ (c .before .before .put-no2 .ensures)
+returns-2 c = no-done _ _ _ _ _ (c .before .before .before .before .before .before .put-no .ensures) _ (c .before .before .before .before .if1 .left) _ _ (c .before .before .put-no2 .ensures)
 
 pub print-no-spec : {M : Type 1} → statement M
 print-no-spec =

@@ -21,20 +21,20 @@ put-byte-requires-4 c κs = omega arith
 put-decimal-requires : tie.Need-put-decimal-requires
 put-decimal-requires c κs = omega arith
 
-put-byte-requires-5 : tie.Need-put-byte-requires-5
-put-byte-requires-5 c κs =
+put-ending-requires : tie.Need-put-ending-requires
+put-ending-requires c κs =
     let b3 = c .before .before .before in let b22 = b3 .before .before .before .before .before .before .before .before .before .before .before .before .before .before .before .before .before .before .before in
     let e = wrote-end 4 _ _ _ _ (b3 .put-decimal .ensures) in let f = decimal-few (b22 .args .k) in omega arith
 
 same-length : tie.Need-same-length
 same-length c =
     let b6 = c .before .before .before .before .before .before in let b10 = b6 .before .before .before .before in let b14 = b10 .before .before .before .before in let b18 = b14 .before .before .before .before in let b22 = b18 .before .before .before .before in
-    c .before .before .put-byte5 .kept .0 ∙ b6 .put-decimal .kept .0 ∙ b10 .put-byte4 .kept .0 ∙ b14 .put-byte3 .kept .0 ∙ b18 .put-byte2 .kept .0 ∙ b22 .put-byte .kept .0
+    c .before .before .put-ending .kept .0 ∙ b6 .put-decimal .kept .0 ∙ b10 .put-byte4 .kept .0 ∙ b14 .put-byte3 .kept .0 ∙ b18 .put-byte2 .kept .0 ∙ b22 .put-byte .kept .0
 
 returns : tie.Need-returns
 returns c =
     let b6 = c .before .before .before .before .before .before in let b10 = b6 .before .before .before .before in let b14 = b10 .before .before .before .before in let b18 = b14 .before .before .before .before in let b22 = b18 .before .before .before .before in
-    wrote-no _ _ _ _ _ _ _ _ _ _ _ _ _ _ (b22 .put-byte .ensures) (b18 .put-byte2 .ensures) (b14 .put-byte3 .ensures) (b10 .put-byte4 .ensures) (b6 .put-decimal .ensures) (c .before .before .put-byte5 .ensures)
+    wrote-no _ _ _ _ _ _ _ _ _ _ _ _ _ _ _ (b22 .put-byte .ensures) (b18 .put-byte2 .ensures) (b14 .put-byte3 .ensures) (b10 .put-byte4 .ensures) (b6 .put-decimal .ensures) (c .before .before .put-ending .ensures)
 
 pub put-no-spec : {M : Type 1} → statement M
 put-no-spec =
@@ -45,6 +45,6 @@ put-no-spec =
     put-byte-requires-3
     put-byte-requires-4
     put-decimal-requires
-    put-byte-requires-5
+    put-ending-requires
     same-length
     returns)

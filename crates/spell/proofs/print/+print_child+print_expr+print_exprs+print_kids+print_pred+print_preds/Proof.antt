@@ -11,7 +11,7 @@ use Rattle.tree.specs.Tag.{expr, pred}
 use Rattle.form.specs.Decode.{decode, decodeAll}
 use Rattle.spell.specs.declared.print.Ends.{Ends}
 use Rattle.spell.specs.Internal.Writes.{PrintedAll}
-use Rattle.reader.proofs.ReaderLaws.{leaf-room}
+use Rattle.form.proofs.LeafLaws.{leaf-room}
 use Rattle.spell.proofs.WriteLaws.{wrote-end}
 use Rattle.spell.proofs.PrintLaws.{printed-within, all-within, all-more, all-stop, all-none, both-go, both-stop}
 use Rattle.spell.proofs.NodeLaws.{opening-few, too-deep, past-end, no-own, kids-stop, a-form, kids-within, leaf-printed}
@@ -42,7 +42,7 @@ use Rattle.form.proofs.head.pred_head.Reads as pred-head-reads
 use Rattle.spell.proofs.decimal.put_byte.Reads as put-byte-reads
 use Rattle.spell.proofs.print.put_head.Reads as put-head-reads
 use Rattle.spell.proofs.print.put_leaf.Reads as put-leaf-reads
-use Rattle.reader.proofs.reader.is_leaf.Reads as is-leaf-reads
+use Rattle.form.proofs.head.is_leaf.Reads as is-leaf-reads
 use Rattle.spell.proofs.print.+print_child+print_expr+print_exprs+print_kids+print_pred+print_preds.{statement}
 use Rattle.spell.proofs.print.+print_child+print_expr+print_exprs+print_kids+print_pred+print_preds.Tie.{close}
 

@@ -1,11 +1,11 @@
--- `form::reader::is_leaf` meets its contract. Assumes nothing.
+-- `form::head::is_leaf` meets its contract. Assumes nothing.
 use mathlib.Core.Path.{refl, sym}
-use Rattle.reader.proofs.ReaderLaws.{leaf-tag, other-tag, leaf-deep, leaf-gone, leaf-short, leaf-here}
+use Rattle.form.proofs.LeafLaws.{leaf-tag, other-tag, leaf-deep, leaf-gone, leaf-short, leaf-here}
 use borrow.Author.Needs.{needs}
-use Rattle.reader.proofs.reader.is_leaf.Statement.{statement}
-use Rattle.reader.proofs.reader.is_leaf.Tie as tie
-use Rattle.reader.proofs.reader.is_leaf.Reads as reads
-use Rattle.reader.proofs.reader.is_leaf.Lts as lts
+use Rattle.form.proofs.head.is_leaf.Statement.{statement}
+use Rattle.form.proofs.head.is_leaf.Tie as tie
+use Rattle.form.proofs.head.is_leaf.Reads as reads
+use Rattle.form.proofs.head.is_leaf.Lts as lts
 
 returns : tie.Need-returns
 returns c = sym (leaf-deep _ _ (c .if1 .taken))

@@ -1,0 +1,94 @@
+/* What a refusal by 2 costs. For each set of rows it measures the check of the rows (good), the check of the same rows with their last word
+ * damaged (broken), the position alone (the difference), and each call on the damaged rows. Nanoseconds a word, the least of all rounds.
+ *
+ *   refused ROUNDS < SETS        bench/refused.py writes the sets and builds this
+ *
+ * A set is a line "COMMAND SIZE COUNT", then for each row its list and itself, each with the number of its words in front. */
+#include <stdio.h>
+#include <stdlib.h>
+#include <string.h>
+#include <time.h>
+
+#include "sogbayile.h"
+
+enum { MOST = 64 };
+
+struct row {
+    uint32_t *list, *good, *broken;
+    size_t list_len, len;
+};
+
+static uint32_t out[SGB_MAX_WORDS], work[SGB_WORK_WORDS];
+static volatile uint64_t sink;
+
+static double now(void)
+{
+    struct timespec t;
+    clock_gettime(CLOCK_MONOTONIC, &t);
+    return t.tv_sec * 1e9 + t.tv_nsec;
+}
+
+static uint64_t call(const char *command, const struct row *r, const uint32_t *row)
+{
+    switch (command[0] << 8 | command[1]) {
+    case 's' << 8 | 'h': return sgb_shift(row, r->len, 1, out, SGB_MAX_WORDS);
+    case 'f' << 8 | 'r': return sgb_free(r->list, r->list_len, row, r->len, work, SGB_WORK_WORDS, out, SGB_MAX_WORDS);
+    case 'b' << 8 | 'i': return sgb_bind(r->list, r->list_len, row, r->len, out, SGB_MAX_WORDS);
+    case 'f' << 8 | 'i': return sgb_fill(r->list, r->list_len, row, r->len, work, SGB_WORK_WORDS, out, SGB_MAX_WORDS);
+    case 'p' << 8 | 'r': return sgb_prune(row, r->len, out, SGB_MAX_WORDS);
+    case 'p' << 8 | 'o': return sgb_point(row, r->len, work, SGB_WORK_WORDS, out, SGB_MAX_WORDS);
+    default: return sgb_member(row, r->len, work, SGB_WORK_WORDS, out, SGB_MAX_WORDS);
+    }
+}
+
+static uint32_t *words(size_t *n)
+{
+    if (scanf("%zu", n) != 1)
+        exit(1);
+    uint32_t *w = malloc((*n + 1) * sizeof *w);
+    for (size_t i = 0; i < *n; i++)
+        if (scanf("%u", &w[i]) != 1)
+            exit(1);
+    return w;
+}
+
+int main(int argc, char **argv)
+{
+    int rounds = argc > 1 ? atoi(argv[1]) : 200;
+    char command[16];
+    int size, count;
+    static struct row rows[MOST];
+    printf("command,words,check,broken,position,call,call broken\n");
+    while (scanf("%15s %d %d", command, &size, &count) == 3 && count <= MOST) {
+        double best[4] = {1e18, 1e18, 1e18, 1e18}, total = 0;
+        for (int i = 0; i < count; i++) {
+            struct row *r = &rows[i];
+            r->list = words(&r->list_len);
+            r->good = words(&r->len);
+            r->broken = malloc(r->len * sizeof *r->broken);
+            memcpy(r->broken, r->good, r->len * sizeof *r->broken);
+            r->broken[r->len - 1] = 70000;
+            total += r->len;
+            if (sgb_check(r->good, r->len) != 0 || sgb_number(call(command, r, r->good)) != 0)
+                return fprintf(stderr, "%s: a good row is refused\n", command), 1;
+            uint64_t want = (uint64_t)SGB_NOT_A_FORM << 32 | (r->len - 1);
+            if (sgb_check(r->broken, r->len) != want || call(command, r, r->broken) != want)
+                return fprintf(stderr, "%s: another position\n", command), 1;
+        }
+        for (int k = 0; k < rounds * (size < 200 ? 10 : 1); k++)
+            for (int way = 0; way < 4; way++) {
+                double start = now();
+                for (int i = 0; i < count; i++) {
+                    const struct row *r = &rows[i];
+                    const uint32_t *row = way % 2 ? r->broken : r->good;
+                    sink += way < 2 ? sgb_check(row, r->len) : call(command, r, row);
+                }
+                double taken = now() - start;
+                if (taken < best[way])
+                    best[way] = taken;
+            }
+        printf("%s,%d,%.2f,%.2f,%.2f,%.2f,%.2f\n", command, size, best[0] / total, best[1] / total, (best[1] - best[0]) / total,
+               best[2] / total, best[3] / total);
+    }
+    return 0;
+}

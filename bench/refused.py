@@ -1,0 +1,45 @@
+#!/usr/bin/env python3
+"""What a refusal by 2 costs: rows of bench/rows.py, good and with a damaged last word, through the static library (bench/refused.c).
+
+  python3 bench/refused.py [ROUNDS]        in the repository's root, after rt staticlib sogbayile; prints a table in Markdown
+"""
+import os
+import subprocess
+import sys
+
+sys.path.insert(0, "oracle")
+from position import items, place_row, words
+
+COMMANDS = ["shift", "bind", "free", "fill", "prune", "point", "member"]
+
+
+def parts(line):
+    """The list's words and the form's."""
+    head, rest = line[1:-1].split(" ", 1)
+    groups = [x for x in items(rest) if not isinstance(x, int)]
+    listed = groups[0] if head in ("bind", "free", "fill") else ""
+    return place_row(listed) if head == "fill" else words(listed), words(groups[-1])
+
+
+def main():
+    os.makedirs("target/bench", exist_ok=True)
+    subprocess.run(["cc", "-O2", "-Iinclude", "-o", "target/bench/refused", "bench/refused.c", "target/staticlib/libsogbayile.a"], check=True)
+    sets = []
+    for command in COMMANDS:
+        for size, count in ((20, 64), (200, 64), (2000, 24), (8000, 8)):
+            lines = subprocess.run([sys.executable, "bench/rows.py", command, str(size), str(count), "7"], stdout=subprocess.PIPE, check=True, text=True).stdout
+            sets.append("%s %d %d" % (command, size, count))
+            for line in lines.splitlines():
+                for row in parts(line):
+                    sets.append(" ".join(map(str, [len(row)] + row)))
+    said = subprocess.run(["target/bench/refused", sys.argv[1] if len(sys.argv) > 1 else "200"], input="\n".join(sets) + "\n", stdout=subprocess.PIPE, check=True, text=True).stdout
+    print("| rows of | words | check, good row | check, broken row | position | position / check | the call, good | the call, broken | the call, broken / check |")
+    print("|---|---|---|---|---|---|---|---|---|")
+    for line in said.splitlines()[1:]:
+        name, size, *times = line.split(",")
+        check, broken, position, call, refused = map(float, times)
+        print("| %s | %s | %.2f | %.2f | %.2f | %.2f | %.2f | %.2f | %.2f |" % (name, size, check, broken, position, position / check, call, refused, refused / check))
+
+
+if __name__ == "__main__":
+    main()

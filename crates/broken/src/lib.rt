@@ -1,0 +1,4 @@
+// Where a row that is refused breaks.
+pub mod due;
+pub mod position;
+pub mod seek;
