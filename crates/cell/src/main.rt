@@ -1,5 +1,8 @@
 // The cell program: reads commands from standard input, one a line, and prints one answer a line. What it does with the bytes is decided by
 // the functions of `turns`.
+mod explain;
+
+use explain::answer_arguments;
 use libc::STDIN_FILENO;
 use libc::STDOUT_FILENO;
 use turns::state::State;
@@ -58,7 +61,7 @@ fn run(
     }
 }
 
-fn main() {
+fn answer_lines() {
     let mut input = [0u8; 131072];
     let mut list = [0u32; 8192];
     let mut form = [0u32; 8192];
@@ -73,4 +76,12 @@ fn main() {
         &mut result,
         &mut output,
     );
+}
+
+fn main() {
+    if 1 < os::arg_count() {
+        answer_arguments();
+        return;
+    }
+    answer_lines();
 }
