@@ -135,7 +135,7 @@ def entries(kind):
 def command():
     """The line, and the position where its row breaks, or None where it is accepted."""
     kind = random.choice(["form", "form", "form", "predicate", "pairs", "places"])
-    row = form() if kind in ("form", "predicate") else entries(kind)
+    row = (form() if kind in ("form", "predicate") else entries(kind))[:cases.WORDS]
     for _ in range(random.choice([0, 1, 1, 1, 2])):
         row = damage(row)
     words = "[%s]" % " ".join(map(str, row))
@@ -149,6 +149,7 @@ def command():
             read = lambda: cases.form(row, "P" if kind == "predicate" else None)
         read()
     except cases.No as x:
+        assert x.k == 2, (x.k, line[:200])
         return kind, line, x.p, row
     return kind, line, None, row
 

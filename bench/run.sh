@@ -14,6 +14,7 @@ out=target/bench
 rm -f "$out"/run.*.csv
 for i in $(seq "$runs"); do "$out/driver" 10 >"$out/run.$i.csv"; done
 python3 bench/chart.py docs/benchmarks.svg "$out"/run.*.csv
+python3 bench/refused.py
 python3 bench/lines.py target/bin/cell "$out/oracle/oracle" 7
 command -v valgrind >/dev/null || exit 0
 for command in shift free bind fill prune point member; do

@@ -7,11 +7,14 @@
  * written (out, work, starts, ends) overlaps no other row of the same call.
  *
  * ANSWERS. Each call answers one number of 64 bits. The upper 32 bits are 0 for an answer and the number of
- * the refusal else. The lower 32 bits are for an answer the length of what was written, 0 for a check and an offer;
- * for a refusal by 2 the position of the first word at which no row of the kind asked for can go on within the
- * limits, or the number of words where they ran out, counted from 0 over the form, or over the list where that is
- * at fault; and 0 for every other refusal. An answer stands at the start of out; the words of out past its length are as they were. After a refusal all
- * of out is as it was. sgb_lift alone reads its upper 32 bits otherwise.
+ * the refusal else. The lower 32 bits are
+ *   - for an answer the length of what was written, 0 for a check and an offer;
+ *   - for a refusal by 2 the position p: the words before word p, counted from 0, can go on to a row of the kind
+ *     asked for within the limits, and with word p they cannot; where words ran out, p is the number of words. It
+ *     counts over the form, or over the list where the form is right and the list is at fault;
+ *   - for every other refusal 0.
+ * An answer stands at the start of out; the words of out past its length are as they were. After a refusal all
+ * of out is as it was. sgb_lift alone reads its upper 32 bits otherwise, and has no position.
  *
  * OWNERSHIP. All rows are the caller's. The library allocates nothing and keeps no pointer, has no state, and
  * may be called from several threads with rows of their own. A work row may hold anything before and after.
@@ -35,7 +38,8 @@ extern "C" {
 
 enum {
     SGB_TOO_LONG = 1,         /* a row longer than 8,192 words */
-    SGB_NOT_A_FORM = 2,       /* a row that is not exactly one form, or list, within the limits; or no predicate where one is needed; with a position */
+    SGB_NOT_A_FORM = 2,       /* a row that is not exactly one form, or list, within the limits; or no predicate where
+                                 one is needed; the lower 32 bits are the position */
     SGB_NOT_QUANTIFIED = 3,   /* fill or prune of what is not 851 or 852 */
     SGB_BAD_NAMES = 4,        /* a name listed twice, a name over 65,535, over 32 names */
     SGB_BAD_COUNT = 5,        /* another number of places than of declarations; a set for over 32 declarations */
@@ -54,10 +58,13 @@ enum {
 #define SGB_WORK_WORDS 16384  /* of a work row of free, fill, point and member */
 #define SGB_PLACES 32         /* of a set of places */
 
-/* The number of the refusal, or 0; the length of an answer; and the position of a refusal by 2, 0 for every other. */
+/* The number of the refusal, or 0; the length, where the number is 0; the position of a refusal by 2, and else 0. */
 static inline uint32_t sgb_number(uint64_t answer) { return (uint32_t)(answer >> 32); }
 static inline uint32_t sgb_length(uint64_t answer) { return (uint32_t)answer; }
-static inline uint32_t sgb_position(uint64_t answer) { return (uint32_t)answer; }
+static inline uint32_t sgb_position(uint64_t answer)
+{
+    return sgb_number(answer) == SGB_NOT_A_FORM ? (uint32_t)answer : 0;
+}
 
 /* Whether a row is exactly one form (of either kind, an expression, a predicate) within the limits. 1, 2. */
 uint64_t sgb_check(const uint32_t *row, size_t row_len);

@@ -69,3 +69,8 @@ worked-lists = (refl, refl, refl, refl, refl)
 pub worked-ran-out : (breakAt Either (101 ∷ 1 ∷ 4 ∷ []) ≡ 3) × (formOf Either (101 ∷ 1 ∷ 4 ∷ []) ≡ missing)
 unfolding breakAt breakFrom leastAll least after own ownOf shapeOf exprTags predTags formOf rowForm decode decodeAll read
 worked-ran-out = (refl, refl)
+
+-- a list of more than 8,192 words breaks at the first word too many, although its entries are right
+pub worked-too-long : breakList Places (replicate 8193 0) ≡ 8192
+unfolding breakList breakFrom leastAll least after
+worked-too-long = refl

@@ -1,4 +1,5 @@
--- No exported call answers over 8,192 words, and no position is over 8,192, so number, length and position can be read off its code. Assumes nothing.
+-- No exported call answers over 8,192 words, no position is over 8,192, and only a refusal by 2 has one; so number, length and position can be
+-- read off the code of a call. Assumes nothing.
 use mathlib.Core.Path.{_≡_, refl}
 use mathlib.Core.Bool.{Bool, true, false, not, _&&_}
 use mathlib.Core.List.{List, [], _∷_, _++_, map}
@@ -11,10 +12,10 @@ use lib.IntN.{ℤ}
 use lib.ListN.{length, length-append}
 use Rattle.tree.specs.Form.{free, bound, Form, leaf, node, Forms, none, more, pick, encode, encodeAll}
 use Rattle.tree.specs.Tag.{Sort, pred, expr, Own}
-use Rattle.form.specs.Decode.{Found, found, missing, formOf}
+use Rattle.form.specs.Decode.{rowForm, Found, found, missing, formOf}
 use Rattle.form.specs.Break.{Open, leastAll, after, breakFrom, breakSort, breakAt, breakList, entryOwn}
 use Rattle.form.specs.Lists.{Entry, wordOf, placeOf, listOf, goodNames}
-use Rattle.form.specs.Answer.{Outcome, answer, stop, refusal, told, number, lengthOf, position, ofFound, ofList, withForm, withList, needs, finish, checkOutcome, namesOutcome, pairsOutcome, placesOutcome}
+use Rattle.form.specs.Answer.{Outcome, answer, stop, refusal, told, number, lengthOf, position, ofFound, ofList, withForm, withList, needs, isOne, finish, checkOutcome, namesOutcome, pairsOutcome, placesOutcome}
 use Rattle.form.specs.declared.answer.Kind.{Kind}
 use Rattle.form.specs.declared.answer.Kind.the-variants.{Either, Expression, Predicate}
 use Rattle.form.specs.declared.answer.ListKind.{ListKind}
@@ -32,19 +33,19 @@ use Rattle.rules.specs.Member.{membership, memberOutcome}
 use Rattle.sogbayile.specs.Code.{codeOf}
 use Rattle.sogbayile.proofs.CodeLaws.{finish-short}
 
-unfoldable pub Short : Outcome → Type 0
-Short o = lengthOf (told o) + position (told o) ≤ 8192
+-- length and position have room in 32 bits, and only a refusal by 2 has a position
+pub record Short (o : Outcome) : Type 0 where
+  pub low : lengthOf (told o) + position (told o) ≤ 8192
+  pub only-two : (number (told o) ≡ 2 → ⊥) → position (told o) ≡ 0
 
 -- the upper 32 bits are the number; the lower ones the length of an answer, and the position of a refusal
 pub code-read : (o : Outcome) → Short o → (codeOf (told o) / 2 ^ 32 ≡ number (told o)) × (codeOf (told o) % 2 ^ 32 ≡ lengthOf (told o) + position (told o))
-unfolding Short
-code-read (answer ws) h = (omega (arith, h), omega (arith, h))
-code-read (stop k p) h = (omega (arith, h), omega (arith, h))
+code-read (answer ws) s = let h = s .low in (omega (arith, h), omega (arith, h))
+code-read (stop k p) s = let h = s .low in (omega (arith, h), omega (arith, h))
 
 -- the parts of the definitions
 refused : (k : ℕ) → Short (refusal k)
-unfolding Short
-refused k = omega arith
+refused k = record { low = omega arith; only-two = λ h. refl }
 
 -- a row that breaks
 break-by : (z : ℕ → Own) (at : ℕ) (x : Open) (ws : List ℕ) → at ≤ 8192 → breakFrom z at x ws ≤ 8192
@@ -74,16 +75,19 @@ unfolding breakList
 break-list-low kind row = break-by (entryOwn kind) 0 _ row (omega arith)
 
 broke : (p : ℕ) → p ≤ 8192 → Short (stop 2 p)
-unfolding Short
-broke p h = omega (arith, h)
+broke p h = record { low = omega (arith, h); only-two = λ k. absurd (k refl) }
 
 finished : (s : Sort) (room : ℕ) (g : Form) → Short (finish s room g)
-unfolding Short
-finished s room g = finish-short s room g
+unfolding finish
+finished s room g = record { low = finish-short s room g; only-two = λ h. by (isOne (rowForm s (encode g))) (leb (length (encode g)) room) }
+  where
+    by : (b c : Bool) → position (told (needs 7 b (needs 14 c (answer (encode g))))) ≡ 0
+    by true true = refl
+    by true false = refl
+    by false c = refl
 
 answered : (ws : List ℕ) → length ws ≤ 8192 → Short (answer ws)
-unfolding Short
-answered ws h = omega (arith, h)
+answered ws h = record { low = omega (arith, h); only-two = λ k. refl }
 
 tested : (k : ℕ) (b : Bool) (o : Outcome) → Short o → Short (needs k b o)
 tested k true o h = h
