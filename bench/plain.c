@@ -185,6 +185,102 @@ static u32 whole(struct op *op, const u32 *row, size_t n, int pred_only)
     return 0;
 }
 
+/* The check of a row that is to be one form of either kind. */
+uint64_t plain_check(const u32 *row, size_t n)
+{
+    struct op op = {.kind = CHECK};
+    return refuse(whole(&op, row, n, 0));
+}
+
+/* Where a row breaks: a word is taken if the fewest words that must come after it have room. */
+struct seek {
+    const u32 *row;
+    size_t n, at;
+};
+
+/* Takes the next word, which is between the limits, if so many words at least must come after it. */
+static int next(struct seek *s, u32 low, u32 high, uint64_t after)
+{
+    if (s->at >= s->n || s->row[s->at] < low || s->row[s->at] > high || s->at + 1 + after > WORDS)
+        return 0;
+    s->at++;
+    return 1;
+}
+
+/* The fewest words of so many children of a node at a depth. */
+static uint64_t least(u32 depth, uint64_t children) { return children == 0 || depth < DEPTH ? children : WORDS + 1; }
+
+/* A form from here on, after which so many words must come; where it breaks, s->at is the position. */
+static int seek(struct seek *s, int expr, u32 depth, uint64_t need)
+{
+    if (s->at >= s->n)
+        return 0;
+    u32 tag = s->row[s->at], names = 0, counted = 0, first = 0, low = 0, bound = 0;
+    uint64_t preds = 0, exprs = 0;
+    if (expr != is_expr(tag))
+        return 0;
+    switch (tag) {
+    case 1: case 2: case 7: names = 1; first = NAME; break;
+    case 3: names = 1; first = UINT32_MAX; break;
+    case 4: counted = 1; break;
+    case 5: case 8: preds = 1; break;
+    case 6: exprs = 2; break;
+    case 9: exprs = 1; break;
+    case 10: counted = 1; low = 1; break;
+    case 11: names = 1; first = NAME; counted = 1; break;
+    case 610: case 611: break;
+    case 251: case 252: preds = 2; break;
+    case 351: case 352: counted = 2; low = 2; break;
+    case 851: case 852: bound = 1; preds = 1; break;
+    default:
+        if ((101 <= tag && tag <= 112) || (201 <= tag && tag <= 227))
+            exprs = 2;
+        else if (301 <= tag && tag <= 307)
+            counted = 1, low = 2;
+        else if (expr && 751 <= tag && tag <= 764)
+            exprs = 1;
+        else if (801 <= tag && tag <= 803)
+            names = 1, first = 3, bound = 1, preds = exprs = 1;
+        else if (tag < 401 || tag > 412)
+            return 0;
+    }
+    uint64_t kids = preds + exprs + (counted ? low : 0);
+    if (!next(s, 0, UINT32_MAX, names + (counted != 0) + 2 * bound + least(depth, kids) + need))
+        return 0;
+    if (names && !next(s, 0, first, (counted != 0) + 2 * bound + least(depth, kids) + need))
+        return 0;
+    if (counted) {
+        uint64_t n = s->at < s->n ? s->row[s->at] : 0;
+        if (!next(s, low, UINT32_MAX, least(depth, n) + need))
+            return 0;
+        *(counted == 1 ? &exprs : &preds) = n;
+    }
+    if (bound) {
+        u32 n = s->at < s->n ? s->row[s->at] : 0;
+        if (!next(s, 1, DECLS, n + least(depth, kids) + need))
+            return 0;
+        while (n-- > 0)
+            if (!next(s, 0, NAME, n + least(depth, kids) + need))
+                return 0;
+    }
+    for (uint64_t left = preds + exprs; left-- > 0;)
+        if (!seek(s, left < exprs, depth + 1, left + need))
+            return 0;
+    return 1;
+}
+
+/* The check, with the position where it is 2. */
+uint64_t plain_position(const u32 *row, size_t n)
+{
+    uint64_t answer = plain_check(row, n);
+    if (answer >> 32 != 2)
+        return answer;
+    struct seek e = {row, n, 0}, p = {row, n, 0};
+    seek(&e, 1, 1, 0);
+    seek(&p, 0, 1, 0);
+    return answer | (e.at > p.at ? e.at : p.at);
+}
+
 /* The own words after the tag of a checked form, its children and its declarations. */
 static void shape(const u32 *row, u32 *own, u32 *children, u32 *bound)
 {

@@ -1,5 +1,5 @@
 /* What a refusal by 2 costs. For each set of rows it measures the check of the rows (good), the check of the same rows with their last word
- * damaged (broken), the position alone (the difference), and each call on the damaged rows. Nanoseconds a word, the least of all rounds.
+ * damaged (broken), the same two of plain C (bench/plain.c), and the call on both. Nanoseconds a word, the least of all rounds.
  *
  *   refused ROUNDS < SETS        bench/refused.py writes the sets and builds this
  *
@@ -11,7 +11,10 @@
 
 #include "sogbayile.h"
 
-enum { MOST = 64 };
+enum { MOST = 64, WAYS = 6 };
+
+uint64_t plain_check(const uint32_t *row, size_t n);
+uint64_t plain_position(const uint32_t *row, size_t n);
 
 struct row {
     uint32_t *list, *good, *broken;
@@ -58,9 +61,9 @@ int main(int argc, char **argv)
     char command[16];
     int size, count;
     static struct row rows[MOST];
-    printf("command,words,check,broken,position,call,call broken\n");
+    printf("command,words,check,broken,call,call broken,C check,C broken\n");
     while (scanf("%15s %d %d", command, &size, &count) == 3 && count <= MOST) {
-        double best[4] = {1e18, 1e18, 1e18, 1e18}, total = 0;
+        double best[WAYS] = {1e18, 1e18, 1e18, 1e18, 1e18, 1e18}, total = 0;
         for (int i = 0; i < count; i++) {
             struct row *r = &rows[i];
             r->list = words(&r->list_len);
@@ -72,23 +75,25 @@ int main(int argc, char **argv)
             if (sgb_check(r->good, r->len) != 0 || sgb_number(call(command, r, r->good)) != 0)
                 return fprintf(stderr, "%s: a good row is refused\n", command), 1;
             uint64_t want = (uint64_t)SGB_NOT_A_FORM << 32 | (r->len - 1);
-            if (sgb_check(r->broken, r->len) != want || call(command, r, r->broken) != want)
+            if (sgb_check(r->broken, r->len) != want || call(command, r, r->broken) != want || plain_position(r->broken, r->len) != want || plain_check(r->good, r->len) != 0)
                 return fprintf(stderr, "%s: another position\n", command), 1;
         }
         for (int k = 0; k < rounds * (size < 200 ? 10 : 1); k++)
-            for (int way = 0; way < 4; way++) {
+            for (int way = 0; way < WAYS; way++) {
                 double start = now();
                 for (int i = 0; i < count; i++) {
                     const struct row *r = &rows[i];
                     const uint32_t *row = way % 2 ? r->broken : r->good;
-                    sink += way < 2 ? sgb_check(row, r->len) : call(command, r, row);
+                    sink += way < 2 ? sgb_check(row, r->len) : way < 4 ? call(command, r, row) : plain_position(row, r->len);
                 }
                 double taken = now() - start;
                 if (taken < best[way])
                     best[way] = taken;
             }
-        printf("%s,%d,%.2f,%.2f,%.2f,%.2f,%.2f\n", command, size, best[0] / total, best[1] / total, (best[1] - best[0]) / total,
-               best[2] / total, best[3] / total);
+        printf("%s,%d", command, size);
+        for (int way = 0; way < WAYS; way++)
+            printf(",%.2f", best[way] / total);
+        printf("\n");
     }
     return 0;
 }

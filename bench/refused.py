@@ -23,7 +23,8 @@ def parts(line):
 
 def main():
     os.makedirs("target/bench", exist_ok=True)
-    subprocess.run(["cc", "-O2", "-Iinclude", "-o", "target/bench/refused", "bench/refused.c", "target/staticlib/libsogbayile.a"], check=True)
+    subprocess.run(["cc", "-std=gnu11", "-O3", "-c", "-o", "target/bench/plain.o", "bench/plain.c"], check=True)
+    subprocess.run(["cc", "-O2", "-Iinclude", "-o", "target/bench/refused", "bench/refused.c", "target/bench/plain.o", "target/staticlib/libsogbayile.a"], check=True)
     sets = []
     for command in COMMANDS:
         for size, count in ((20, 64), (200, 64), (2000, 24), (8000, 8)):
@@ -33,12 +34,14 @@ def main():
                 for row in parts(line):
                     sets.append(" ".join(map(str, [len(row)] + row)))
     said = subprocess.run(["target/bench/refused", sys.argv[1] if len(sys.argv) > 1 else "200"], input="\n".join(sets) + "\n", stdout=subprocess.PIPE, check=True, text=True).stdout
-    print("| rows of | words | check, good row | check, broken row | position | position / check | the call, good | the call, broken | the call, broken / check |")
-    print("|---|---|---|---|---|---|---|---|---|")
+    print("| rows of | words | check | position | C check | C position | position / check | position / C | the call, good row | the call, broken row | broken row / check |")
+    print("|---|---|---|---|---|---|---|---|---|---|---|")
     for line in said.splitlines()[1:]:
         name, size, *times = line.split(",")
-        check, broken, position, call, refused = map(float, times)
-        print("| %s | %s | %.2f | %.2f | %.2f | %.2f | %.2f | %.2f | %.2f |" % (name, size, check, broken, position, position / check, call, refused, refused / check))
+        check, broken, call, refused, plain, plain_broken = map(float, times)
+        position, plain_position = broken - check, plain_broken - plain
+        print("| %s | %s | %.2f | %.2f | %.2f | %.2f | %.2f | %.2f | %.2f | %.2f | %.2f |" % (
+            name, size, check, position, plain, plain_position, position / check, position / plain_position, call, refused, refused / check))
 
 
 if __name__ == "__main__":

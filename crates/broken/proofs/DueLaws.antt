@@ -1,10 +1,10 @@
 -- The rest of a node as the code holds it: what its names and children say. Assumes nothing.
-use mathlib.Core.Path.{_≡_, refl, ap, sym, _∙_}
-use mathlib.Core.Bool.{Bool, true, false}
+use mathlib.Core.Path.{_≡_, refl}
+use mathlib.Core.Bool.{false}
 use Prim.Native.Nat.{ℕ, zero, suc, _+_, _-_, _*_, _≤_, _<_}
 use native.Mathlib.Omega.{arith}
 use borrow.Author.Tests.{le-leb, lt-leb, lt-ltb, ne-eqb}
-use lib.Dec.{leb, ltb, eqb}
+use lib.Dec.{ltb, eqb}
 use Rattle.tree.specs.Tag.{expr, pred, Own, ask, kids, wrong, own}
 use Rattle.form.specs.Break.{least}
 use Rattle.broken.specs.Internal.Seeks.{isOwn, isDone, onlyExprs, afterWord, childOf, fewer}

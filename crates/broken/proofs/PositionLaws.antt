@@ -1,15 +1,15 @@
 -- The position at which a whole row breaks, from what the search answers. Assumes nothing.
-use mathlib.Core.Path.{_≡_, refl, ap, sym, _∙_}
+use mathlib.Core.Path.{_≡_, refl, sym, _∙_}
 use mathlib.Core.Bool.{Bool, true, false}
 use mathlib.Core.List.{List, [], _∷_}
-use Prim.Native.Nat.{ℕ, zero, suc, _+_, _≤_, _<_}
+use Prim.Native.Nat.{ℕ, suc, _+_, _≤_, _<_}
 use native.Mathlib.Omega.{arith}
-use borrow.Author.Tests.{lt-leb, le-leb, leb-true}
+use borrow.Author.Tests.{lt-leb}
 use lib.Dec.{leb}
 use lib.ListN.{length, getD, drop}
 use Rattle.tree.specs.Form.{pick}
-use Rattle.tree.specs.Tag.{Own, kids, wrong}
-use Rattle.form.specs.Break.{Open, nothing, rest, least, leastAll, after, breakFrom, entryOwn, breakList}
+use Rattle.tree.specs.Tag.{Own, wrong}
+use Rattle.form.specs.Break.{nothing, rest, least, leastAll, after, breakFrom, entryOwn, breakList}
 use Rattle.form.specs.declared.answer.ListKind.{ListKind}
 use Rattle.broken.specs.declared.seek.Sought.{Sought}
 use Rattle.broken.specs.Internal.Seeks.{Seeks}

@@ -1,19 +1,19 @@
 -- The search for the break, word by word: what is reached, and what is answered where the row breaks. Assumes nothing.
-use mathlib.Core.Path.{_≡_, refl, ap, sym, _∙_}
+use mathlib.Core.Path.{_≡_, refl, sym, _∙_}
 use mathlib.Core.Bool.{Bool, true, false, not, _&&_}
 use mathlib.Core.List.{List, [], _∷_}
-use Prim.Native.Nat.{ℕ, zero, suc, _+_, _-_, _*_, _≤_, _<_}
+use Prim.Native.Nat.{ℕ, zero, suc, _+_, _-_, _≤_, _<_}
 use native.Mathlib.Numerals.{add-one}
 use native.Mathlib.Nat.{le-refl, le-trans}
 use native.Mathlib.Omega.{arith}
 use borrow.Author.Tests.{le-leb, lt-leb, leb-true, not-true, not-false}
 use lib.Dec.{leb}
 use lib.ListN.{length, getD, drop}
-use Rattle.tree.specs.Form.{pick, between}
+use Rattle.tree.specs.Form.{pick}
 use Rattle.tree.specs.Tag.{expr, Own, ask, kids, wrong, own, ownOf, shapeOf, exprTags}
 use Rattle.form.specs.Decode.{isLeaf}
 use Rattle.form.specs.Internal.Heads.{startsLeaf}
-use Rattle.form.specs.Break.{Open, nothing, rest, leastForm, least, leastAll, after, breakFrom}
+use Rattle.form.specs.Break.{Open, rest, leastForm, least, leastAll, after, breakFrom}
 use Rattle.form.proofs.DecodeLaws.{clash, high-tag}
 use Rattle.form.proofs.HeadLaws.{gone, here}
 use Rattle.form.proofs.LeafLaws.{two-words, leaf-room}

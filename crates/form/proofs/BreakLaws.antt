@@ -3,17 +3,13 @@
 use mathlib.Core.Path.{_≡_, refl, ap, sym, _∙_}
 use mathlib.Core.Bool.{Bool, true, false}
 use mathlib.Core.List.{List, [], _∷_, _++_}
-use Prim.Native.Nat.{ℕ, zero, suc, _+_, _-_, _*_, _≤_, _<_}
+use Prim.Native.Nat.{ℕ, zero, suc, _+_, _-_, _≤_}
 use native.Mathlib.Omega.{arith}
-use borrow.Author.Tests.{le-leb, lt-leb, leb-true}
-use lib.Dec.{leb}
 use lib.ListN.{length, length-append}
 use Rattle.tree.specs.Form.{Form, Forms, none, more, pick, between, encode}
-use Rattle.tree.specs.Tag.{Sort, expr, pred, Own, ask, kids, wrong, own, ownOf, Tags, find, exprTags, predTags, shapeOf, sorts}
-use Rattle.tree.specs.declared.tag.Shape.{Shape}
-use Rattle.tree.specs.declared.tag.Shape.the-variants.{Unknown, Plain, Name, Value, Exprs, Preds, Apply, Compr, Quant}
-use Rattle.form.specs.Decode.{Head, head, bad, names, read, Got, got, no-form, Gots, gots, no-forms, make, close, chain, decodeAll, branch, decode}
-use Rattle.form.specs.Break.{Open, nothing, rest, leastForm, least, leastAll, after, breakFrom}
+use Rattle.tree.specs.Tag.{Sort, expr, pred, Own, ask, kids, wrong, own, sorts}
+use Rattle.form.specs.Decode.{Head, head, bad, names, read, got, gots, make, decodeAll, branch, decode}
+use Rattle.form.specs.Break.{Open, rest, leastForm, least, leastAll, after}
 use Rattle.form.proofs.DecodeLaws.{clash, only-head, only-name, chain-sound, close-sound, decode-sound, read-exact}
 
 -- the fewest words, by what comes next

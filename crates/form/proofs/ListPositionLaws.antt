@@ -1,8 +1,8 @@
 -- Where a list breaks is where document 02 says: some list of the kind of at most 8,192 words begins with the words before the break, and none
 -- with these and the next word. Assumes nothing.
-use mathlib.Core.Path.{_≡_, refl, ap, sym, _∙_}
+use mathlib.Core.Path.{_≡_, refl, ap, _∙_}
 use mathlib.Core.Bool.{Bool, true, false}
-use mathlib.Core.List.{List, [], _∷_, _++_, append-assoc}
+use mathlib.Core.List.{List, [], _∷_, _++_}
 use mathlib.Core.Option.{Option, none as absent, some}
 use Prim.Native.Nat.{ℕ, zero, suc, _+_, _≤_, _<_}
 use native.Mathlib.Nat.{le-refl}
@@ -11,16 +11,16 @@ use borrow.Author.Tests.{lt-leb}
 use lib.Dec.{leb}
 use lib.ListN.{length, take, drop, length-append, take-append-drop}
 use lib.Seq.{length-take-le}
-use Rattle.tree.specs.Form.{Form, Forms, none, more, pick, encode}
+use Rattle.tree.specs.Form.{Form, none, more, pick, encode}
 use Rattle.tree.specs.Tag.{expr, Own, kids, wrong}
 use Rattle.form.specs.Decode.{got, decodeAll, decode}
 use Rattle.form.specs.Lists.{kept, filled, Entry, entry, entryOf, entryWords, listOf, encodeList}
-use Rattle.form.specs.Break.{Open, nothing, rest, leastAll, after, breakFrom, entryOwn, breakList}
+use Rattle.form.specs.Break.{nothing, rest, leastAll, after, breakFrom, entryOwn, breakList}
 use Rattle.form.specs.declared.answer.ListKind.{ListKind}
 use Rattle.form.specs.declared.answer.ListKind.the-variants.{Pairs, Places}
-use Rattle.form.proofs.DecodeLaws.{clash, Ok, chain-sound, decode-encode, decode-sound}
+use Rattle.form.proofs.DecodeLaws.{Ok, chain-sound, decode-encode, decode-sound}
 use Rattle.form.proofs.ListLaws.{GoodAll, list-step, list-nil, list-sound}
-use Rattle.form.proofs.BreakLaws.{Fine, fine-kids, fine-wrong, Runs, run-room, too-many, pop, push, kids-run, kids-go}
+use Rattle.form.proofs.BreakLaws.{Fine, fine-kids, fine-wrong, Runs, too-many, pop, push, kids-run, kids-go}
 use Rattle.form.proofs.PositionLaws.{own-fine, good-none, goes-on, run-prefix, run-length}
 
 entry-fine : (kind : ListKind) (w : ℕ) → Fine (entryOwn kind w)

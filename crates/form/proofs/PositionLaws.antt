@@ -1,28 +1,26 @@
 -- Where a row breaks is where document 02 says: some row of the kind within the limits begins with the words before the break, and none with
 -- these and the next word. Assumes nothing.
-use mathlib.Core.Path.{_≡_, refl, ap, sym, _∙_}
+use mathlib.Core.Path.{_≡_, refl, sym, _∙_}
 use mathlib.Core.Bool.{Bool, true, false, _&&_}
-use mathlib.Core.Logic.{⊎-elim}
 use mathlib.Core.List.{List, [], _∷_, _++_, append-nil}
-use Prim.Native.Nat.{ℕ, zero, suc, _+_, _-_, _*_, _≤_, _<_}
+use Prim.Native.Nat.{ℕ, zero, suc, _+_, _-_, _≤_, _<_}
 use native.Mathlib.Nat.{le-refl}
 use native.Mathlib.Omega.{arith}
-use borrow.Author.Tests.{le-leb, lt-leb, leb-true, leb-false}
+use borrow.Author.Tests.{le-leb, leb-true, leb-false}
 use lib.Dec.{leb}
-use lib.ListN.{length, take, drop, length-append, take-append-drop}
+use lib.ListN.{length, take, drop, take-append-drop}
 use lib.Seq.{length-take-le}
-use Rattle.tree.specs.Form.{Form, Forms, none, more, pick, between, encode}
-use Rattle.tree.specs.Tag.{Sort, expr, pred, Own, ask, kids, wrong, own, ownOf, Tags, find, exprTags, predTags, shapeOf, sorts}
+use Rattle.tree.specs.Form.{Form, none, more, pick, between, encode}
+use Rattle.tree.specs.Tag.{Sort, expr, pred, Own, ask, kids, wrong, own, ownOf, Tags, find, exprTags, predTags, shapeOf}
 use Rattle.tree.specs.declared.tag.Shape.{Shape}
-use Rattle.tree.specs.declared.tag.Shape.the-variants.{Unknown, Plain, Name, Value, Exprs, Preds, Apply, Compr, Quant}
-use Rattle.form.specs.Decode.{Got, got, no-form, Gots, gots, no-forms, decodeAll, decode, Whole, one, not-one, whole, rowForm, Found, found, missing, asSort, either, formOf}
-use Rattle.form.specs.Break.{Open, nothing, rest, leastForm, least, leastAll, after, breakFrom, breakSort, breakAt}
+use Rattle.form.specs.Decode.{got, decodeAll, decode, Whole, one, not-one, rowForm, Found, found, missing, asSort, either, formOf}
+use Rattle.form.specs.Break.{Open, nothing, rest, least, leastAll, after, breakFrom, breakSort, breakAt}
 use Rattle.form.specs.declared.answer.Kind.{Kind}
 use Rattle.form.specs.declared.answer.Kind.the-variants.{Expression, Predicate, Either}
 use Rattle.form.proofs.DecodeLaws.{clash, chain-sound, decode-encode}
 use Rattle.form.proofs.HeadLaws.{between-in}
 use Rattle.form.proofs.RowLaws.{found-exact, row-one}
-use Rattle.form.proofs.BreakLaws.{Fine, fine-ask, fine-kids, fine-wrong, Runs, run-room, too-many, GotsRun, kids-run, kids-go, open-rest, open-ask, open-nil, open-wrong, open-name, open-pred, open-expr}
+use Rattle.form.proofs.BreakLaws.{Fine, fine-ask, fine-kids, fine-wrong, Runs, run-room, too-many, kids-run, kids-go, open-ask, open-nil, open-wrong, open-name, open-pred, open-expr}
 
 -- the table's own words: a count from its least on, and what follows grows with it
 kids-grow : (d n p e n′ p′ e′ : ℕ) → n ≤ n′ → p ≤ p′ → e ≤ e′ → least d (kids n p e) ≤ least d (kids n′ p′ e′)

@@ -1,11 +1,12 @@
 -- Where a row breaks, in document 02's own words (Paper 4). Words are viable where some acceptable row begins with them; parsing calls them a
 -- viable prefix. The words before the break are viable, with the word at the break they are not, and an accepted row has no break before its
--- end. Only one number is such a break (`break-only`), so these theorems fix it without a look at its definition. Assumes nothing.
-use mathlib.Core.Path.{_≡_, refl, sym, _∙_}
+-- end. Only one number is such a break (`row-break-only`, `list-break-only`), so these theorems fix it without a look at its definition. Assumes
+-- nothing.
+use mathlib.Core.Path.{_≡_, refl, sym}
 use mathlib.Core.Bool.{Bool, true, false}
 use mathlib.Core.List.{List, [], _∷_, _++_, append-nil, append-assoc}
 use mathlib.Core.Option.{Option, none as absent, some}
-use Prim.Native.Nat.{ℕ, zero, suc, _+_, _≤_, _<_}
+use Prim.Native.Nat.{ℕ, suc, _+_, _≤_, _<_}
 use native.Mathlib.Nat.{le-refl}
 use native.Mathlib.Omega.{arith}
 use borrow.Author.Tests.{leb-true, leb-false}

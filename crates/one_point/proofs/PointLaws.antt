@@ -10,7 +10,7 @@ use lib.Dec.{eqb}
 use lib.ListN.{length, take, drop, replicate, length-take, length-drop, length-replicate}
 use Rattle.tree.specs.Form.{Form, pick, encode}
 use Rattle.tree.specs.Tag.{Sort, expr, pred}
-use Rattle.form.specs.Decode.{read, Got, got, no-form, decode, one, whole as whole-of}
+use Rattle.form.specs.Decode.{Got, got, no-form, decode, whole as whole-of}
 use Rattle.form.specs.Answer.{Outcome, answer, refusal, told, written, stop}
 use Rattle.form.specs.declared.answer.Answer.{Answer}
 use Rattle.form.proofs.DecodeLaws.{clash, Ok, decode-encode}

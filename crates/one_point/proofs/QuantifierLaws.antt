@@ -26,7 +26,6 @@ use Rattle.replace.specs.Internal.Pieces.{declaredIn, areNames}
 use Rattle.replace.proofs.BuildLaws.{rest-part}
 use Rattle.replace.proofs.QuantLaws.{not-quant, tag-node, tag-heading}
 use Rattle.replace.proofs.OkLaws.{node-names}
-use Rattle.rules.specs.Replacement.{nothing}
 use Rattle.rules.specs.Scan.{scan}
 use Rattle.rules.specs.Point.{polarity, restOf, reduce, onePoint, ofResult, pointOutcome}
 use Rattle.one_point.specs.Internal.Reduce.{isQuantifier, headed, quantifierIn, reducedIn, bodyOutcome, isBad, Reducing}

@@ -14,7 +14,6 @@ use Rattle.tree.specs.Form.{Leaf, free, bound, Form, leaf, pick, encode}
 use Rattle.tree.specs.Tag.{Sort, pred}
 use Rattle.form.specs.declared.answer.Answer.the-variants.{No}
 use Rattle.form.specs.declared.answer.Answer.{Answer}
-use Rattle.form.specs.Decode.{missing, formOf}
 use Rattle.form.specs.Lists.{Place, kept, filled}
 use Rattle.form.specs.Answer.{Outcome, answer, refusal, needs, finish, stop, told, checkOutcome}
 use Rattle.reader.specs.Internal.Reads.{mark}

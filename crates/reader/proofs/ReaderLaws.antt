@@ -5,9 +5,9 @@ use mathlib.Core.List.{List, [], _∷_, _++_}
 use Prim.Native.Nat.{ℕ, zero, suc, _+_, _-_, _≤_, _<_}
 use native.Mathlib.Numerals.{add-one, sub-one}
 use native.Mathlib.Omega.{arith}
-use borrow.Author.Tests.{le-leb, lt-leb, leb-true}
+use borrow.Author.Tests.{le-leb, lt-leb}
 use lib.Dec.{leb}
-use lib.ListN.{length, getD, drop, set, replicate, length-append, length-drop}
+use lib.ListN.{length, getD, drop, set, replicate, length-append}
 use Rattle.tree.specs.Form.{Leaf, Form, leaf, node, Forms, none, pick, encode, encodeAll}
 use Rattle.tree.specs.Tag.{Sort, expr, own, ownOf, shapeOf, exprTags, sorts}
 use Rattle.form.specs.Decode.{Head, head, bad, read, Got, got, no-form, Gots, gots, no-forms, leafAt, isLeaf, make, addForm, close, chain, decodeAll, branch, decode}

@@ -16,7 +16,6 @@ use Rattle.form.specs.Answer.{answer, refusal, told, written, isOne, finish}
 use Rattle.form.specs.declared.answer.Kind.{Kind}
 use Rattle.form.specs.declared.answer.Kind.the-variants.{Expression, Predicate}
 use Rattle.form.specs.declared.answer.Answer.the-variants.{Done}
-use Rattle.form.proofs.DecodeLaws.{clash}
 use Rattle.shift.specs.Internal.Items.{items, store}
 use Rattle.form.proofs.RowLaws.{found-row}
 use Rattle.shift.proofs.CheckedLaws.{not-found}

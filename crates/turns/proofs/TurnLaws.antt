@@ -9,7 +9,7 @@ use lib.Dec.{leb, ltb, eqb}
 use lib.ListN.{length, take, drop, set, length-append, length-drop}
 use lib.Seq.{length-take-le, take-take}
 use Rattle.tree.specs.Form.{pick}
-use Rattle.form.specs.Answer.{Outcome, answer, told, written}
+use Rattle.form.specs.Answer.{Outcome, told, written}
 use Rattle.form.specs.declared.answer.Answer.{Answer}
 use Rattle.form.proofs.DecodeLaws.{clash}
 use Rattle.spell.specs.Put.{put}

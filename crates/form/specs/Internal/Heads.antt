@@ -1,6 +1,6 @@
 -- What stands between a tag and its children, by positions of the row: a word within its limits, own words, declared names; and whether a
 -- name or an index begins there.
-use mathlib.Core.Bool.{Bool, true, false, _&&_}
+use mathlib.Core.Bool.{Bool, false, _&&_}
 use mathlib.Core.List.{List, [], _∷_}
 use Prim.Native.Nat.{ℕ, _+_}
 use lib.Dec.{leb}

@@ -1,6 +1,5 @@
 -- `broken::child_of` meets its contract. Assumes nothing.
-use mathlib.Core.Path.{_∙_}
-use Rattle.tree.specs.Tag.{own, ownOf}
+use Rattle.tree.specs.Tag.{own}
 use Rattle.broken.specs.Internal.Seeks.{ownDue, childOf}
 use Rattle.broken.proofs.DueLaws.{expr-child, pred-child}
 use borrow.Author.Needs.{needs}

@@ -3,7 +3,6 @@ use native.Mathlib.Omega.{arith}
 use Rattle.form.specs.Break.{least}
 use Rattle.broken.specs.Internal.Seeks.{ownDue}
 use Rattle.broken.proofs.PositionLaws.{whole-at}
-use borrow.Author.Needs.{needs}
 use Rattle.broken.proofs.position.broken_pred.Statement.{statement}
 use Rattle.broken.proofs.position.broken_pred.Tie as tie
 use Rattle.broken.proofs.position.broken_pred.Reads as reads

@@ -1,5 +1,4 @@
 -- `broken::fits` meets its contract. Assumes nothing.
-use native.Mathlib.Omega.{arith}
 use borrow.Author.Needs.{needs}
 use Rattle.broken.proofs.seek.fits.Statement.{statement}
 use Rattle.broken.proofs.seek.fits.Tie as tie

@@ -1,5 +1,5 @@
 -- `subst::shift::shift_in` meets its contract. Assumes nothing.
-use mathlib.Core.Path.{refl, ap, _∙_}
+use mathlib.Core.Path.{ap, _∙_}
 use Rattle.shift.specs.Internal.Items.{upBy, downBy}
 use Rattle.shift.proofs.SignedLaws.{back}
 use Rattle.shift.proofs.CheckedLaws.{refused-up, passed, checked-fresh}

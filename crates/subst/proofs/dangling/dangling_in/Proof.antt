@@ -1,5 +1,4 @@
 -- `subst::dangling::dangling_in` meets its contract. Assumes nothing.
-use mathlib.Core.Path.{refl}
 use Rattle.shift.proofs.CheckedLaws.{refused-up, passed, checked-fresh}
 use Rattle.subst.proofs.DanglingLaws.{dangling-refused, all-small, dangling-row}
 use borrow.Author.Needs.{needs}
