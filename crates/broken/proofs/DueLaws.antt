@@ -49,6 +49,9 @@ exprs-alone zero zero e h k = refl
 exprs-alone zero (suc p) e h k = absurd (omega arith)
 exprs-alone (suc n) p e h k = absurd (omega arith)
 
+pub no-names : (n k : ℕ) → n < k → n - k ≡ 0
+no-names n k h = omega arith
+
 pub no-name : (n p e w : ℕ) → n ≡ 0 → kids n p e ≡ afterWord (kids n p e) w
 unfolding afterWord
 no-name zero p e w h = refl

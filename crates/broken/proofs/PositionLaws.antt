@@ -1,19 +1,22 @@
 -- The position at which a whole row breaks, from what the search answers. Assumes nothing.
 use mathlib.Core.Path.{_≡_, refl, sym, _∙_}
 use mathlib.Core.Bool.{Bool, true, false}
+use mathlib.Core.Logic.{⊎-elim}
 use mathlib.Core.List.{List, [], _∷_}
-use Prim.Native.Nat.{ℕ, suc, _+_, _≤_, _<_}
+use Prim.Native.Nat.{ℕ, suc, _+_, _-_, _≤_, _<_}
 use native.Mathlib.Omega.{arith}
-use borrow.Author.Tests.{lt-leb}
+use borrow.Author.Tests.{le-leb, lt-leb, leb-true}
 use lib.Dec.{leb}
-use lib.ListN.{length, getD, drop}
+use lib.ListN.{drop}
 use Rattle.tree.specs.Form.{pick}
-use Rattle.tree.specs.Tag.{Own, wrong}
-use Rattle.form.specs.Break.{nothing, rest, least, leastAll, after, breakFrom, entryOwn, breakList}
-use Rattle.form.specs.declared.answer.ListKind.{ListKind}
+use Rattle.tree.specs.Tag.{Sort, expr, pred, Own, kids, wrong, own, ownOf, shapeOf}
+use Rattle.tree.specs.declared.tag.Shape.the-variants.{Unknown}
+use Rattle.tree.proofs.Ranges.{one-sort}
+use Rattle.form.specs.Break.{nothing, rest, least, leastAll, after, breakFrom, breakSort, breakAt}
+use Rattle.form.specs.declared.answer.Kind.the-variants.{Either}
+use Rattle.form.proofs.BreakLaws.{open-wrong}
 use Rattle.broken.specs.declared.seek.Sought.{Sought}
 use Rattle.broken.specs.Internal.Seeks.{Seeks}
-use Rattle.broken.proofs.SeekLaws.{one-word, ran-out}
 
 same-both : (b : Bool) (n : ℕ) → pick b n n ≡ n
 same-both true n = refl
@@ -29,34 +32,36 @@ pub whole-at : (row : List ℕ) (o : Own) (s : Sought) → Seeks row 0 64 o 0 s 
 unfolding leastAll
 whole-at row o s h = sym (h .breaks (λ w. wrong) nothing refl ∙ rw (no-more (s .at) (drop (s .at) row)) (same-both (s .ok) (s .at)))
 
--- the entries of a list, one after another: the search has come to p
-pub record Lists (kind : ListKind) (row : List ℕ) (p : ℕ) : Type 0 where
-  pub same : breakList kind row ≡ breakFrom (entryOwn kind) p nothing (drop p row)
-  pub room : p ≤ 8192
+-- either sort: a row breaks at once as a form of a sort that has no such first tag, and no tag is of both sorts
+unknown-own : (s : Sort) (t : ℕ) → shapeOf s t ≡ Unknown → own s t ≡ wrong
+unfolding own ownOf
+unknown-own s t e = rw e
 
-pub no-entry : (kind : ListKind) (row : List ℕ) → Lists kind row 0
-unfolding breakList
-no-entry kind row = record { same = refl; room = omega arith }
+unknown-breaks : (s : Sort) (t : ℕ) (ws : List ℕ) → shapeOf s t ≡ Unknown → breakSort s (t ∷ ws) ≡ 0
+unfolding breakFrom after
+unknown-breaks expr t ws e =
+    let least = open-wrong (64 - 1) (rest 64 (kids 0 0 0) nothing) in
+    rw (unknown-own expr t e, least, lt-leb (1 + (8193 + leastAll (rest 64 (kids 0 0 0) nothing))) 8192 (omega arith))
+unknown-breaks pred t ws e =
+    let least = open-wrong (64 - 1) (rest 64 (kids 0 0 0) nothing) in
+    rw (unknown-own pred t e, least, lt-leb (1 + (8193 + leastAll (rest 64 (kids 0 0 0) nothing))) 8192 (omega arith))
 
-module _ (kind : ListKind) (row : List ℕ) (p : ℕ) (i : Lists kind row p) where
-  pub list-over : length row ≤ p → p ≡ breakList kind row
-  list-over h = sym (i .same ∙ ran-out row (entryOwn kind) p nothing h)
+other-sort : (row : List ℕ) → 0 < breakSort pred row → breakSort expr row ≡ 0
+unfolding breakFrom
+other-sort [] h = refl
+other-sort (t ∷ ws) h = ⊎-elim (λ e. unknown-breaks expr t ws e) (λ e. let none = unknown-breaks pred t ws e in absurd (omega (arith, h, none))) (one-sort t)
 
-  module _ (h : p < length row) (o : Own) (e : o ≡ entryOwn kind (getD row p 0)) where
-    entry-next : breakList kind row ≡ pick (leb (p + 1 + (least 64 o + 0)) 8192) (breakFrom (entryOwn kind) (p + 1) (rest 64 o nothing) (drop (p + 1) row)) p
-    unfolding leastAll after
-    entry-next = i .same ∙ (one-word row (entryOwn kind) p nothing h ∙ rw (← e))
+pub either-pred : (row : List ℕ) (p : ℕ) → p ≡ breakSort pred row → 0 < p → p ≡ breakAt Either row
+unfolding breakAt
+either-pred row p e h = let none = other-sort row (rw e at h) in rw (none, ← e, le-leb 0 p (omega arith))
 
-    pub entry-stop : leb (p + 1 + (least 64 o + 0)) 8192 ≡ false → p ≡ breakList kind row
-    entry-stop f = sym (entry-next ∙ rw f)
-
-    module _ (t : leb (p + 1 + (least 64 o + 0)) 8192 ≡ true) (s : Sought) (r : Seeks row (p + 1) 64 o 0 s) where
-      entry-sought : breakList kind row ≡ pick (s .ok) (breakFrom (entryOwn kind) (s .at) nothing (drop (s .at) row)) (s .at)
-      unfolding leastAll
-      entry-sought = entry-next ∙ rw t (r .breaks (entryOwn kind) nothing refl)
-
-      pub entry-broken : s .ok ≡ false → s .at ≡ breakList kind row
-      entry-broken f = sym (entry-sought ∙ rw f)
-
-      pub entry-go : s .ok ≡ true → Lists kind row (s .at)
-      entry-go y = record { same = entry-sought ∙ rw y; room = let v = r .room y in omega arith }
+pub either-expr : (row : List ℕ) (p : ℕ) → p ≡ breakSort pred row → p ≤ 0 → (n : ℕ) → n ≡ breakSort expr row → n ≡ breakAt Either row
+unfolding breakAt
+either-expr row p e h n q = rw (← e, ← q) (later n p h)
+  where
+    later : (n p : ℕ) → p ≤ 0 → n ≡ pick (leb n p) p n
+    later n p h = go (leb n p) refl
+      where
+        go : (b : Bool) → leb n p ≡ b → n ≡ pick b p n
+        go true e = let k = leb-true n p e in omega arith
+        go false e = refl

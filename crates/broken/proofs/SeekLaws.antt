@@ -201,7 +201,7 @@ module _ (row : List ℕ) (d p more : ℕ) where
       let read = own-go row p d word more p word begun h refl (kids 0 0 0) (in-limits 0 65535 (getD row p 0) (λ n. kids 0 0 0) (kids 0 0 0) refl (omega arith) (leb-true (getD row p 0) 65535 w)) (le-leb (p + 1 + (least d (kids 0 0 0) + more)) 8192 (omega arith)) in
       all-there row p d word more (p + 1) (kids 0 0 0) read refl
 
-leaf-past : (row : List ℕ) (at d : ℕ) (o : Own) (need p e : ℕ) → Reaches row at d o need p (kids 0 0 (suc e)) → startsLeaf d (drop p row) ≡ true → p + (least d (kids 0 0 (suc e)) + need) < 8192
+pub leaf-past : (row : List ℕ) (at d : ℕ) (o : Own) (need p e : ℕ) → Reaches row at d o need p (kids 0 0 (suc e)) → startsLeaf d (drop p row) ≡ true → p + (least d (kids 0 0 (suc e)) + need) < 8192
     → Reaches row at d o need (p + 2) (kids 0 0 e)
 unfolding isOwn isDone childOf fewer
 leaf-past row at d o need p e i s h =

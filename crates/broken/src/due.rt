@@ -7,7 +7,7 @@ ghost use mathlib.Core.Path.{_≡_};
 ghost use Prim.Native.Nat.{_≤_};
 ghost use Rattle.tree.specs.Tag.{ownOf, kids};
 ghost use Rattle.form.specs.Break.{least};
-ghost use Rattle.broken.specs.Internal.Seeks.{ownDue, ownThen, afterWord, isOwn, isDone, onlyExprs, childOf, fewer};
+ghost use Rattle.broken.specs.Internal.Seeks.{ownDue, ownThen, afterWord, isOwn, isDone, onlyExprs, namesOf, afterNames, childOf, fewer};
 
 // What a word is followed by: nothing; so many expressions or predicates; a count of expressions; declarations, a predicate and an
 // expression; so many names, a predicate and expressions.
@@ -147,6 +147,33 @@ pub fn only_exprs(due: Due) -> u32
         }
         Due::Ask(lo, hi, then) => 0,
         Due::Wrong => 0,
+    }
+}
+
+// How many declared names must come next.
+pub fn names_of(due: Due) -> u32
+    ensures { λ r. ⌜ r ≡ namesOf (ownDue due) ⌝ }
+{
+    match due {
+        Due::Kids(names, preds, exprs) => names,
+        Due::Ask(lo, hi, then) => 0,
+        Due::Wrong => 0,
+    }
+}
+
+// After k of the declared names.
+pub fn after_names(due: Due, k: u32) -> Due
+    ensures { λ r. ⌜ ownDue r ≡ afterNames k (ownDue due) ⌝ }
+{
+    match due {
+        Due::Kids(names, preds, exprs) => {
+            if names < k {
+                return Due::Kids(0, preds, exprs);
+            }
+            Due::Kids(names - k, preds, exprs)
+        }
+        Due::Ask(lo, hi, then) => due,
+        Due::Wrong => Due::Wrong,
     }
 }
 

@@ -5,10 +5,13 @@ use crate::seek::seek;
 use form::answer::Kind;
 use form::answer::Limit;
 use form::answer::ListKind;
+use form::head::is_leaf;
 ghost use mathlib.Core.Path.{_≡_};
+ghost use Prim.Native.Nat.{_+_, _≤_, _<_};
+ghost use lib.ListN.{length, drop};
 ghost use Rattle.tree.specs.Tag.{expr, pred};
 ghost use Rattle.form.specs.Break.{breakSort, breakAt, breakList, entryOwn};
-ghost use Rattle.broken.specs.Internal.Seeks.{ownDue};
+ghost use Rattle.broken.specs.Internal.Seeks.{ownDue, leafEntry, quickEntry};
 
 fn broken_expr(row: &[u32]) -> u32
     ensures { λ r. ⌜ r ≡ breakSort expr (now (row .entry)) ⌝ }
@@ -24,7 +27,7 @@ fn broken_pred(row: &[u32]) -> u32
     s.at as u32
 }
 
-// Where a row breaks as a form of the kind; where either sort is asked for, the one that comes further.
+// Where a row breaks as a form of the kind. Where either sort is asked for, a row that begins as a predicate begins as no expression.
 pub fn broken_at(row: &[u32], kind: Kind) -> u32
     ensures { λ r. ⌜ r ≡ breakAt kind (now (row .entry)) ⌝ }
 {
@@ -32,9 +35,11 @@ pub fn broken_at(row: &[u32], kind: Kind) -> u32
         Kind::Expression => broken_expr(row),
         Kind::Predicate => broken_pred(row),
         Kind::Either => {
-            let e = broken_expr(row);
             let p = broken_pred(row);
-            if e <= p { p } else { e }
+            if 0 < p {
+                return p;
+            }
+            broken_expr(row)
         }
     }
 }
@@ -53,21 +58,62 @@ fn entry_due(kind: ListKind, w: u32) -> Due
     }
 }
 
+// A word and a name or an index, if they have room.
+fn leaf_entry(row: &[u32], at: usize) -> usize
+    requires { ⌜ at ≤ 8192 ⌝ }
+    ensures { λ r. ⌜ r ≡ leafEntry at (drop (at + 1) (now (row .entry))) ⌝ }
+{
+    if Limit::WORDS < at + 3 {
+        return 0;
+    }
+    if is_leaf(row, at + 1, Limit::DEPTH) {
+        return 3;
+    }
+    0
+}
+
+// How many words an entry has that is 0, or a word and a name or an index, the common cases; 0 for any other.
+fn quick_entry(row: &[u32], kind: ListKind, at: usize) -> usize
+    requires { ⌜ (at < length (now row)) × (at ≤ 8192) ⌝ }
+    ensures { λ r. ⌜ r ≡ quickEntry kind at (drop at (now (row .entry))) ⌝ }
+{
+    match kind {
+        ListKind::Pairs => leaf_entry(row, at),
+        ListKind::Places => {
+            if 1 < row[at] {
+                return 0;
+            }
+            if row[at] == 1 {
+                return leaf_entry(row, at);
+            }
+            if Limit::WORDS <= at {
+                return 0;
+            }
+            1
+        }
+    }
+}
+
 // Where a row breaks as a list of the kind.
 pub fn broken_list(row: &[u32], kind: ListKind) -> u32
     ensures { λ r. ⌜ r ≡ breakList kind (now (row .entry)) ⌝ }
 {
     let mut p = 0;
     while p < row.len() {
-        let due = entry_due(kind, row[p]);
-        if !fits(p + 1, Limit::DEPTH, due, 0) {
-            return p as u32;
+        let words = quick_entry(row, kind, p);
+        if 0 < words {
+            p += words;
+        } else {
+            let due = entry_due(kind, row[p]);
+            if !fits(p + 1, Limit::DEPTH, due, 0) {
+                return p as u32;
+            }
+            let s = seek(row, p + 1, due, Limit::DEPTH, 0);
+            if !s.ok {
+                return s.at as u32;
+            }
+            p = s.at;
         }
-        let s = seek(row, p + 1, due, Limit::DEPTH, 0);
-        if !s.ok {
-            return s.at as u32;
-        }
-        p = s.at;
     }
     p as u32
 }

@@ -1,10 +1,12 @@
 // The search for the word at which a row breaks.
 use crate::due::Due;
+use crate::due::after_names;
 use crate::due::after_word;
 use crate::due::child_of;
 use crate::due::is_done;
 use crate::due::is_own;
 use crate::due::least_words;
+use crate::due::names_of;
 use crate::due::one_fewer;
 use crate::due::only_exprs;
 use form::answer::Limit;
@@ -14,7 +16,7 @@ ghost use Prim.Native.Nat.{_+_, _≤_};
 ghost use lib.Dec.{leb};
 ghost use lib.ListN.{drop};
 ghost use Rattle.form.specs.Break.{least};
-ghost use Rattle.broken.specs.Internal.Seeks.{ownDue, leafNext, SeeksOwn, Seeks};
+ghost use Rattle.broken.specs.Internal.Seeks.{ownDue, namesThere, leafNext, SeeksOwn, Seeks};
 
 // Whether the rest of a node was there, and where it ended; or else where the row breaks.
 pub struct Sought {
@@ -36,6 +38,26 @@ pub(crate) fn fits(at: usize, depth: u32, due: Due, need: usize) -> bool
     ensures { λ r. ⌜ r ≡ leb (at + (least depth (ownDue due) + need)) 8192 ⌝ }
 {
     at + (least_words(depth, due) + need) <= Limit::WORDS
+}
+
+// How many of the next n words can be names, up to the first that cannot.
+fn names_there(row: &[u32], at: usize, n: u32) -> u32
+    requires { ⌜ at ≤ 8192 ⌝ }
+    ensures { λ r. ⌜ r ≡ namesThere n (drop at (now (row .entry))) ⌝ }
+{
+    let mut p = at;
+    let mut left = n;
+    while 0 < left {
+        if row.len() <= p {
+            return n - left;
+        }
+        if Limit::NAME < row[p] {
+            return n - left;
+        }
+        p += 1;
+        left -= 1;
+    }
+    n
 }
 
 // The own words of a node from `at` on, up to its first child, whose children may be so deep and after which at least so many words must come.
@@ -61,7 +83,9 @@ fn seek_own(row: &[u32], at: usize, due: Due, depth: u32, need: usize) -> OwnSou
                 due: rest,
             };
         }
-        p += 1;
+        let names = names_there(row, p + 1, names_of(rest));
+        rest = after_names(rest, names);
+        p += 1 + names as usize;
     }
     OwnSought {
         ok: true,

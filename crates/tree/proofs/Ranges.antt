@@ -126,3 +126,14 @@ foreign-none (e ∷ es) fs t h n =
 pub one-table : (t : ℕ) → (shapeOf expr t ≡ Unknown → ⊥) → shapeOf pred t ≡ Unknown
 unfolding shapeOf exprTags predTags
 one-table t n = foreign-none exprTags predTags t tt n
+
+-- so every tag is unknown to one of them
+pub one-sort : (t : ℕ) → (shapeOf expr t ≡ Unknown) ⊎ (shapeOf pred t ≡ Unknown)
+one-sort t = by (isUnknown (shapeOf expr t)) refl
+  where
+    no : (x : Shape) → isUnknown x ≡ false → x ≡ Unknown → ⊥
+    no x e q = let z : _≡_ {A = ℕ} 0 1 = cc in omega arith
+
+    by : (b : Bool) → isUnknown (shapeOf expr t) ≡ b → (shapeOf expr t ≡ Unknown) ⊎ (shapeOf pred t ≡ Unknown)
+    by true e = inl (is-unknown (shapeOf expr t) (rw e tt))
+    by false e = inr (one-table t (no (shapeOf expr t) e))

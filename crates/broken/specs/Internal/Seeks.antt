@@ -1,14 +1,16 @@
 -- What must still come of a node as the code holds it, and what the search for the break answers.
 use mathlib.Core.Path.{_≡_}
 use mathlib.Core.Bool.{Bool, true, false, _&&_}
-use mathlib.Core.List.{List}
-use Prim.Native.Nat.{ℕ, zero, suc, _+_, _≤_}
+use mathlib.Core.List.{List, [], _∷_}
+use Prim.Native.Nat.{ℕ, zero, suc, _+_, _-_, _≤_}
 use lib.Dec.{leb}
 use lib.ListN.{drop}
 use Rattle.tree.specs.Form.{pick, between}
 use Rattle.tree.specs.Tag.{expr, pred, Own, ask, kids, wrong, own}
 use Rattle.form.specs.Break.{Open, rest, least, leastAll, breakFrom}
 use Rattle.form.specs.Internal.Heads.{startsLeaf}
+use Rattle.form.specs.declared.answer.ListKind.{ListKind}
+use Rattle.form.specs.declared.answer.ListKind.the-variants.{Pairs, Places}
 use Rattle.broken.specs.declared.due.Due.{Due}
 use Rattle.broken.specs.declared.due.Due.the-variants.{Kids, Ask, Wrong}
 use Rattle.broken.specs.declared.due.Then.{Then}
@@ -49,6 +51,33 @@ onlyExprs (kids zero zero e) = e
 onlyExprs (kids zero (suc p) e) = 0
 onlyExprs (kids (suc n) p e) = 0
 onlyExprs wrong = 0
+
+unfoldable pub namesOf : Own → ℕ
+namesOf (ask lo hi k) = 0
+namesOf (kids n p e) = n
+namesOf wrong = 0
+
+unfoldable pub afterNames : ℕ → Own → Own
+afterNames j (ask lo hi k) = ask lo hi k
+afterNames j (kids n p e) = kids (n - j) p e
+afterNames j wrong = wrong
+
+-- how many of the first n words can be names, up to the first that cannot
+unfoldable pub namesThere : ℕ → List ℕ → ℕ
+namesThere zero ws = 0
+namesThere (suc n) [] = 0
+namesThere (suc n) (w ∷ ws) = pick (leb w 65535) (suc (namesThere n ws)) 0
+
+-- the words of an entry that is 0, or a word and a name or an index, if it has room; 0 for any other
+abbrev pub leafEntry : ℕ → List ℕ → ℕ
+leafEntry at ws = pick (leb (at + 3) 8192 && startsLeaf 64 ws) 3 0
+
+unfoldable pub quickEntry : ListKind → ℕ → List ℕ → ℕ
+quickEntry kind at [] = 0
+quickEntry Pairs at (w ∷ ws) = leafEntry at ws
+quickEntry Places at (zero ∷ ws) = pick (leb (at + 1) 8192) 1 0
+quickEntry Places at (suc zero ∷ ws) = leafEntry at ws
+quickEntry Places at (suc (suc w) ∷ ws) = 0
 
 -- whether only expressions must come, the first of the words is a name or an index, and so much has room
 unfoldable pub leafNext : ℕ → Own → ℕ → ℕ → List ℕ → Bool

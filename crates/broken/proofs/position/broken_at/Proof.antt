@@ -1,6 +1,6 @@
--- `broken::broken_at` meets its contract. Assumes nothing.
-use borrow.Author.Tests.{le-leb, lt-leb}
+-- `broken::position::broken_at` meets its contract. Assumes nothing.
 use Rattle.form.specs.Break.{breakAt}
+use Rattle.broken.proofs.PositionLaws.{either-pred, either-expr}
 use borrow.Author.Needs.{needs}
 use Rattle.broken.proofs.position.broken_at.Statement.{statement}
 use Rattle.broken.proofs.position.broken_at.Tie as tie
@@ -24,27 +24,25 @@ broken-pred-requires c κs = search needs
 enum-told-3 : tie.Need-enum-told-3
 enum-told-3 c = search needs
 
-broken-expr-requires-2 : tie.Need-broken-expr-requires-2
-broken-expr-requires-2 c κs = search needs
-
 broken-pred-requires-2 : tie.Need-broken-pred-requires-2
 broken-pred-requires-2 c κs = search needs
 
 returns : tie.Need-returns
-unfolding breakAt
-returns c = rw (c .before .enum-told .given .1) (c .broken-expr .ensures)
+returns c = let enum-told3 = c .before .before .enum-told3 in let broken-pred2 = c .before .broken-pred2 in let if1 = c .if1 in rw (enum-told3 .given .1) (either-pred _ _ (broken-pred2 .ensures) (if1 .taken))
+
+broken-expr-requires-2 : tie.Need-broken-expr-requires-2
+broken-expr-requires-2 c κs = search needs
 
 returns-2 : tie.Need-returns-2
 unfolding breakAt
-returns-2 c = rw (c .before .enum-told2 .given .1) (c .broken-pred .ensures)
+returns-2 c = let enum-told = c .before .enum-told in let broken-expr = c .broken-expr in rw (enum-told .given .1) (broken-expr .ensures)
 
 returns-3 : tie.Need-returns-3
 unfolding breakAt
-returns-3 c = rw (c .before .before .before .enum-told3 .given .1, ← c .before .before .broken-expr2 .ensures, ← c .before .broken-pred2 .ensures, le-leb _ _ (c .if1 .taken))
+returns-3 c = let enum-told2 = c .before .enum-told2 in let broken-pred = c .broken-pred in rw (enum-told2 .given .1) (broken-pred .ensures)
 
 returns-4 : tie.Need-returns-4
-unfolding breakAt
-returns-4 c = rw (c .before .before .before .enum-told3 .given .1, ← c .before .before .broken-expr2 .ensures, ← c .before .broken-pred2 .ensures, lt-leb _ _ (c .if1 .left))
+returns-4 c = let enum-told3 = c .before .before .before .enum-told3 in let broken-pred2 = c .before .before .broken-pred2 in let if1 = c .before .if1 in let broken-expr2 = c .broken-expr2 in rw (enum-told3 .given .1) (either-expr _ _ (broken-pred2 .ensures) (if1 .left) _ (broken-expr2 .ensures))
 
 pub broken-at-spec : {M : Type 1} → statement M
 broken-at-spec =
@@ -55,9 +53,9 @@ broken-at-spec =
     enum-told-2
     broken-pred-requires
     enum-told-3
-    broken-expr-requires-2
     broken-pred-requires-2
     returns
+    broken-expr-requires-2
     returns-2
     returns-3
     returns-4)
