@@ -9,21 +9,16 @@ use form::head::is_leaf;
 ghost use mathlib.Core.Path.{_≡_};
 ghost use Prim.Native.Nat.{_+_, _≤_, _<_};
 ghost use lib.ListN.{length, drop};
-ghost use Rattle.tree.specs.Tag.{expr, pred};
-ghost use Rattle.form.specs.Break.{breakSort, breakAt, breakList, entryOwn};
+ghost use Rattle.tree.specs.Tag.{wrong};
+ghost use Rattle.form.specs.Break.{nothing, rest, least, breakFrom, breakAt, breakList, entryOwn};
 ghost use Rattle.broken.specs.Internal.Seeks.{ownDue, leafEntry, quickEntry};
 
-fn broken_expr(row: &[u32]) -> u32
-    ensures { λ r. ⌜ r ≡ breakSort expr (now (row .entry)) ⌝ }
+// Where a row breaks of which so much must come, and nothing after it.
+fn broken_due(row: &[u32], due: Due) -> u32
+    requires { ⌜ least 64 (ownDue due) ≤ 8192 ⌝ }
+    ensures { λ r. ⌜ r ≡ breakFrom (λ w. wrong) 0 (rest 64 (ownDue due) nothing) (now (row .entry)) ⌝ }
 {
-    let s = seek(row, 0, Due::Kids(0, 0, 1), Limit::DEPTH, 0);
-    s.at as u32
-}
-
-fn broken_pred(row: &[u32]) -> u32
-    ensures { λ r. ⌜ r ≡ breakSort pred (now (row .entry)) ⌝ }
-{
-    let s = seek(row, 0, Due::Kids(0, 1, 0), Limit::DEPTH, 0);
+    let s = seek(row, 0, due, Limit::DEPTH, 0);
     s.at as u32
 }
 
@@ -32,14 +27,14 @@ pub fn broken_at(row: &[u32], kind: Kind) -> u32
     ensures { λ r. ⌜ r ≡ breakAt kind (now (row .entry)) ⌝ }
 {
     match kind {
-        Kind::Expression => broken_expr(row),
-        Kind::Predicate => broken_pred(row),
+        Kind::Expression => broken_due(row, Due::Kids(0, 0, 1)),
+        Kind::Predicate => broken_due(row, Due::Kids(0, 1, 0)),
         Kind::Either => {
-            let p = broken_pred(row);
+            let p = broken_due(row, Due::Kids(0, 1, 0));
             if 0 < p {
                 return p;
             }
-            broken_expr(row)
+            broken_due(row, Due::Kids(0, 0, 1))
         }
     }
 }
