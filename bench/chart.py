@@ -1,5 +1,6 @@
 #!/usr/bin/env python3
-"""chart.py OUT.svg RUN.csv..: takes the least of the runs, prints tables in Markdown, and draws nanoseconds a word."""
+"""chart.py OUT.svg RUN.csv.. [-- RUN.csv..]: takes the least of the runs, prints tables in Markdown, and draws nanoseconds a word. The runs after
+the dashes are the driver's with --annotated, and a table holds them against the others."""
 import csv
 import math
 import sys
@@ -84,13 +85,35 @@ def draw(best, ops, sizes, path):
         f.write("\n".join(out) + "\n")
 
 
+def beside(best, noted, ops, sizes):
+    """Rows with annotations beside the others, and the growth from 2,000 to 8,000 words."""
+    print("\n| rows with annotations | words | library, ns a word | rows without, ns a word | with / without | C | library / C | Rust rows / library | growth for 4 times the words |")
+    print("|---|---|---|---|---|---|---|---|---|")
+    for op in ops:
+        last = None
+        for size in sizes:
+            with_notes, without = ([v for k, v in runs.items() if k[:2] == (op, size)] for runs in (noted, best))
+            if not with_notes or not without:
+                continue
+            a = [mean([t[i] / w for w, t in with_notes]) for i in range(5)]
+            b = mean([t[0] / w for w, t in without])
+            row = mean([t[0] for w, t in with_notes])
+            print("| %s | %s | %.1f | %.1f | %.2f | %.1f | %.2f | %.0f | %s |"
+                  % (op, size, a[0], b, a[0] / b, a[1], a[0] / a[1], a[2] / a[0], "%.2f" % (row / last) if size == "8000" and last else ""))
+            last = row
+
+
 def main():
-    best = read(sys.argv[2:])
+    runs = sys.argv[2:]
+    noted = runs[runs.index("--") + 1:] if "--" in runs else []
+    best = read(runs[:runs.index("--")] if noted else runs)
     ops = list(dict.fromkeys(k[0] for k in best))
     sizes = list(dict.fromkeys(k[1] for k in best))
     summary(best, ops, sizes)
     for op in ops:
         table(best, op)
+    if noted:
+        beside(best, read(noted), ops, sizes)
     draw(best, ops, sizes, sys.argv[1])
 
 

@@ -4,7 +4,10 @@ its spelling, rows and lists apart from the program's definitions, held against 
 position that is printed with 2 is that of oracle/position.py.
 
   python3 bench/damaged.py SEED COUNT        in the repository's root, after rt check cell
+  --annotations           lines of all seven commands, many of whose quantifiers have annotations (document 02, Paper 8)
+  --program PROGRAM       another program than target/bin/cell
 """
+import argparse
 import collections
 import random
 import re
@@ -123,6 +126,26 @@ def decls(r, p):
     return (n, ns, p)
 
 
+def noted(r, p, d):
+    """declarations with annotations, of which there is one at least"""
+    n, p = count(r, p, 1)
+    if n > 32:
+        raise No
+    out = [n]
+    for _ in range(n):
+        x, p = name(r, p)
+        if p >= len(r) or r[p] > 1:
+            raise No
+        out += [x, r[p]]
+        p += 1
+        if out[-1]:
+            e, p = expr(r, p, d)
+            out.append(e)
+    if not any(isinstance(x, list) for x in out):
+        raise No
+    return (out, p)
+
+
 def expr(r, p, d):
     if d == 0 or p >= len(r):
         raise No
@@ -161,6 +184,13 @@ def expr(r, p, d):
         n, ns, p = decls(r, p + 1)
         k, p = kids(r, p, d - 1, [pred, expr])
         return ([t, fm, n] + ns + k, p)
+    if t in (871, 872, 873):
+        if p >= len(r) or r[p] > 3:
+            raise No
+        fm = r[p]
+        ds, p = noted(r, p + 1, d - 1)
+        k, p = kids(r, p, d - 1, [pred, expr])
+        return ([t, fm] + ds + k, p)
     raise No
 
 
@@ -203,6 +233,10 @@ def pred(r, p, d):
         n, ns, p = decls(r, p)
         k, p = kids(r, p, d - 1, [pred])
         return ([t, n] + ns + k, p)
+    if t in (861, 862):
+        ds, p = noted(r, p, d - 1)
+        k, p = kids(r, p, d - 1, [pred])
+        return ([t] + ds + k, p)
     raise No
 
 
@@ -275,7 +309,7 @@ def predict(s):
     """8, 1, 2, 3, 4, 5 or None where the command is carried out"""
     if len(s) > 65535:
         return 8
-    m = re.match('\\[(shift|free|bind|fill|prune) ', s)
+    m = re.match('\\[(shift|free|bind|fill|prune|point|member) ', s)
     if not m:
         return 8
     h = m.group(1)
@@ -291,9 +325,9 @@ def predict(s):
             i = m.end()
             if i < len(s) and s[i].isdigit():
                 raise Bad
-        elif h != 'prune':
+        elif h not in ('prune', 'point', 'member'):
             lst, i = group(s, i)
-        if h != 'prune':
+        if h not in ('prune', 'point', 'member'):
             if i >= len(s) or s[i] != ' ':
                 raise Bad
             i += 1
@@ -302,14 +336,14 @@ def predict(s):
             raise Bad
     except Bad:
         return 8
-    f = form(g, 'pred' if h in ('fill', 'prune') else 'either')
+    f = form(g, 'pred' if h in ('fill', 'prune', 'point', 'member') else 'either')
     if isinstance(f, int):
         return f
     if lst is not None:
         l = {'free': pairs, 'bind': names, 'fill': places}[h](lst)
         if isinstance(l, int):
             return l
-    if h in ('fill', 'prune') and f[0] not in (851, 852):
+    if h in ('fill', 'prune') and f[0] not in (851, 852, 861, 862):
         return 3
     if h in ('free', 'bind'):
         ns = [x[0] for x in l] if h == 'free' else l
@@ -318,6 +352,9 @@ def predict(s):
     if h == 'fill' and len(l) != f[1]:
         return 5
     return None
+
+
+VALUES = ['0', '1', '2', '3', '4', '5', '8', '9', '101', '65535', '65536', '4294967295', '4294967296', '610', '351', '852', '803']
 
 
 def damage(s, R):
@@ -358,17 +395,28 @@ def damage(s, R):
             if not w:
                 continue
             m = R.choice(w)
-            v = R.choice(['0', '1', '2', '3', '4', '5', '8', '9', '101', '65535', '65536', '4294967295', '4294967296', '610', '351', '852', '803'])
+            v = R.choice(VALUES)
             s = s[:m.start()] + v + s[m.end():]
     return s
 
 
 if __name__ == '__main__':
-    R = random.Random(int(sys.argv[1]))
-    n = int(sys.argv[2])
-    gen = subprocess.run(['python3', 'oracle/gen.py', '--seed', sys.argv[1], '--count', str(n), '--commands', 'shift,free,bind,fill,prune', '--fuel', '6', '--empty-sets', '--odd-forms'], capture_output=True, text=True).stdout.split('\n')[:-1]
+    a = argparse.ArgumentParser()
+    a.add_argument('seed', type=int)
+    a.add_argument('count', type=int)
+    a.add_argument('--annotations', action='store_true')
+    a.add_argument('--program', default='target/bin/cell')
+    o = a.parse_args()
+    R = random.Random(o.seed)
+    commands = 'shift,free,bind,fill,prune'
+    more = []
+    if o.annotations:
+        commands += ',point,member'
+        more = ['--annotations', '70']
+        VALUES += ['0', '1', '861', '862', '871', '873']
+    gen = subprocess.run(['python3', 'oracle/gen.py', '--seed', str(o.seed), '--count', str(o.count), '--commands', commands, '--fuel', '6', '--empty-sets', '--odd-forms'] + more, capture_output=True, text=True).stdout.split('\n')[:-1]
     lines = [damage(l, R) for l in gen]
-    out = subprocess.run(['target/bin/cell'], input='\n'.join(lines) + '\n', capture_output=True, text=True).stdout.split('\n')[:-1]
+    out = subprocess.run(o.program.split(), input='\n'.join(lines) + '\n', capture_output=True, text=True).stdout.split('\n')[:-1]
     assert len(out) == len(lines)
     T = collections.Counter()
     bad = 0

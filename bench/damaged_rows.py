@@ -4,9 +4,12 @@ The model of crates/cases, which shares nothing with the program, predicts the p
 
   python3 bench/damaged_rows.py SEED COUNT        in the repository's root, after rt check cell
   python3 bench/damaged_rows.py SEED COUNT --lines        prints some of the lines, each followed by its answer: the list that stands in crates/cell/stdin
+  --annotations           half of the quantifiers have annotations (document 02, Paper 8), and the damages know their tags and flags
+  --program PROGRAM       another program than target/bin/cell
 
 A row is sent without inner brackets, so that a row that is accepted is refused by 8, after its 2.
 """
+import argparse
 import collections
 import random
 import subprocess
@@ -17,7 +20,8 @@ import cases
 
 sys.setrecursionlimit(10000)
 EDGES = [0, 1, 2, 3, 4, 31, 32, 33, 64, 65535, 65536, 8188, 8189, 8190, 8191, 8192, 8193, 2 ** 31, 2 ** 32 - 1]
-TAGS = [t for sort in "EP" for t in cases.SHAPES[sort]]
+TAGS = [t for sort in "EP" for t in cases.SHAPES[sort] if t not in cases.PLAIN]
+ANNOTATIONS = False
 
 
 def expression(depth, words):
@@ -36,8 +40,21 @@ def expression(depth, words):
         tag, least = random.choice([(4, 0), (301, 2), (307, 2)])
         return [tag] + several(expression, depth, words, least)
     names = [random.randrange(65536) for _ in range(random.choice([1, 1, 2, 3, 32]))]
+    if ANNOTATIONS and random.random() < 0.5:
+        head = [random.choice([871, 872, 873]), random.randrange(4)] + annotated(names, depth, words)
+        a = random.randrange(1, max(2, words - len(head)))
+        return head + predicate(depth - 1, a) + expression(depth - 1, words - len(head) - a)
     a = random.randrange(1, max(2, words - 3 - len(names)))
     return [random.choice([801, 802, 803]), random.randrange(4), len(names)] + names + predicate(depth - 1, a) + expression(depth - 1, words - 3 - len(names) - a)
+
+
+def annotated(names, depth, words):
+    """The names with annotations, which have about half of the words; at times none has one."""
+    must = random.choice([random.randrange(len(names)), 0, len(names) - 1]) if random.random() < 0.98 else None
+    out = [len(names)]
+    for j, name in enumerate(names):
+        out += [name, 1] + expression(depth - 1, random.randrange(1, 2 + words // 2 // len(names))) if j == must or must is not None and random.random() < 0.4 else [name, 0]
+    return out
 
 
 def predicate(depth, words):
@@ -59,6 +76,9 @@ def predicate(depth, words):
     if r < 0.85:
         return random.choice([[10] + several(expression, depth, words, 1), [11, 7] + several(expression, depth, words, 0)])
     names = [random.randrange(65536) for _ in range(random.choice([1, 2, 32]))]
+    if ANNOTATIONS and random.random() < 0.5:
+        head = [random.choice([861, 862])] + annotated(names, depth, words)
+        return head + predicate(depth - 1, words - len(head))
     return [random.choice([851, 852]), len(names)] + names + predicate(depth - 1, words - 2 - len(names))
 
 
@@ -73,6 +93,10 @@ def several(make, depth, words, least):
 def chain(words):
     """A chain of nots or of unary expressions, up to 70 deep, round something small."""
     n = random.randrange(50, 70)
+    if ANNOTATIONS and random.random() < 0.4:
+        # the annotation is what is deep
+        note = [random.choice([751, 764])] * random.randrange(0, 70 - n + 2) + random.choice([expression(2, 5), [4, random.randrange(3)], [401]])
+        return [8] * n + random.choice([[861, 1, 4, 1], [9, 872, 0, 1, 4, 1], [862, 2, 4, 0, 5, 1]]) + note + random.choice([[610], [610, 401], []])
     if random.random() < 0.5:
         return [8] * n + predicate(2, 5)
     return [9] + [random.choice([751, 764])] * n + random.choice([expression(2, 5), [4, random.randrange(3)], [301, 2]])
@@ -82,6 +106,13 @@ def padded(words):
     """A row as long as a row may be, or nearly: many small children, one of them larger."""
     n = cases.WORDS - random.randrange(3, 12)
     row = random.choice([[10, n], [9, 4, n], [8, 11, 7, n], [252, 610, 10, n], [10, n - 3]])
+    if ANNOTATIONS:
+        n = cases.WORDS - random.randrange(12, 24)
+        row = random.choice([[861, 1, 4, 1, 4, n], [862, 2, 4, 1, 401, 5, 1, 4, n], [9, 871, 0, 1, 4, 1, 4, n], [862, 3, 4, 0, 5, 1, 4, n], [9, 4, n], [9, 4, n], [351, n]])
+        one = [610] if row[0] == 351 else [401]
+        while len(row) < cases.WORDS - random.randrange(0, 20):
+            row += one if random.random() < 0.995 or one == [610] else random.choice([[1, 5], [4, 1, 401], [873, 0, 1, 4, 1, 401, 610, 401]])
+        return (row + random.choice([[5, 0, 610], [610], [861, 1, 4, 1], [873, 0, 2, 4, 0, 5, 1, 401, 610], [871, 0, 1, 4, 1, 2, 0]]))[:cases.WORDS]
     while len(row) < cases.WORDS - random.randrange(0, 9):
         row += [401] if random.random() < 0.995 else random.choice([[1, 5], [761, 401], [4, 1, 401], [6, 401, 401]])
     return row[:cases.WORDS]
@@ -155,9 +186,21 @@ def command():
 
 
 def main():
-    random.seed(int(sys.argv[1]))
-    made = [c for c in (command() for _ in range(int(sys.argv[2]))) if len(c[1]) <= 65535]
-    if "--lines" in sys.argv:
+    global ANNOTATIONS
+    a = argparse.ArgumentParser()
+    a.add_argument("seed", type=int)
+    a.add_argument("count", type=int)
+    a.add_argument("--lines", action="store_true")
+    a.add_argument("--annotations", action="store_true")
+    a.add_argument("--program", default="target/bin/cell")
+    o = a.parse_args()
+    random.seed(o.seed)
+    if o.annotations:
+        ANNOTATIONS = True
+        TAGS.extend(list(cases.PLAIN) * 4)
+        EDGES.extend([0, 1] * 3)
+    made = [c for c in (command() for _ in range(o.count)) if len(c[1]) <= 65535]
+    if o.lines:
         # for each kind, size of row and size of position the shortest line, where words ran out and where a word cannot come; of the longest rows
         # one for each kind
         best = {}
@@ -170,7 +213,7 @@ def main():
             print("%s\n[no 2 %d]" % (line, p))
         return
     given = "".join(line + "\n" for _, line, _, _ in made)
-    said = subprocess.run(["target/bin/cell"], input=given.encode(), stdout=subprocess.PIPE, check=True).stdout.decode().splitlines()
+    said = subprocess.run(o.program.split(), input=given.encode(), stdout=subprocess.PIPE, check=True).stdout.decode().splitlines()
     assert len(said) == len(made), (len(said), len(made))
     counts = collections.Counter()
     for (kind, line, p, row), got in zip(made, said):

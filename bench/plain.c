@@ -6,6 +6,9 @@
 
 typedef uint32_t u32;
 
+/* what annotations need stands apart, so that rows without them do not pay for it */
+#define APART __attribute__((noinline))
+
 enum { WORDS = 8192, DEPTH = 64, NAME = 65535, DECLS = 32, WORK = 16384, SORT = 1024 };
 
 enum kind { CHECK, SHIFT, BIND, FREE, FILL, PRUNE, POINT };
@@ -26,6 +29,7 @@ struct op {
     const u32 *names;        /* bind */
     u32 n;                   /* names, pairs or declarations; point: the target */
     u32 kept;                /* fill: how many declarations are kept */
+    u32 fall;                /* point: by how much more the annotations of a joined quantifier fall */
     u32 rank[DECLS];         /* fill: the new index of a kept declaration, by old index */
     struct piece piece[DECLS]; /* free: by pair; fill: by declaration, word 0 for a kept one */
     int used[DECLS];         /* prune: by index */
@@ -86,17 +90,19 @@ static void seen(struct op *op, u32 tag, u32 v, u32 depth, u32 under)
         break;
     case POINT:
         if (tag == 2 && v >= under && v - under == op->n)
-            put_measured(op, &op->piece[0], depth, under - 1);
+            put_measured(op, &op->piece[0], depth, under - 1 - op->fall);
         break;
     }
 }
+
+static u32 noted_decls(struct op *op, const u32 *row, size_t n, size_t *at, u32 depth, u32 under);
 
 /* Checks the form at `at` and measures it; 0 where it is none. */
 static int form(struct op *op, const u32 *row, size_t n, size_t *at, int expr, u32 depth, u32 under)
 {
     if (depth > DEPTH || *at >= n || row[*at] >= SORT)
         return 0;
-    u32 tag = row[(*at)++], preds = 0, exprs = 0, bound = 0;
+    u32 tag = row[(*at)++], preds = 0, exprs = 0, bound = 0, noted = 0;
     if (depth > op->deepest)
         op->deepest = depth;
     switch (expr ? tag : tag + SORT) {
@@ -123,10 +129,11 @@ static int form(struct op *op, const u32 *row, size_t n, size_t *at, int expr, u
     case 751 ... 757: case 761 ... 764: case SORT + 9:
         exprs = 1;
         break;
-    case 801 ... 803:
+    case 801 ... 803: case 871 ... 873:
         if (*at >= n || row[(*at)++] > 3)
             return 0;
         bound = preds = exprs = 1;
+        noted = tag > 803;
         break;
     case SORT + 7:
         return *at < n && row[(*at)++] <= NAME;
@@ -147,10 +154,17 @@ static int form(struct op *op, const u32 *row, size_t n, size_t *at, int expr, u
     case SORT + 851: case SORT + 852:
         bound = preds = 1;
         break;
+    case SORT + 861: case SORT + 862:
+        bound = preds = noted = 1;
+        break;
     default:
         return 0;
     }
-    if (bound) {
+    if (noted) {
+        bound = noted_decls(op, row, n, at, depth, under);
+        if (!bound)
+            return 0;
+    } else if (bound) {
         if (*at >= n || row[*at] < 1 || row[*at] > DECLS)
             return 0;
         bound = row[(*at)++];
@@ -167,11 +181,29 @@ static int form(struct op *op, const u32 *row, size_t n, size_t *at, int expr, u
     return 1;
 }
 
+/* Checks and measures the declarations of a quantifier with annotations, which are rewritten outside it; their number, or 0. */
+static APART u32 noted_decls(struct op *op, const u32 *row, size_t n, size_t *at, u32 depth, u32 under)
+{
+    if (*at >= n || row[*at] < 1 || row[*at] > DECLS)
+        return 0;
+    u32 bound = row[(*at)++], came = 0;
+    for (u32 j = 0; j < bound; j++) {
+        if (*at + 1 >= n || row[*at] > NAME || row[*at + 1] > 1)
+            return 0;
+        u32 flag = row[*at + 1];
+        *at += 2;
+        came |= flag;
+        if (flag && !form(op, row, n, at, 1, depth + 1, under))
+            return 0;
+    }
+    return came ? bound : 0;
+}
+
 static int is_expr(u32 tag)
 {
     return (1 <= tag && tag <= 6) || (201 <= tag && tag <= 227) || (301 <= tag && tag <= 307) ||
            (401 <= tag && tag <= 412) || (751 <= tag && tag <= 757) || (761 <= tag && tag <= 764) ||
-           (801 <= tag && tag <= 803);
+           (801 <= tag && tag <= 803) || (871 <= tag && tag <= 873);
 }
 
 /* 0, or the refusal of a row that must be one form. */
@@ -215,7 +247,7 @@ static int seek(struct seek *s, int expr, u32 depth, uint64_t need)
 {
     if (s->at >= s->n)
         return 0;
-    u32 tag = s->row[s->at], names = 0, counted = 0, first = 0, low = 0, bound = 0;
+    u32 tag = s->row[s->at], names = 0, counted = 0, first = 0, low = 0, bound = 0, noted = 0;
     uint64_t preds = 0, exprs = 0;
     if (expr != is_expr(tag))
         return 0;
@@ -232,6 +264,7 @@ static int seek(struct seek *s, int expr, u32 depth, uint64_t need)
     case 251: case 252: preds = 2; break;
     case 351: case 352: counted = 2; low = 2; break;
     case 851: case 852: bound = 1; preds = 1; break;
+    case 861: case 862: bound = 2; preds = 1; noted = 1; break;
     default:
         if ((101 <= tag && tag <= 112) || (201 <= tag && tag <= 227))
             exprs = 2;
@@ -241,6 +274,8 @@ static int seek(struct seek *s, int expr, u32 depth, uint64_t need)
             exprs = 1;
         else if (801 <= tag && tag <= 803)
             names = 1, first = 3, bound = 1, preds = exprs = 1;
+        else if (871 <= tag && tag <= 873)
+            names = 1, first = 3, bound = 2, preds = exprs = 1, noted = 1;
         else if (tag < 401 || tag > 412)
             return 0;
     }
@@ -255,7 +290,22 @@ static int seek(struct seek *s, int expr, u32 depth, uint64_t need)
             return 0;
         *(counted == 1 ? &exprs : &preds) = n;
     }
-    if (bound) {
+    if (noted) {
+        /* n declarations left take two words each, and one more while no annotation has come */
+        uint64_t n = s->at < s->n ? s->row[s->at] : 0;
+        u32 came = 0;
+        if (!next(s, 1, DECLS, 2 * n + 1 + kids + need))
+            return 0;
+        while (n-- > 0) {
+            u32 flag = s->at + 1 < s->n ? s->row[s->at + 1] : 0;
+            if (!next(s, 0, NAME, 1 + 2 * n + !came + kids + need) ||
+                !next(s, !came && n == 0, 1, (flag || !came) + 2 * n + kids + need))
+                return 0;
+            if (flag && !seek(s, 1, depth + 1, 2 * n + kids + need))
+                return 0;
+            came |= flag;
+        }
+    } else if (bound) {
         u32 n = s->at < s->n ? s->row[s->at] : 0;
         if (!next(s, 1, DECLS, n + least(depth, kids) + need))
             return 0;
@@ -281,7 +331,7 @@ uint64_t plain_position(const u32 *row, size_t n)
     return answer | (e.at > p.at ? e.at : p.at);
 }
 
-/* The own words after the tag of a checked form, its children and its declarations. */
+/* The own words after the tag of a checked form without annotations, its children and its declarations. */
 static void shape(const u32 *row, u32 *own, u32 *children, u32 *bound)
 {
     u32 tag = row[0];
@@ -314,7 +364,62 @@ static void shape(const u32 *row, u32 *own, u32 *children, u32 *bound)
     }
 }
 
+/* Of a checked form: whether its declarations have annotations, and which word is their number. */
+static int is_noted(u32 tag) { return tag > 852; }
+static u32 counter(u32 tag) { return tag > 862 ? 2 : 1; }
+
+static const u32 *skip_noted(const u32 *row);
+
+/* Where the checked form ends. */
+static const u32 *skip(const u32 *row)
+{
+    u32 own, children, bound;
+    if (is_noted(row[0]))
+        return skip_noted(row);
+    shape(row, &own, &children, &bound);
+    row += 1 + own;
+    while (children--)
+        row = skip(row);
+    return row;
+}
+
+/* Where a declaration with its flag and annotation ends. */
+static const u32 *skip_decl(const u32 *decl) { return decl[1] ? skip(decl + 2) : decl + 2; }
+
+static APART const u32 *skip_noted(const u32 *row)
+{
+    u32 two = row[0] > 862, bound = row[counter(row[0])];
+    row += counter(row[0]) + 1;
+    while (bound--)
+        row = skip_decl(row);
+    row = skip(row);
+    return two ? skip(row) : row;
+}
+
 static void emit(const struct op *op, const u32 **row, u32 **out, u32 under);
+
+/* Writes a declaration with its flag and annotation, which is rewritten. */
+static APART void emit_decl(const struct op *op, const u32 **row, u32 **out, u32 under)
+{
+    u32 flag = (*row)[1];
+    *(*out)++ = *(*row)++;
+    *(*out)++ = *(*row)++;
+    if (flag)
+        emit(op, row, out, under);
+}
+
+/* Writes a quantifier with annotations, rewritten. */
+static APART void emit_noted(const struct op *op, const u32 **row, u32 **out, u32 under)
+{
+    u32 two = **row > 862, own = counter(**row), bound = (*row)[own];
+    for (u32 i = 0; i <= own; i++)
+        *(*out)++ = *(*row)++;
+    for (u32 i = 0; i < bound; i++)
+        emit_decl(op, row, out, under);
+    emit(op, row, out, under + bound);
+    if (two)
+        emit(op, row, out, under + bound);
+}
 
 /* Writes a replacement, lifted. */
 static void put(const struct piece *p, u32 up_by, u32 down_by, u32 **out)
@@ -354,10 +459,11 @@ static void emit(const struct op *op, const u32 **row, u32 **out, u32 under)
                     v = under + op->rank[d];
             } else if (op->kind == POINT) {
                 if (v - under == op->n) {
-                    put(&op->piece[0], under, 1, out);
+                    put(&op->piece[0], under, 1 + op->fall, out);
                     return;
                 }
-                v -= v - under > op->n;
+                if (v - under > op->n)
+                    v -= 1 + op->fall;
             }
         } else if (r[0] == 1 && op->kind == BIND && (j = name_at(op, v)) >= 0) {
             o[0] = 2;
@@ -371,6 +477,10 @@ static void emit(const struct op *op, const u32 **row, u32 **out, u32 under)
         o[0] = r[0];
         o[1] = v;
         *out += 2;
+        return;
+    }
+    if (is_noted(r[0])) {
+        emit_noted(op, row, out, under);
         return;
     }
     shape(r, &own, &children, &bound);
@@ -482,30 +592,68 @@ uint64_t plain_free(const u32 *list, size_t count, const u32 *row, size_t n, u32
     return op.len;
 }
 
-/* The quantified predicate with the pieces that op has, from a checked row. */
-static uint64_t filled(struct op *op, const u32 *row, size_t n, u32 *out, size_t room)
+/* A quantified predicate: its operator, whether it has annotations, where each declaration starts and, behind the last, the body. */
+struct quantified {
+    u32 tag, n;
+    int noted;
+    const u32 *decl[DECLS + 1];
+};
+
+/* 0 where a checked row is not quantified. */
+static int quantified(struct quantified *q, const u32 *row)
 {
-    size_t at = 2 + op->n;
+    q->noted = row[0] == 861 || row[0] == 862;
+    if (!q->noted && row[0] != 851 && row[0] != 852)
+        return 0;
+    q->tag = row[0] - (q->noted ? 10 : 0);
+    q->n = row[1];
+    q->decl[0] = row + 2;
+    for (u32 j = 0; j < q->n; j++)
+        q->decl[j + 1] = q->noted ? skip_decl(q->decl[j]) : q->decl[j] + 1;
+    return 1;
+}
+
+/* Writes a declaration with what belongs to it, where annotations are written; where not, its name. */
+static void put_decl(const struct quantified *q, u32 j, int noted, u32 **out)
+{
+    const u32 *d = q->decl[j];
+    *(*out)++ = *d;
+    if (noted && !q->noted)
+        *(*out)++ = 0;
+    else if (noted)
+        while (++d < q->decl[j + 1])
+            *(*out)++ = *d;
+}
+
+/* The quantified predicate with the pieces that op has, from a checked row. */
+static uint64_t filled(struct op *op, const struct quantified *q, const u32 *row, size_t n, u32 *out, size_t room)
+{
+    const u32 *body = q->decl[q->n];
+    size_t at = (size_t)(body - row), words = 0;
+    int noted = 0;
     op->kind = FILL;
     op->kept = 0;
     for (u32 d = 0; d < op->n; d++)
-        if (!op->piece[op->n - 1 - d].word)
+        if (!op->piece[op->n - 1 - d].word) {
+            u32 j = op->n - 1 - d;
             op->rank[d] = op->kept++;
-    op->len = n - (op->n - op->kept) - (op->kept ? 0 : 2);
+            noted |= q->noted && q->decl[j][1];
+            words += (size_t)(q->decl[j + 1] - q->decl[j]);
+        }
+    op->len = n - at + (op->kept ? 2 : 0) + (noted ? words : op->kept);
     form(op, row, n, &at, 0, op->kept ? 2 : 1, 0);
     if (op->over || op->len > WORDS)
         return refuse(7);
     if (room < op->len)
         return refuse(14);
     if (op->kept) {
-        *out++ = row[0];
+        *out++ = q->tag + (noted ? 10 : 0);
         *out++ = op->kept;
         for (u32 j = 0; j < op->n; j++)
             if (!op->piece[j].word)
-                *out++ = row[2 + j];
+                put_decl(q, j, noted, &out);
     }
-    row += 2 + op->n;
-    emit(op, &row, &out, 0);
+    emit(op, &body, &out, 0);
     return op->len;
 }
 
@@ -513,30 +661,32 @@ uint64_t plain_fill(const u32 *list, size_t count, const u32 *row, size_t n, u32
                     size_t room)
 {
     struct op check = {.kind = CHECK}, op = {.kind = FILL};
+    struct quantified q;
     u32 k;
     (void)work;
     if (work_n < WORK)
         return refuse(15);
     if ((k = whole(&check, row, n, 1)) || (k = entries(&op, list, count, 1)))
         return refuse(k);
-    if (row[0] != 851 && row[0] != 852)
+    if (!quantified(&q, row))
         return refuse(3);
-    if (op.n != row[1])
+    if (op.n != q.n)
         return refuse(5);
-    return filled(&op, row, n, out, room);
+    return filled(&op, &q, row, n, out, room);
 }
 
 uint64_t plain_prune(const u32 *row, size_t n, u32 *out, size_t room)
 {
     struct op op = {.kind = CHECK};
+    struct quantified q;
     u32 k = whole(&op, row, n, 1), unused = 0;
     if (k)
         return refuse(k);
-    if (row[0] != 851 && row[0] != 852)
+    if (!quantified(&q, row))
         return refuse(3);
     op.kind = PRUNE;
-    op.n = row[1];
-    size_t at = 2 + op.n;
+    op.n = q.n;
+    size_t at = (size_t)(q.decl[q.n] - row);
     form(&op, row, n, &at, 0, 2, 0);
     for (u32 j = 0; j < op.n; j++) {
         op.piece[j].word = !op.used[op.n - 1 - j];
@@ -544,25 +694,15 @@ uint64_t plain_prune(const u32 *row, size_t n, u32 *out, size_t room)
     }
     if (!unused)
         return refuse(9);
-    return filled(&op, row, n, out, room);
+    return filled(&op, &q, row, n, out, room);
 }
 
-/* One point's scan: the number of declarations, and what was taken. */
+/* One point's scan: the number of declarations, and what was taken, with the lowest index that dangles in it. */
 struct point {
-    u32 n, target;
+    u32 n, target, low;
     int taken;
     struct piece piece;
 };
-
-static const u32 *skip(const u32 *row)
-{
-    u32 own, children, bound;
-    shape(row, &own, &children, &bound);
-    row += 1 + own;
-    while (children--)
-        row = skip(row);
-    return row;
-}
 
 /* Whether the equality of l and r is taken. */
 static int take(struct point *t, const u32 *l, const u32 *r)
@@ -581,6 +721,7 @@ static int take(struct point *t, const u32 *l, const u32 *r)
         return 0;
     t->taken = 1;
     t->target = target;
+    t->low = seen.low;
     t->piece = (struct piece){1, e, len, seen.deepest, seen.high, seen.dangles};
     return 1;
 }
@@ -674,49 +815,91 @@ static int scan(struct point *t, const u32 **row, u32 **out, int polarity)
     return 1;
 }
 
+/* Whether an expression mentions, after the piece is filled in for index 0, one of the declarations in front, which are 1 to n - 1. */
+static int mentions(const struct piece *p, u32 n, const u32 *e, const u32 *end, u32 low)
+{
+    struct op front = {.kind = PRUNE, .n = n};
+    size_t at = 0;
+    form(&front, e, (size_t)(end - e), &at, 1, 1, 0);
+    for (u32 i = 1; i < n; i++)
+        if (front.used[i])
+            return 1;
+    return front.used[0] && p->dangles && low < n;
+}
+
 uint64_t plain_point(const u32 *row, size_t n, u32 *work, size_t work_n, u32 *out, size_t room)
 {
     struct op op = {.kind = CHECK};
-    u32 k, tag, bound = 0;
+    struct quantified q, in = {.n = 0};
+    u32 k;
     if (work_n < WORK)
         return refuse(15);
     if ((k = whole(&op, row, n, 1)))
         return refuse(k);
-    tag = row[0];
-    if (tag != 851 && tag != 852)
+    if (!quantified(&q, row))
         return refuse(9);
-    struct point t = {.n = row[1]};
-    const u32 *names = row + 2, *body = names + t.n, *rest = work;
+    struct point t = {.n = q.n};
+    const u32 *body = q.decl[q.n], *rest = work;
     u32 *end = work;
-    if (!scan(&t, &body, &end, tag == 852))
-        *end++ = tag == 852 ? 610 : 611;
+    if (!scan(&t, &body, &end, q.tag == 852))
+        *end++ = q.tag == 852 ? 610 : 611;
     if (!t.taken)
         return refuse(9);
     op = (struct op){.kind = POINT, .n = t.target};
     op.piece[0] = t.piece;
     u32 left = t.n - 1;
-    if (left && t.target == 0 && work[0] == tag)
-        bound = work[1];
-    if (bound)
-        rest += 2 + bound;
-    if (left + bound > DECLS)
+    /* the body's own quantifier is joined where none of the rest is kept */
+    if (!left || t.target != 0 || !quantified(&in, work) || in.tag != q.tag)
+        in.n = 0;
+    if (in.noted)
+        for (u32 j = 0; j < in.n; j++)
+            if (in.decl[j][1] && mentions(&t.piece, t.n, in.decl[j] + 2, in.decl[j + 1], t.low)) {
+                in.n = 0;
+                break;
+            }
+    int noted = in.n && in.noted;
+    for (u32 j = 0; j < q.n; j++)
+        noted |= q.noted && j != q.n - 1 - t.target && q.decl[j][1];
+    if (in.n)
+        rest = in.decl[in.n];
+    if (left + in.n > DECLS)
         return refuse(7);
-    size_t at = 0, head = left ? 2 + left + bound : 0, words = (size_t)(end - rest);
-    op.len = head + words;
-    form(&op, rest, words, &at, 0, left ? 2 : 1, bound);
+    size_t at = 0, words = (size_t)(end - rest);
+    op.len = words;
+    form(&op, rest, words, &at, 0, left ? 2 : 1, in.n);
+    if (left) {
+        op.len += 2;
+        for (u32 j = 0; j < q.n; j++)
+            if (j != q.n - 1 - t.target)
+                op.len += !noted ? 1 : q.noted ? (size_t)(q.decl[j + 1] - q.decl[j]) : 2;
+        op.fall = left;
+        for (u32 j = 0; j < in.n; j++) {
+            size_t part = (size_t)(in.decl[j + 1] - in.decl[j]);
+            op.len += !noted ? 1 : in.noted ? part : 2;
+            at = 2;
+            if (in.noted && in.decl[j][1])
+                form(&op, in.decl[j], part, &at, 1, 2, 0);
+        }
+    }
     if (op.over || op.len > WORDS)
         return refuse(7);
     if (room < op.len)
         return refuse(14);
     if (left) {
-        *out++ = tag;
-        *out++ = left + bound;
-        for (u32 j = 0; j < t.n; j++)
-            if (j != t.n - 1 - t.target)
-                *out++ = names[j];
-        for (u32 j = 0; j < bound; j++)
-            *out++ = work[2 + j];
+        *out++ = q.tag + (noted ? 10 : 0);
+        *out++ = left + in.n;
+        for (u32 j = 0; j < q.n; j++)
+            if (j != q.n - 1 - t.target)
+                put_decl(&q, j, noted, &out);
+        for (u32 j = 0; j < in.n; j++) {
+            const u32 *d = in.decl[j];
+            if (in.noted)
+                emit_decl(&op, &d, &out, 0);
+            else
+                put_decl(&in, j, noted, &out);
+        }
     }
-    emit(&op, &rest, &out, bound);
+    op.fall = 0;
+    emit(&op, &rest, &out, in.n);
     return op.len;
 }

@@ -1,5 +1,6 @@
 #!/usr/bin/env python3
-"""What a refusal by 2 costs: rows of bench/rows.py, good and with a damaged last word, through the static library (bench/refused.c).
+"""What a refusal by 2 costs: rows of bench/rows.py, good and with a damaged last word, through the static library (bench/refused.c). The rows of
+a name with +notes have annotations.
 
   python3 bench/refused.py [ROUNDS]        in the repository's root, after rt staticlib sogbayile; prints a table in Markdown
 """
@@ -25,6 +26,8 @@ KINDS = {
     "atoms": lambda size: repeated([9, 4], [401], size),
     "truths": lambda size: repeated([351], [610], size),
     "nots": lambda size: repeated([351], [8, 8, 8, 610], size),
+    "notes": lambda size: repeated([351], [861, 1, 4, 1, 1, 5, 610], size),
+    "declared+notes": lambda size: repeated([351], [861, min(16, size - 8)] + [7, 0] * (min(16, size - 8) - 1) + [7, 1, 401, 610], 2 * size if size < 100 else size),
     "declared": lambda size: repeated([351], [851, min(32, size - 8)] + list(range(min(32, size - 8))) + [610], 2 * size if size < 100 else size),
     "pairs": lambda size: [1, 1, 5] * (size // 3),
     "places": lambda size: [0] * size,
@@ -44,10 +47,12 @@ def main():
     subprocess.run(["cc", "-std=gnu11", "-O3", "-c", "-o", "target/bench/plain.o", "bench/plain.c"], check=True)
     subprocess.run(["cc", "-O2", "-Iinclude", "-o", "target/bench/refused", "bench/refused.c", "target/bench/plain.o", "target/staticlib/libsogbayile.a"], check=True)
     sets = []
-    for command in COMMANDS:
+    for command, more in [(c, []) for c in COMMANDS] + [(c, ["annotated"]) for c in COMMANDS]:
         for size, count in SIZES:
-            lines = subprocess.run([sys.executable, "bench/rows.py", command, str(size), str(count), "7"], stdout=subprocess.PIPE, check=True, text=True).stdout
-            sets.append("%s %d %d" % (command, size, count))
+            if more and command == "prune" and size == 20:
+                continue        # 32 declarations with annotations alone have more words
+            lines = subprocess.run([sys.executable, "bench/rows.py", command, str(size), str(count), "7"] + more, stdout=subprocess.PIPE, check=True, text=True).stdout
+            sets.append("%s %d %d" % (command + ("+notes" if more else ""), size, count))
             for line in lines.splitlines():
                 for row in parts(line):
                     sets.append(" ".join(map(str, [len(row)] + row)))

@@ -1,9 +1,11 @@
 #!/usr/bin/env python3
-"""Prints command lines: rows.py COMMAND WORDS COUNT SEED. The forms have nearly WORDS words, nested quantifiers, bound and dangling indices."""
+"""Prints command lines: rows.py COMMAND WORDS COUNT SEED [annotated]. The forms have nearly WORDS words, nested quantifiers, bound and dangling
+indices; where asked for, every quantifier has annotations."""
 import random
 import sys
 
 command, words, count, seed = sys.argv[1], *(int(a) for a in sys.argv[2:5])
+noted = sys.argv[5:] == ["annotated"]
 random.seed(seed)
 
 
@@ -20,7 +22,15 @@ def expression(depth, k):
         a, x = expression(depth + 1, k)
         return "[752 %s]" % a, 1 + x
     (p, x), (e, y) = predicate(depth + 1, k + 2), expression(depth + 1, k + 2)
+    if noted:
+        a, z = annotation(k)
+        return "[873 0 2 4 1 %s 5 0 %s %s]" % (a, p, e), 7 + x + y + z
     return "[803 0 2 4 5 %s %s]" % (p, e), 5 + x + y
+
+
+def annotation(k):
+    a, x = "[2 %d]" % random.randint(0, k + 3), 2
+    return (a, x) if random.random() < 0.5 else ("[752 %s]" % a, 1 + x) if random.random() < 0.5 else ("[203 [1 %d] %s]" % (random.randint(0, 999), a), 3 + x)
 
 
 def predicate(depth, k):
@@ -30,6 +40,9 @@ def predicate(depth, k):
         return "[112 %s %s]" % (a, b), 1 + x + y
     if r < 0.75:
         p, x = predicate(depth + 1, k + 1)
+        if noted:
+            a, z = annotation(k)
+            return "[862 1 9 1 %s %s]" % (a, p), 4 + x + z
         return "[852 1 9 %s]" % p, 3 + x
     (p, x), (q, y) = predicate(depth + 1, k), predicate(depth + 1, k)
     return "[251 %s %s]" % (p, q), 1 + x + y
@@ -59,5 +72,11 @@ LINES = {
     "point": lambda: "[point [852 4 1 2 3 4 %s]]" % conjunction(11, "[101 [2 1] [1 7]]"),
     "member": lambda: "[member [107 [201 [1 7] [2 3]] [803 0 4 1 2 3 4 %s [201 [2 1] [2 2]]]]]" % conjunction(18),
 }
+if noted:
+    four = "1 0 2 1 [2 3] 3 1 [752 [1 5]] 4 0"
+    LINES["fill"] = lambda: "[fill [[] [1 5] [] [2 3]] [862 4 %s %s]]" % (four, conjunction(15))
+    LINES["prune"] = lambda: "[prune [862 32 %s %s]]" % (" ".join("%d 1 [2 %d]" % (n, n) if n % 2 else "%d 0" % n for n in range(32)), conjunction(98))
+    LINES["point"] = lambda: "[point [862 4 %s %s]]" % (four, conjunction(20, "[101 [2 1] [1 7]]"))
+    LINES["member"] = lambda: "[member [107 [201 [1 7] [2 3]] [873 0 4 %s %s [201 [2 1] [2 2]]]]]" % (four, conjunction(27))
 for _ in range(count):
     print(LINES[command]())

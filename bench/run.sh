@@ -11,16 +11,21 @@ rt staticlib sogbayile >/dev/null
 rt check cell >/dev/null
 bench/build.sh
 out=target/bench
-rm -f "$out"/run.*.csv
-for i in $(seq "$runs"); do "$out/driver" 10 >"$out/run.$i.csv"; done
-python3 bench/chart.py docs/benchmarks.svg "$out"/run.*.csv
+rm -f "$out"/run.*.csv "$out"/noted.*.csv
+for i in $(seq "$runs"); do
+    "$out/driver" 10 >"$out/run.$i.csv"
+    "$out/driver" 10 --annotated >"$out/noted.$i.csv"
+done
+python3 bench/chart.py docs/benchmarks.svg "$out"/run.*.csv -- "$out"/noted.*.csv
 python3 bench/refused.py
 python3 bench/lines.py target/bin/cell "$out/oracle/oracle" 7
 command -v valgrind >/dev/null || exit 0
 for command in shift free bind fill prune point member; do
     for words in 2000 8000; do
-        python3 bench/rows.py "$command" "$words" 40 "$words" >"$out/rows"
-        valgrind --tool=callgrind --callgrind-out-file="$out/cg" target/bin/cell <"$out/rows" 2>&1 >/dev/null |
-            sed -n "s/.*Collected : /instructions of $command, 40 rows of $words words: /p"
+        for kind in "" annotated; do
+            python3 bench/rows.py "$command" "$words" 40 "$words" $kind >"$out/rows"
+            valgrind --tool=callgrind --callgrind-out-file="$out/cg" target/bin/cell <"$out/rows" 2>&1 >/dev/null |
+                sed -n "s/.*Collected : /instructions of $command, 40 rows of $words words${kind:+, annotated}: /p"
+        done
     done
 done

@@ -3,7 +3,8 @@
  *   rt staticlib sogbayile        writes target/staticlib/libsogbayile.a
  *
  * ROWS. A form is a row of 32-bit words in prefix order; every row is passed as a pointer and its number of
- * words. A pointer is never null, also where the number is 0, and is aligned for its words. A row that is
+ * words. Quantifiers with annotations have the tags 861, 862 (for 851, 852) and 871 to 873 (for 801 to 803): after each
+ * declared name stands 0, or 1 and an expression, which stands outside the quantifier. A pointer is never null, also where the number is 0, and is aligned for its words. A row that is
  * written (out, work, starts, ends) overlaps no other row of the same call.
  *
  * ANSWERS. Each call answers one number of 64 bits. The upper 32 bits are 0 for an answer and the number of
@@ -40,7 +41,7 @@ enum {
     SGB_TOO_LONG = 1,         /* a row longer than 8,192 words */
     SGB_NOT_A_FORM = 2,       /* a row that is not exactly one form, or list, within the limits; or no predicate where
                                  one is needed; the lower 32 bits are the position */
-    SGB_NOT_QUANTIFIED = 3,   /* fill or prune of what is not 851 or 852 */
+    SGB_NOT_QUANTIFIED = 3,   /* fill or prune of what is not 851, 852, 861 or 862 */
     SGB_BAD_NAMES = 4,        /* a name listed twice, a name over 65,535, over 32 names */
     SGB_BAD_COUNT = 5,        /* another number of places than of declarations; a set for over 32 declarations */
     SGB_CAPTURE = 6,          /* a dangling index would come below its depth */
@@ -99,19 +100,19 @@ uint64_t sgb_free(const uint32_t *list, size_t list_len, const uint32_t *row, si
 uint64_t sgb_bind(const uint32_t *names, size_t names_len, const uint32_t *row, size_t row_len,
                   uint32_t *out, size_t out_len);
 
-/* For each declaration of the quantified predicate the list has 0 (it is kept), or 1 and the expression that is
- * put for it. 15, 1, 2, 3, 5, 7, 14. */
+/* For each declaration of the quantified predicate the list has 0 (it is kept, with its annotation), or 1 and the
+ * expression that is put for it. 15, 1, 2, 3, 5, 7, 14. */
 uint64_t sgb_fill(const uint32_t *list, size_t list_len, const uint32_t *row, size_t row_len,
                   uint32_t *work, size_t work_len, uint32_t *out, size_t out_len);
 
-/* Drops the declarations that the body never uses. 1, 2, 3, 9, 7, 14. */
+/* Drops the declarations that the body never uses, with their annotations; an annotation is no use. 1, 2, 3, 9, 7, 14. */
 uint64_t sgb_prune(const uint32_t *row, size_t row_len, uint32_t *out, size_t out_len);
 
 /* Reduces a quantified predicate by the first equality that its body offers. 15, 1, 2, 9, 7, 14. */
 uint64_t sgb_point(const uint32_t *row, size_t row_len, uint32_t *work, size_t work_len,
                    uint32_t *out, size_t out_len);
 
-/* An element of a comprehension (107 with 803 on its right) as an existence, filled as far as its equalities fix it.
+/* An element of a comprehension (107 with 803 or 873 on its right) as an existence, filled as far as its equalities fix it.
  * 15, 1, 2, 9, 7, 14. */
 uint64_t sgb_member(const uint32_t *row, size_t row_len, uint32_t *work, size_t work_len,
                    uint32_t *out, size_t out_len);

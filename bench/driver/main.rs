@@ -1,6 +1,7 @@
 //! Measures each rewriting, row to row, through the static library, against a plain C function, the published Rust
 //! (row to row, and tree to tree) and a copy of the row. Prints a line of comma-separated values for each kind of
-//! rows: nanoseconds for a row, the least of all rounds. Usage: driver [ROUNDS [OP..]]
+//! rows: nanoseconds for a row, the least of all rounds. Usage: driver [ROUNDS [--annotated] [OP..]]
+//! With --annotated every quantifier of the rows has annotations.
 
 mod one_point;
 mod rows;
@@ -90,9 +91,11 @@ fn list_for(op: Op) -> Vec<u32> {
 }
 
 fn make(op: Op, class: Class, rng: &mut Rng) -> Job {
-    let head: &[u32] = match op {
-        Op::Fill | Op::Point => &[852, 4, 1, 2, 3, 4],
-        Op::Prune => &[852, 8, 1, 2, 3, 4, 5, 6, 7, 8],
+    let head: &[u32] = match (op, class.noted) {
+        (Op::Fill | Op::Point, false) => &[852, 4, 1, 2, 3, 4],
+        (Op::Fill | Op::Point, true) => &[862, 4, 1, 0, 2, 1, 2, 3, 3, 1, 752, 1, 5, 4, 0],
+        (Op::Prune, false) => &[852, 8, 1, 2, 3, 4, 5, 6, 7, 8],
+        (Op::Prune, true) => &[862, 8, 1, 0, 2, 1, 2, 3, 3, 1, 752, 1, 5, 4, 0, 5, 0, 6, 1, 1, 5, 7, 1, 2, 0, 8, 0],
         _ => &[],
     };
     let last: &[u32] = if op == Op::Point { &[101, 2, 1, 1, 7] } else { &[] };
@@ -289,7 +292,8 @@ fn run() {
     let trees = Trees::new();
     let mut r = Rows { work: vec![0; sogbayile::WORK_WORDS], out: vec![0; sogbayile::MAX_WORDS] };
     println!("op,words,depth,binders,mean words,library,C,Rust rows,Rust trees,copy");
-    let asked: Vec<String> = std::env::args().skip(2).collect();
+    let (words, asked): (Vec<String>, Vec<String>) = std::env::args().skip(2).partition(|a| a.starts_with("--"));
+    let noted = words.iter().any(|a| a == "--annotated");
     for (op, name) in OPS {
         if !asked.is_empty() && !asked.iter().any(|a| a == name) {
             continue;
@@ -298,7 +302,7 @@ fn run() {
             for deep in [false, true] {
                 for many in [false, true] {
                     let mut rng = Rng(0x9e37_79b9_7f4a_7c15);
-                    let class = Class { words, deep, many };
+                    let class = Class { words, deep, many, noted };
                     // short rows take more rounds, so that theirs last long enough to meet a quiet moment
                     let rounds = rounds * (2000 / words).clamp(1, 30);
                     let (mean, t) = measure(op, class, rounds, &mut rng, &trees, &mut r);

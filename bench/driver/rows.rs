@@ -21,6 +21,8 @@ pub struct Class {
     pub words: usize,
     pub deep: bool,
     pub many: bool,
+    /// every quantifier has annotations
+    pub noted: bool,
 }
 
 /// Writes forms; indices that dangle go up to `top`, and not to an odd one below `even`.
@@ -38,15 +40,44 @@ impl Writer<'_> {
         self.rng.chance(percent)
     }
 
-    /// Declarations, and how many.
-    fn declare(&mut self) -> u32 {
+    /// The tag of a quantifier and its own words, then its declarations, and how many. Half of them have annotations
+    /// where any have; the last one does if no other.
+    fn declare(&mut self, tag: u32, own: &[u32], k: u32) -> u32 {
+        let noted = self.class.noted;
+        self.row.push(tag + if !noted { 0 } else if tag > 850 { 10 } else { 70 });
+        self.row.extend_from_slice(own);
         let n = 1 + self.rng.below(if self.class.many { 4 } else { 2 });
         self.row.push(n);
-        for _ in 0..n {
+        let mut came = false;
+        for j in 0..n {
             let name = self.rng.below(16);
             self.row.push(name);
+            if noted {
+                let note = self.rng.chance(50) || (!came && j + 1 == n);
+                self.row.push(u32::from(note));
+                if note {
+                    came = true;
+                    self.annotation(k);
+                }
+            }
         }
         n
+    }
+
+    /// An identifier, or one of the small expressions that types are written with.
+    fn annotation(&mut self, k: u32) {
+        match self.rng.below(4) {
+            0 => {
+                self.row.push(752);
+                self.leaf(k);
+            }
+            1 => {
+                self.row.push(203);
+                self.leaf(k);
+                self.leaf(k);
+            }
+            _ => self.leaf(k),
+        }
     }
 
     fn leaf(&mut self, k: u32) {
@@ -70,8 +101,7 @@ impl Writer<'_> {
         if words < 5 {
             self.leaf(k);
         } else if words >= 14 && self.binds() {
-            self.row.extend([803, 0]);
-            let n = self.declare();
+            let n = self.declare(803, &[0], k);
             self.pred((words - 4) / 2, k + n);
             self.expr((words - 4) / 2, k + n);
         } else if self.rng.chance(20) {
@@ -93,9 +123,10 @@ impl Writer<'_> {
             self.leaf(k);
         } else if self.binds() {
             let tag = 851 + self.rng.below(2);
-            self.row.push(tag);
-            let n = self.declare();
-            self.pred(words - 2 - n as usize, k + n);
+            let before = self.row.len();
+            let n = self.declare(tag, &[], k);
+            let used = self.row.len() - before;
+            self.pred(words.saturating_sub(used), k + n);
         } else if self.rng.chance(40) {
             self.row.push(251);
             self.pred((words - 1) / 2, k);
@@ -116,9 +147,10 @@ impl Writer<'_> {
         let side = words / levels;
         if self.binds() {
             let tag = 851 + self.rng.below(2);
-            self.row.push(tag);
-            let n = self.declare();
-            self.spine(words.saturating_sub(2 + n as usize), levels - 1, k + n);
+            let before = self.row.len();
+            let n = self.declare(tag, &[], k);
+            let used = self.row.len() - before;
+            self.spine(words.saturating_sub(used), levels - 1, k + n);
         } else if side < 6 {
             self.row.push(8);
             self.spine(words - 1, levels - 1, k);

@@ -38,6 +38,20 @@ impl Trees {
         }
     }
 
+    /// Declarations with a flag each, and an annotation where it is 1.
+    fn noted(&self, row: &[u32], at: &mut usize) -> Vec<BoundIdentDecl> {
+        let n = row[*at];
+        *at += 1;
+        (0..n)
+            .map(|_| {
+                let (name, flag) = (row[*at], row[*at + 1]);
+                *at += 2;
+                let note = (flag == 1).then(|| self.expr(row, at));
+                self.ff.bound_ident_decl(spelled(name), None, note, None)
+            })
+            .collect()
+    }
+
     fn decls(&self, row: &[u32], at: &mut usize) -> Vec<BoundIdentDecl> {
         let n = row[*at] as usize;
         let names = &row[*at + 1..*at + 1 + n];
@@ -59,11 +73,12 @@ impl Trees {
                     ff.bound_identifier(v, None, None)
                 }
             }
-            801..=803 => {
+            801..=803 | 871..=873 => {
                 assert_eq!(row[*at], 0);
                 *at += 1;
-                let op = find(&QuantExprOp::ALL, tag, |o| o.tag());
-                let decls = self.decls(row, at);
+                let noted = tag > 803;
+                let op = find(&QuantExprOp::ALL, if noted { tag - 70 } else { tag }, |o| o.tag());
+                let decls = if noted { self.noted(row, at) } else { self.decls(row, at) };
                 let guard = self.pred(row, at);
                 let value = self.expr(row, at);
                 ff.quantified_expression(op, decls, guard, value, None, Form::Explicit)
@@ -104,9 +119,10 @@ impl Trees {
                 let children = (0..n).map(|_| self.pred(row, at)).collect();
                 ff.associative_predicate(op, children, None)
             }
-            851 | 852 => {
-                let op = find(&QuantPredOp::ALL, tag, |o| o.tag());
-                let decls = self.decls(row, at);
+            851 | 852 | 861 | 862 => {
+                let noted = tag > 852;
+                let op = find(&QuantPredOp::ALL, if noted { tag - 10 } else { tag }, |o| o.tag());
+                let decls = if noted { self.noted(row, at) } else { self.decls(row, at) };
                 let body = self.pred(row, at);
                 ff.quantified_predicate(op, decls, body, None)
             }
@@ -120,9 +136,22 @@ impl Trees {
     }
 }
 
-fn put_decls(decls: &[BoundIdentDecl], out: &mut Vec<u32>) {
+fn noted(decls: &[BoundIdentDecl]) -> bool {
+    decls.iter().any(|d| d.annotation().is_some())
+}
+
+fn put_decls(decls: &[BoundIdentDecl], noted: bool, out: &mut Vec<u32>) {
     out.push(decls.len() as u32);
-    out.extend(decls.iter().map(|d| number(d.name())));
+    if !noted {
+        out.extend(decls.iter().map(|d| number(d.name())));
+        return;
+    }
+    for d in decls {
+        out.extend([number(d.name()), u32::from(d.annotation().is_some())]);
+        if let Some(e) = d.annotation() {
+            put_expr(e, out);
+        }
+    }
 }
 
 pub fn put_expr(x: &Expression, out: &mut Vec<u32>) {
@@ -140,8 +169,9 @@ pub fn put_expr(x: &Expression, out: &mut Vec<u32>) {
             put_expr(child, out);
         }
         K::Quantified { op, decls, pred, expr, .. } => {
-            out.extend([op.tag(), 0]);
-            put_decls(decls, out);
+            let noted = noted(decls);
+            out.extend([op.tag() + if noted { 70 } else { 0 }, 0]);
+            put_decls(decls, noted, out);
             put_pred(pred, out);
             put_expr(expr, out);
         }
@@ -171,8 +201,9 @@ pub fn put_pred(x: &Predicate, out: &mut Vec<u32>) {
             children.iter().for_each(|p| put_pred(p, out));
         }
         K::Quantified { op, decls, pred } => {
-            out.push(op.tag());
-            put_decls(decls, out);
+            let noted = noted(decls);
+            out.push(op.tag() + if noted { 10 } else { 0 });
+            put_decls(decls, noted, out);
             put_pred(pred, out);
         }
         _ => unreachable!("the rows hold no other predicate"),

@@ -1,11 +1,12 @@
 #!/usr/bin/env python3
-"""The library cases and what documents 01 and 02 (Paper 4) answer to them.
+"""The library cases and what documents 01 and 02 (Papers 4 and 8) answer to them.
 
   cases.py stdin  > stdin     the cases, as src/main.rt describes them
   cases.py stdout > stdout    what must be printed, from the model below
 
 The model is written from the documents on trees, apart from the specifications and the code: it reads a row into a tree, rewrites the tree
-by the rules, and writes it back. A node is (tag, own words, number of declarations, their names, children).
+by the rules, and writes it back. A node is (tag, own words, declarations, children), a declaration (name, annotation or None). The tag of a
+quantifier is 851, 852 or 801 to 803; the row has 861, 862 or 871 to 873 exactly if a declaration has an annotation.
 """
 import sys
 
@@ -34,19 +35,28 @@ WORDS, DEPTH, NAME, DECLARATIONS = 8192, 64, 65535, 32
 
 
 def shapes():
-    """For each tag the own words, from and to what number, and what they count: declarations (D), children (E, P) or nothing; then the children."""
-    name, count = (0, NAME, ""), (1, DECLARATIONS, "D")
+    """For each tag the own words, from and to what number, and what they count: declarations (D), declarations with annotations (A), children
+    (E, P) or nothing; then the children."""
+    name, count, noted = (0, NAME, ""), (1, DECLARATIONS, "D"), (1, DECLARATIONS, "A")
     return {
         "E": table(((1, 2), [name], ""), ((3,), [(0, ANY, "")], ""), ((4,), [(0, ANY, "E")], ""), ((5,), [], "P"), ((6,), [], "EE"),
                    (range(201, 228), [], "EE"), (range(301, 308), [(2, ANY, "E")], ""), (range(401, 413), [], ""), (range(751, 758), [], "E"),
-                   (range(761, 765), [], "E"), (range(801, 804), [(0, 3, ""), count], "PE")),
+                   (range(761, 765), [], "E"), (range(801, 804), [(0, 3, ""), count], "PE"), (range(871, 874), [(0, 3, ""), noted], "PE")),
         "P": table(((610, 611), [], ""), ((7,), [name], ""), ((8,), [], "P"), ((9,), [], "E"), ((10,), [(1, ANY, "E")], ""),
                    ((11,), [name, (0, ANY, "E")], ""), (range(101, 113), [], "EE"), ((251, 252), [], "PP"), ((351, 352), [(2, ANY, "P")], ""),
-                   ((851, 852), [count], "P")),
+                   ((851, 852), [count], "P"), ((861, 862), [noted], "P")),
     }
 
 
 SHAPES = shapes()
+# a tag of a row, and that of the node
+PLAIN = {861: 851, 862: 852, 871: 801, 872: 802, 873: 803}
+NOTED = {plain: tag for tag, plain in PLAIN.items()}
+
+
+def declared(what, n):
+    """The fewest words of n declarations: a name each, or a name, a flag and in all one annotation at least."""
+    return n if what == "D" else 2 * n + 1 if what == "A" else 0
 
 
 def read(ws, at, sort, depth, after=0):
@@ -60,8 +70,7 @@ def read(ws, at, sort, depth, after=0):
     def least(asked, kids):
         """The fewest words of these own words and of so many children."""
         kids += sum(lo for lo, _, what in asked if what in ("E", "P"))
-        names = sum(lo for lo, _, what in asked if what == "D")
-        return len(asked) + names + (kids if kids == 0 or depth < DEPTH else WORDS + 1)
+        return len(asked) + sum(declared(what, lo) for lo, _, what in asked) + (kids if kids == 0 or depth < DEPTH else WORDS + 1)
 
     def word(lo, hi, rest):
         """The next word, where as many words as it asks for have room after it."""
@@ -75,9 +84,20 @@ def read(ws, at, sort, depth, after=0):
     own, decls = [], []
     for i, (lo, hi, what) in enumerate(asked):
         kids = lambda n: len(kinds) + (n if what in ("E", "P") else 0)
-        n = word(lo, hi, lambda n: (n if what == "D" else 0) + least(asked[i + 1:], kids(n)))
+        n = word(lo, hi, lambda n: declared(what, n) + least(asked[i + 1:], kids(n)))
         if what == "D":
-            decls = [word(0, NAME, lambda _: n - 1 - j + least([], len(kinds))) for j in range(n)]
+            decls = [(word(0, NAME, lambda _: n - 1 - j + len(kinds)), None) for j in range(n)]
+        elif what == "A":
+            came = False        # an annotation, which stands one deeper, as the children do
+            for j in range(n):
+                others = 2 * (n - 1 - j) + len(kinds)
+                name = word(0, NAME, lambda _: 1 + (not came) + others)
+                flag = word(0 if came or j < n - 1 else 1, 1, lambda flag: (flag or not came) + others)
+                note = None
+                if flag:
+                    note, at = read(ws, at, "E", depth + 1, after + others)
+                    came = True
+                decls.append((name, note))
         else:
             own.append(n)
             kinds = what * n if what else kinds
@@ -85,14 +105,23 @@ def read(ws, at, sort, depth, after=0):
     for j, k in enumerate(kinds):
         f, at = read(ws, at, k, depth + 1, after + len(kinds) - 1 - j)
         kids.append(f)
-    return (t, own, decls, kids), at
+    return (PLAIN.get(t, t), own, decls, kids), at
+
+
+def tag_of(f):
+    """The tag that the row has."""
+    return NOTED[f[0]] if any(note for _, note in f[2]) else f[0]
 
 
 def write(f):
     t, own, decls, kids = f
-    ws = [t] + own
+    ws = [tag_of(f)] + own
     if decls:
-        ws += [len(decls)] + decls
+        ws.append(len(decls))
+    for name, note in decls:
+        ws.append(name)
+        if ws[0] in PLAIN:
+            ws += [1] + write(note) if note else [0]
     for k in kids:
         ws += write(k)
     return ws
@@ -127,7 +156,8 @@ def finish(f, room, sort):
     return ws
 
 
-# ----- the rewritings: an action sees free names and dangling indices, with the number of open declarations
+# ----- the rewritings: an action sees free names and dangling indices, with the number of open declarations; an annotation stands outside its
+# quantifier
 
 
 def walk(f, act, k=0):
@@ -136,7 +166,12 @@ def walk(f, act, k=0):
         return act("name", own[0], k)
     if t == 2:
         return f if own[0] < k else act("index", own[0] - k, k)
-    return (t, own, decls, [walk(c, act, k + len(decls)) for c in kids])
+    return (t, own, noted(decls, lambda e: walk(e, act, k)), [walk(c, act, k + len(decls)) for c in kids])
+
+
+def noted(decls, change):
+    """The declarations with each annotation changed."""
+    return [(name, note and change(note)) for name, note in decls]
 
 
 def index(i):
@@ -187,7 +222,7 @@ def bind(f, names):
 
 
 def fill(f, places):
-    """A quantified predicate, with an expression or None for each declaration."""
+    """A quantified predicate, with an expression or None for each declaration. Kept declarations have their annotations as they are."""
     op, _, decls, (body,) = f
     n = len(decls)
     kept = [j for j in range(n) if places[j] is None]
@@ -295,14 +330,49 @@ def point(f):
     if body is None:
         body = (610 if op == 852 else 611, [], [], [])
     i, e = taken
-    first = n - 1 - i
+    return partly(op, decls, {i: e}, body)
+
+
+def partly(op, decls, filled, body):
+    """The body with its declarations, the replacements of some of them (by index, as in the body) filled in: the declarations before the first
+    that is filled stand in front of the rest, and what the rest keeps joins them; else the body's own quantifier does, if it may."""
+    n = len(decls)
+    first = n - 1 - max(filled)
     front, rest = decls[:first], decls[first:]
-    new = fill((op, [], rest, [body]), [shift(e, -len(rest))] + [None] * (len(rest) - 1))
+    places = [filled.get(n - 1 - j) for j in range(first, n)]
+    new = fill((op, [], rest, [body]), [e and shift(e, -len(rest)) for e in places])
     if not front:
         return new
-    if len(rest) > 1 or new[0] == op:
+    if None in places:
         return (op, [], front + new[2], new[3])
-    return (op, [], front, [new])
+    return join(op, front, new)
+
+
+def join(op, front, new):
+    """The front round a predicate. A quantifier of the same operator is joined to it, unless an annotation there mentions the front's
+    declarations; then its annotations fall by the front's number."""
+    n = len(front)
+    if new[0] != op or any(i < n for _, note in new[2] if note for i in dangling(note)):
+        return (op, [], front, [new])
+    return (op, [], front + noted(new[2], lambda e: shift(e, -n)), new[3])
+
+
+# ----- membership
+
+
+def member(f):
+    if f[0] != 107 or f[3][1][0] != 803:
+        raise No(9)
+    element, (_, _, decls, (guard, value)) = f[3]
+    n, filled, left = len(decls), {}, []
+    for l, r in split(value, shift(element, n)):
+        no, i, side = offer(n, filled, l, r)
+        if no:
+            left.append((101, [], [], [l, r]))
+        else:
+            filled[i] = l if side == "left" else r
+    body = (351, [1 + len(left)], [], [guard] + left) if left else guard
+    return partly(852, decls, filled, body) if filled else (852, [], decls, [body])
 
 
 # ----- the calls
@@ -334,11 +404,15 @@ def good_names(names):
         raise No(4)
 
 
+# the calls that take a predicate
+PREDICATES = ("fill", "prune", "point", "member")
+
+
 def call(op, out, work, by, lst, row):
-    if op in ("free", "fill", "point") and work < 16384:
+    if op in ("free", "fill", "point", "member") and work < 16384:
         raise No(15)
-    f = form(row, "P" if op in ("fill", "prune", "point") else None)
-    s = "P" if op in ("fill", "prune", "point") else sort_of(row)
+    f = form(row, "P" if op in PREDICATES else None)
+    s = "P" if op in PREDICATES else sort_of(row)
     if op == "dangling":
         d = dangling(f)
         if len(d) > out:
@@ -355,8 +429,8 @@ def call(op, out, work, by, lst, row):
         pairs = entries(lst, "pairs")
         good_names([p[0] for p in pairs])
         return finish(free(f, dict(pairs)), out, s)
-    if op == "point":
-        return finish(point(f), out, s)
+    if op in ("point", "member"):
+        return finish((point if op == "point" else member)(f), out, s)
     places = entries(lst, "places") if op == "fill" else None
     if f[0] not in (851, 852):
         raise No(3)
@@ -546,6 +620,87 @@ def cases():
             ("first and last of 32", "new", 32, ["101 2 31 1 7", "101 2 0 2 30", "101 2 32 1 7", "101 2 31 1 8"]),
             ("every place of 3", "new", 3, ["101 2 0 2 1", "101 2 1 2 2", "101 2 2 1 7", "101 2 2 2 3"])]:
         yield one("offer, %s" % name, op, "/".join(rows), "", 0, 0, n)
+
+    # annotations: what each call makes of them, with output rows one short, as long and longer
+    # a dangling index, an outer declaration, the index 0 that is outside its own quantifier, one of a comprehension in the annotation
+    for name, row in [
+            ("outside", "862 2 4 1 2 0 5 0 101 2 0 2 2"), ("an outer declaration", "852 1 9 862 1 4 1 2 0 101 2 0 2 1"),
+            ("two declarations", "861 2 4 1 2 1 5 1 2 1 101 2 0 2 3"), ("nested", "862 1 4 1 873 0 1 5 1 2 0 9 2 1 201 2 0 2 1 9 2 1"),
+            ("twice nested", "861 1 4 1 5 862 1 5 1 871 0 1 6 1 2 1 610 2 1 9 2 1 9 2 2"), ("in a comprehension", "9 873 2 2 4 0 5 1 2 3 9 2 2 201 2 1 2 4"),
+            ("32 of them", "862 32 %s 610" % ("4 1 2 7 " * 32)), ("a name", "862 1 4 1 1 4 101 1 4 2 0")]:
+        length = len(w(row))
+        for by in (1, -1):
+            yield one("shift annotated, %s, by %d" % (name, by), "shift", row, "", length, 0, by)
+        yield one("bind annotated, %s" % name, "bind", row, "4 5", length)
+        yield one("free annotated, %s" % name, "free", row, "4 873 0 1 5 1 2 0 610 2 1", length + 16, enough)
+        yield one("dangling annotated, %s" % name, "dangling", row, "", 4)
+        yield one("prune annotated, %s" % name, "prune", row, "", length)
+        yield one("lift annotated, %s" % name, "lift", row, "", 0, length, 2)
+    fill_row, join_row = "862 3 4 1 2 1 5 0 6 1 1 7 101 2 1 2 3", "851 2 4 5 251 101 2 0 1 7 861 1 6 1 2 2 101 2 0 2 1"
+    for name, op, row, lst, length, by in [
+            ("shift", "shift", fill_row, "", 17, 1), ("bind", "bind", fill_row, "7", 17, 0), ("free", "free", fill_row, "7 201 2 0 2 1", 20, 0),
+            ("fill", "fill", fill_row, "0 1 1 5 0", 15, 0), ("fill, the old tag", "fill", fill_row, "1 2 0 0 1 2 0", 8, 0), ("prune", "prune", fill_row, "", 8, 0),
+            ("prune, one kept", "prune", "861 2 4 1 2 9 5 1 2 8 9 2 1", "", 9, 0), ("point, joined", "point", join_row, "", 13, 0),
+            ("point, not joined", "point", join_row.replace("1 2 2", "1 2 1"), "", 14, 0),
+            ("point, the old tag", "point", "862 2 4 0 5 1 2 0 351 2 101 2 0 1 7 9 2 1", "", 6, 0), ("point, one kept", "point", "862 2 4 0 5 1 2 0 351 2 101 2 1 1 7 9 2 0", "", 9, 0)]:
+        for out in (0, length - 1, length, length + 1, length + 4):
+            yield one("annotated %s, output %d" % (name, out), op, row, lst, out, enough, by)
+    # one annotation, which falls with its declaration: the old tag; the annotations of kept declarations stay as they are
+    for name, lst in [("its declaration falls", "1 1 5 0"), ("the other falls", "0 1 1 5"), ("none falls", "0 0"), ("both fall", "1 2 0 1 2 1"), ("5, fewer places", "0"), ("5, more places", "0 0 0")]:
+        yield one("fill annotated, %s" % name, "fill", "862 2 4 1 2 0 5 0 101 2 0 2 1", lst, 20, enough)
+        yield one("fill annotated for all, %s" % name, "fill", "861 2 4 1 2 1 5 0 862 1 6 1 2 1 101 2 0 2 2", lst, 20, enough)
+    yield one("fill annotated, into an annotation", "fill", "852 2 4 5 861 1 6 1 2 0 101 2 1 2 2", "0 1 873 0 1 7 1 2 0 610 2 1", 40, enough)
+    for name, lst in [("to depth 64", "1 751 2 0"), ("to depth 65", "1 751 751 2 0")]:
+        yield one("fill annotated, into an annotation, %s" % name, "fill", "852 1 4 61*8 862 1 5 1 2 0 610", lst, 69, enough)
+    for name, row in [("its declaration falls", "862 2 4 1 2 0 5 0 9 2 0"), ("the other falls", "862 2 4 1 2 0 5 0 9 2 1"), ("both fall", "861 2 4 1 2 0 5 0 9 2 2"), ("9", "861 2 4 1 2 0 5 0 101 2 0 2 1"),
+                      ("its own index is no use", "862 1 4 1 2 0 610"), ("an inner annotation is a use", "862 2 4 1 2 5 5 0 852 1 6 9 803 0 1 7 862 1 8 1 2 2 610 2 0"),
+                      ("3, a comprehension", "9 873 0 1 4 1 2 0 610 2 0"), ("32 of them, one used", "862 32 %s 9 2 31" % ("4 1 2 7 " * 32))]:
+        yield one("prune annotated, %s" % name, "prune", row, "", 20)
+    # one point: the body's own quantifier is joined where no annotation mentions the front after filling
+    for name, row in [
+            ("nothing dangles", "852 2 4 5 351 2 101 2 0 1 7 862 1 6 1 1 8 101 2 0 2 2"), ("the front", "852 2 4 5 351 2 101 2 0 2 1 862 1 6 1 2 0 610"),
+            ("outside", "852 2 4 5 351 2 101 2 0 2 1 862 1 6 1 2 2 610"), ("what was filled in is outside", "852 2 4 5 351 2 101 2 0 2 2 862 1 6 1 2 0 610"),
+            ("what was filled in is the front", "851 3 4 5 6 251 101 2 0 2 2 861 1 7 1 2 0 610"), ("the front in a comprehension", "852 2 4 5 351 2 101 2 0 1 7 862 1 6 1 803 0 1 7 9 2 2 2 0 610"),
+            ("a bound index in a comprehension", "852 2 4 5 351 2 101 2 0 1 7 862 1 6 1 803 0 1 7 9 2 3 2 0 610"), ("another operator", "852 2 4 5 351 2 101 2 0 1 7 861 1 6 1 2 2 610"),
+            ("no front", "852 1 4 351 2 101 2 0 1 7 862 1 6 1 2 1 610"), ("one kept", "852 3 4 5 6 351 2 101 2 1 1 7 862 1 7 1 2 3 610"),
+            ("the second of two mentions the front", "852 2 4 5 351 2 101 2 0 1 7 862 2 6 1 2 2 7 1 2 1 610"), ("both outside", "852 3 4 5 6 351 2 101 2 0 1 7 862 2 7 1 2 3 8 1 2 5 101 2 0 2 4"),
+            ("annotated in front", "862 2 4 1 2 0 5 1 2 1 351 2 101 2 0 1 7 852 1 6 9 2 0"), ("annotated in front and within", "862 2 4 1 2 0 5 1 2 1 351 2 101 2 0 1 7 862 1 6 1 2 2 9 2 0"),
+            ("the replacement has an annotation", "852 2 4 5 351 2 101 2 0 873 0 1 6 1 2 1 610 2 0 862 1 7 1 2 2 9 2 1"), ("its annotation is its target", "852 1 4 101 2 0 873 0 1 6 1 2 0 610 2 0"),
+            ("kept behind a front", "862 3 4 0 5 0 6 1 2 1 351 2 101 2 1 1 7 101 2 0 2 2"), ("kept behind an annotated front", "861 3 4 1 2 1 5 1 2 3 6 1 2 2 251 101 2 1 2 3 101 2 0 2 2"),
+            ("emptied", "861 1 4 1 2 0 8 101 2 0 1 7"), ("9", "862 1 4 1 2 0 101 2 0 2 0"), ("an index over 65535 that falls back", "852 4 2 3 4 5 351 2 101 2 0 2 65535 862 1 6 1 803 0 2 8 9 610 2 2 610"),
+            ("7, that index not joined", "852 4 2 3 4 5 351 2 101 2 0 2 65535 862 1 6 1 803 0 2 8 9 610 201 2 2 2 3 610"), ("32 declarations joined", "852 17 17*4 351 2 101 2 0 1 7 862 16 15*0 15*0 5 1 2 17 9 2 0"),
+            ("7, 33 declarations joined", "852 17 17*4 351 2 101 2 0 1 7 862 17 32*0 5 1 2 17 9 2 0"), ("33 declarations not joined", "852 17 17*4 351 2 101 2 0 1 7 862 17 32*0 5 1 2 16 9 2 0")]:
+        yield one("point annotated, %s" % name, "point", row, "", 80 if "32" in name or "33" in name else 26, enough)
+    # the front's flags make the result longer than the row
+    for length in (8182, 8183, 8184, 8192):
+        yield one("point annotated, a row of %d words" % length, "point", "852 20 20*4 351 2 101 2 0 1 7 862 1 6 1 4 %d %d*401 610" % (length - 36, length - 36), "", 0, enough)
+    yield one("fill annotated, 7 before 14", "fill", "862 2 4 0 5 1 2 0 9 2 1", "1 2 65535 0", 0, enough)
+    yield one("shift annotated, 7 by an annotation", "shift", "861 1 4 1 2 65535 610", "", 0, 0, 1)
+    for op, row, lst in [("free", "861 1 4 1 1 4 610", free_list), ("fill", fill_row, "0 0 0"), ("point", join_row, "")]:
+        yield one("%s annotated, 15" % op, op, row, lst, 30, 16383)
+    # where a row with annotations breaks
+    deep = "62*8 862 1 4 1 "
+    for name, row in [
+            ("no annotation", "862 1 4 0 610"), ("no annotation of two", "861 2 4 0 5 0 610"), ("the last of two", "861 2 4 0 5 1 401 610"), ("a flag of 2", "862 1 4 2 401 610"),
+            ("a flag of 2 after an annotation", "862 2 4 1 401 5 2 610"), ("no declaration", "862 0 610"), ("33 declarations", "861 33 4 1 401"), ("32 declarations", "861 32 4 1 401 31*0 31*0 610"),
+            ("a name", "862 2 4 0 65536 1 401 610"), ("a predicate as an annotation", "862 1 4 1 610 610"), ("the words end at a flag", "862 1 4"), ("at an annotation", "862 1 4 1"),
+            ("at the body", "862 1 4 1 401"), ("a mark over 3", "9 873 4 1 4 1 401 610 401"), ("a comprehension", "9 873 3 1 4 1 401 610 401"), ("without an annotation", "9 871 3 1 4 0 610 401"),
+            ("depth 64 in an annotation", deep + "401 610"), ("depth 65 in an annotation", deep + "751 401 610"), ("depth 64, a count that may be 0", deep + "4 1 401 610"),
+            ("depth 64, a quantifier", "63*8 862 1 4 1 401 610"), ("depth 64 in an annotation's comprehension", "61*8 862 1 4 1 873 0 1 5 1 401 610 401 610"),
+            ("depth 65 there", "62*8 862 1 4 1 873 0 1 5 1 401 610 401 610"), ("room for the least", "351 8185 8184*610 861 1 4 1 401 610"),
+            ("no room for the least", "351 8186 8185*610 861 1 4 1 401"), ("room for two declarations", "351 8183 8182*610 861 2 4 0 5 1 401 610"),
+            ("no room for three", "351 8183 8182*610 861 3 4 0 5 1 401 610"), ("no room for an annotation of two words", "351 8185 8184*610 861 1 4 1 2 0"),
+            ("no room for a second annotation", "351 8183 8182*610 861 2 4 1 401 5 1"), ("room for a second declaration", "351 8183 8182*610 861 2 4 1 401 5 0"),
+            ("no room for a comprehension", "351 8183 8182*610 9 873 0 1 4 1 2"), ("no room for its annotation", "351 8182 8181*610 9 873 0 1 4 1 2")]:
+        yield one("shift, breaks, annotated: %s" % name, "shift", row, "", 3)
+    yield one("free, list breaks, annotated", "free", "1 4", "4 873 0 1 5 0 610 401", 3, enough)
+    yield one("fill, list breaks, annotated", "fill", "852 1 4 610", "1 873 0 1 5 2 401 610 401", 3, enough)
+    # an annotation in a replacement stands outside its own declarations
+    for name, n, rows in [
+            ("above the target", 2, ["101 2 0 873 0 1 4 1 2 1 610 2 0"]), ("12, the target", 2, ["101 2 0 873 0 1 4 1 2 0 610 2 0"]), ("12, below the target", 2, ["101 873 0 1 4 1 2 0 610 2 0 2 1"]),
+            ("under a declaration", 2, ["101 2 0 803 0 1 4 862 1 5 1 2 0 610 2 0"]), ("12, under a declaration", 2, ["101 2 0 803 0 1 4 862 1 5 1 2 1 610 2 0"]),
+            ("10, a quantified predicate", 2, ["862 1 4 1 2 0 101 2 0 1 7"]), ("2", 2, ["101 2 0 873 0 1 4 0 610 2 0"]), ("13", 1, ["101 2 0 873 0 1 4 1 2 1 610 2 0", "101 2 0 1 7"])]:
+        yield one("offer, annotated, %s" % name, "new", "/".join(rows), "", 0, 0, n)
 
 
 CALLS = ["shift", "bind", "free", "fill", "prune", "point", "dangling", "lift", "new", "forced"]

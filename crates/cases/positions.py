@@ -1,12 +1,13 @@
 #!/usr/bin/env python3
-"""The positions of the model in cases.py against the words of document 02 (Paper 4), by trying every continuation.
+"""The positions of the model in cases.py against the words of document 02 (Papers 4 and 8), by trying every continuation.
 
 Under small limits every acceptable row over a small alphabet is listed, from the grammar of document 01 and without reading a row. The
 beginnings of these rows are what can go on. So the position of a row is the length of its longest beginning that can go on. Each such
 beginning is taken with every next word, alone and with words after it, and the model must give that position; it must accept exactly the
-listed rows. The same is done for lists of pairs and of places.
+listed rows. The same is done for lists of pairs and of places. Rows with annotations are longer, so these are tried again over fewer words.
 
-  positions.py [WORDS]        prints the number of rows that were tried, and fails at the first difference
+  positions.py [WORDS [WORDS]]        prints the number of rows that were tried, and fails at the first difference; the second number is for
+                                      the rows with annotations
 """
 import functools
 import itertools
@@ -15,8 +16,8 @@ import sys
 import cases
 
 DEPTH, NAME, DECLARATIONS = 3, 2, 2
-NUMBERS = range(0, 8)
-ALPHABET = sorted({*NUMBERS, 8, 9, 10, 11, 101, 201, 251, 301, 351, 401, 610, 751, 803, 851, 999})
+NUMBERS = range(0, 16)
+ALPHABET = sorted({*range(12), 101, 201, 251, 301, 351, 401, 610, 751, 803, 851, 862, 873, 999})
 
 
 def together(parts):
@@ -24,16 +25,27 @@ def together(parts):
     return {sum(choice, ()) for choice in itertools.product(*parts)}
 
 
-def several(sort, depth, most, n):
-    """Every row of n forms of the sort with at most so many words."""
+def several(sort, depth, most, n, whole=False):
+    """Every row of n forms of the sort with at most so many words; or the forms of each row."""
     if n == 0:
         return {()}
-    return {a + b for a in forms(sort, depth, most - n + 1) for b in several(sort, depth, most - len(a), n - 1)}
+    return {((a,) if whole else a) + b for a in forms(sort, depth, most - n + 1) for b in several(sort, depth, most - len(a), n - 1, whole)}
+
+
+def declared(depth, most):
+    """Every row of a count and so many declarations with annotations, one at least, with at most so many words."""
+    for n in range(1, DECLARATIONS + 1):
+        for names in itertools.product(range(NAME + 1), repeat=n):
+            for flags in itertools.product((0, 1), repeat=n):
+                for notes in several("E", depth, most - 1 - 2 * n, sum(flags), whole=True) if 1 in flags else ():
+                    left = list(notes)
+                    yield sum(((name, 1) + left.pop(0) if flag else (name, 0) for name, flag in zip(names, flags)), (n,))
 
 
 @functools.lru_cache(None)
 def forms(sort, depth, most):
-    """Every form of the sort, at most so deep (a leaf is 1), with at most so many words: document 01's two lists."""
+    """Every form of the sort, at most so deep (a leaf is 1), with at most so many words: document 01's two lists, with document 02's tags for
+    annotations."""
     if depth == 0 or most < 1:
         return frozenset()
     names = [(n,) for n in range(NAME + 1)]
@@ -43,15 +55,17 @@ def forms(sort, depth, most):
         heads += [((4, n), "E" * n) for n in NUMBERS] + [((301, n), "E" * n) for n in NUMBERS if n >= 2]
         heads += [((5,), "P"), ((6,), "EE"), ((201,), "EE"), ((751,), "E")]
         heads += [((803, f, n) + ds, "PE") for f in range(4) for n in range(1, DECLARATIONS + 1) for ds in together([names] * n)]
+        heads += [((873, f) + ds, "PE") for ds in declared(depth - 1, most - 4) for f in range(4)]
     else:
         heads += [((610,), ""), ((8,), "P"), ((9,), "E"), ((101,), "EE"), ((251,), "PP")] + [((7, n), "") for n, in names]
         heads += [((10, n), "E" * n) for n in NUMBERS if n >= 1] + [((11, m, n), "E" * n) for m, in names for n in NUMBERS]
         heads += [((351, n), "P" * n) for n in NUMBERS if n >= 2]
         heads += [((851, n) + ds, "P") for n in range(1, DECLARATIONS + 1) for ds in together([names] * n)]
+        heads += [((862,) + ds, "P") for ds in declared(depth - 1, most - 2)]
     out = set()
     for head, kids in heads:
         room = most - len(head)
-        if room < len(kids):
+        if room < len(kids) or not set(head) <= set(ALPHABET):
             continue
         if kids in ("PE",):
             out |= {head + p + e for p in forms("P", depth - 1, room - 1) for e in forms("E", depth - 1, room - len(p))}
@@ -100,17 +114,36 @@ def compare(name, words, accepted, read):
     print("%s: %d acceptable rows, %d beginnings, %d rows tried" % (name, len(accepted), len(viable), tried))
 
 
-def main():
-    words = int(sys.argv[1]) if len(sys.argv) > 1 else 6
+def limits(alphabet, name):
+    """The words that are tried, and the largest name; with the other limits, for the lists here and for the model."""
+    global ALPHABET, NAME
+    ALPHABET, NAME = alphabet, name
+    forms.cache_clear()
     cases.DEPTH, cases.NAME, cases.DECLARATIONS = DEPTH, NAME, DECLARATIONS
     cases.SHAPES = cases.shapes()
+
+
+def both(name, words):
     expressions, predicates = forms("E", DEPTH, words), forms("P", DEPTH, words)
-    compare("expressions", words, expressions, lambda row: cases.form(row, "E"))
-    compare("predicates", words, predicates, lambda row: cases.form(row, "P"))
-    compare("either", words, expressions | predicates, cases.form)
-    # a pair's name may be any word, so there are many more lists of pairs
-    compare("pairs", words - 1, lists("pairs", words - 1), lambda row: cases.entries(row, "pairs"))
+    compare(name + "expressions", words, expressions, lambda row: cases.form(row, "E"))
+    compare(name + "predicates", words, predicates, lambda row: cases.form(row, "P"))
+    return expressions | predicates
+
+
+def main():
+    words = int(sys.argv[1]) if len(sys.argv) > 1 else 6
+    limits(ALPHABET, NAME)
+    compare("either", words, both("", words), cases.form)
     compare("places", words, lists("places", words), lambda row: cases.entries(row, "places"))
+    # a pair's name may be any word, so there are many more lists of pairs; none of them has room for an annotation
+    limits([w for w in ALPHABET if w not in (862, 873)], NAME)
+    compare("pairs", words - 1, lists("pairs", words - 1), lambda row: cases.entries(row, "pairs"))
+    words = int(sys.argv[2]) if len(sys.argv) > 2 else 12
+    limits([0, 1, 2, 4, 5, 9, 401, 610, 862, 873], 0)
+    both("annotated, with sets: ", words - 2)
+    limits([0, 1, 2, 5, 9, 401, 610, 862, 873], 1)
+    both("annotated: ", words)
+    compare("annotated: places", words - 2, lists("places", words - 2), lambda row: cases.entries(row, "places"))
 
 
 if __name__ == "__main__":

@@ -24,7 +24,7 @@ pub enum Refusal {
     /// position of the first word at which no row of the kind can go on, or the number of words where they ran out,
     /// counted over the form, or over the list where that is at fault
     NotAForm(usize),
-    /// fill or prune of what is not 851 or 852
+    /// fill or prune of what is not 851, 852, 861 or 862
     NotQuantified,
     /// a name listed twice, a name over 65,535, over 32 names
     BadNames,

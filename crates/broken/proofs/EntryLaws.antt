@@ -8,15 +8,14 @@ use borrow.Author.Tests.{le-leb, lt-leb, leb-true}
 use lib.Dec.{leb}
 use lib.ListN.{length, getD, drop}
 use Rattle.tree.specs.Form.{pick}
-use Rattle.tree.specs.Tag.{Own, kids}
-use Rattle.form.specs.Break.{nothing, rest, least, leastAll, after, breakFrom, entryOwn, breakList}
+use Rattle.form.specs.Break.{Next, parts, nothing, rest, least, leastAll, after, breakFrom, entryNext, breakList}
 use Rattle.form.specs.Internal.Heads.{startsLeaf}
 use Rattle.form.specs.declared.answer.ListKind.{ListKind}
 use Rattle.form.specs.declared.answer.ListKind.the-variants.{Pairs, Places}
 use Rattle.form.proofs.HeadLaws.{here}
 use Rattle.broken.specs.declared.seek.Sought.{Sought}
-use Rattle.broken.specs.Internal.Seeks.{isDone, leafEntry, quickEntry, Seeks}
-use Rattle.broken.proofs.SeekLaws.{one-word, ran-out, start, all-there, leaf-past}
+use Rattle.broken.specs.Internal.Seeks.{noKids, leafEntry, quickEntry, Seeks}
+use Rattle.broken.proofs.SeekLaws.{one-word, ran-out, start, kids-there, leaf-past}
 
 -- entries that are passed at once: 0, or a word and a name or an index
 module _ (at : ℕ) (ws : List ℕ) where
@@ -69,7 +68,7 @@ module _ (row : List ℕ) (at : ℕ) (h : at < length row) where
 
 -- the entries of a list, one after another: the search has come to p
 pub record Lists (kind : ListKind) (row : List ℕ) (p : ℕ) : Type 0 where
-  pub same : breakList kind row ≡ breakFrom (entryOwn kind) p nothing (drop p row)
+  pub same : breakList kind row ≡ breakFrom (entryNext kind) p nothing (drop p row)
   pub room : p ≤ 8192
 
 pub no-entry : (kind : ListKind) (row : List ℕ) → Lists kind row 0
@@ -78,20 +77,20 @@ no-entry kind row = record { same = refl; room = omega arith }
 
 module _ (kind : ListKind) (row : List ℕ) (p : ℕ) (i : Lists kind row p) where
   pub list-over : length row ≤ p → p ≡ breakList kind row
-  list-over h = sym (i .same ∙ ran-out row (entryOwn kind) p nothing h)
+  list-over h = sym (i .same ∙ ran-out row (entryNext kind) p nothing h)
 
-  module _ (h : p < length row) (o : Own) (e : o ≡ entryOwn kind (getD row p 0)) where
-    entry-next : breakList kind row ≡ pick (leb (p + 1 + (least 64 o + 0)) 8192) (breakFrom (entryOwn kind) (p + 1) (rest 64 o nothing) (drop (p + 1) row)) p
+  module _ (h : p < length row) (o : Next) (e : o ≡ entryNext kind (getD row p 0)) where
+    entry-next : breakList kind row ≡ pick (leb (p + 1 + (least 64 o + 0)) 8192) (breakFrom (entryNext kind) (p + 1) (rest 64 o nothing) (drop (p + 1) row)) p
     unfolding leastAll after
-    entry-next = i .same ∙ (one-word row (entryOwn kind) p nothing h ∙ rw (← e))
+    entry-next = i .same ∙ (one-word row (entryNext kind) p nothing h ∙ rw (← e))
 
     pub entry-stop : leb (p + 1 + (least 64 o + 0)) 8192 ≡ false → p ≡ breakList kind row
     entry-stop f = sym (entry-next ∙ rw f)
 
     module _ (t : leb (p + 1 + (least 64 o + 0)) 8192 ≡ true) (s : Sought) (r : Seeks row (p + 1) 64 o 0 s) where
-      entry-sought : breakList kind row ≡ pick (s .ok) (breakFrom (entryOwn kind) (s .at) nothing (drop (s .at) row)) (s .at)
+      entry-sought : breakList kind row ≡ pick (s .ok) (breakFrom (entryNext kind) (s .at) nothing (drop (s .at) row)) (s .at)
       unfolding leastAll
-      entry-sought = entry-next ∙ rw t (r .breaks (entryOwn kind) nothing refl)
+      entry-sought = entry-next ∙ rw t (r .breaks (entryNext kind) nothing refl)
 
       pub entry-broken : s .ok ≡ false → s .at ≡ breakList kind row
       entry-broken f = sym (entry-sought ∙ rw f)
@@ -100,13 +99,13 @@ module _ (kind : ListKind) (row : List ℕ) (p : ℕ) (i : Lists kind row p) whe
       entry-go y = record { same = entry-sought ∙ rw y; room = let v = r .room y in omega arith }
 
 -- an entry that is passed at once is one that the search would pass
-entry-done : (row : List ℕ) (p : ℕ) → p ≤ 8192 → Seeks row p 64 (kids 0 0 0) 0 (record { ok = true; at = p })
-unfolding isDone least
-entry-done row p h = all-there row p 64 (kids 0 0 0) 0 p (kids 0 0 0) (start row p 64 (kids 0 0 0) 0 (omega arith)) refl
+entry-done : (row : List ℕ) (p : ℕ) → p ≤ 8192 → Seeks row p 64 (parts 0 0 0) 0 (record { ok = true; at = p })
+unfolding noKids least
+entry-done row p h = kids-there row p 64 (parts 0 0 0) 0 p 0 0 (start row p 64 (parts 0 0 0) 0 (omega arith)) refl
 
-entry-leaf : (row : List ℕ) (p : ℕ) → p + 2 ≤ 8192 → startsLeaf 64 (drop p row) ≡ true → Seeks row p 64 (kids 0 0 1) 0 (record { ok = true; at = p + 2 })
-unfolding isDone least
-entry-leaf row p h s = all-there row p 64 (kids 0 0 1) 0 (p + 2) (kids 0 0 0) (leaf-past row p 64 (kids 0 0 1) 0 p 0 (start row p 64 (kids 0 0 1) 0 (omega arith)) s (omega arith)) refl
+entry-leaf : (row : List ℕ) (p : ℕ) → p + 2 ≤ 8192 → startsLeaf 64 (drop p row) ≡ true → Seeks row p 64 (parts 0 0 1) 0 (record { ok = true; at = p + 2 })
+unfolding noKids least
+entry-leaf row p h s = kids-there row p 64 (parts 0 0 1) 0 (p + 2) 0 0 (leaf-past row p 64 (parts 0 0 1) 0 p 0 (start row p 64 (parts 0 0 1) 0 (omega arith)) s (omega arith)) refl
 
 leaf-facts : (at : ℕ) (ws : List ℕ) (n : ℕ) → n ≡ leafEntry at ws → 0 < n → (n ≡ 3) × (at + 3 ≤ 8192) × (startsLeaf 64 ws ≡ true)
 leaf-facts at ws n e h = by (leb (at + 3) 8192) refl (startsLeaf 64 ws) refl e
@@ -117,17 +116,17 @@ leaf-facts at ws n e h = by (leb (at + 3) 8192) refl (startsLeaf 64 ws) refl e
     by false q c r e = absurd (omega arith)
 
 module _ (row : List ℕ) (p : ℕ) (h : p < length row) where
-  leaf-by : (kind : ListKind) → Lists kind row p → kids 0 0 1 ≡ entryOwn kind (getD row p 0) → (n : ℕ) → n ≡ leafEntry p (drop (p + 1) row) → 0 < n → Lists kind row (p + n)
+  leaf-by : (kind : ListKind) → Lists kind row p → parts 0 0 1 ≡ entryNext kind (getD row p 0) → (n : ℕ) → n ≡ leafEntry p (drop (p + 1) row) → 0 < n → Lists kind row (p + n)
   unfolding least
   leaf-by kind i e n q k =
       let (three, room, leaf) = leaf-facts p (drop (p + 1) row) n q k in
-      let past = entry-go kind row p i h (kids 0 0 1) e (le-leb (p + 1 + (least 64 (kids 0 0 1) + 0)) 8192 (omega arith)) (record { ok = true; at = p + 1 + 2 }) (entry-leaf row (p + 1) (omega arith) leaf) refl in
+      let past = entry-go kind row p i h (parts 0 0 1) e (le-leb (p + 1 + (least 64 (parts 0 0 1) + 0)) 8192 (omega arith)) (record { ok = true; at = p + 1 + 2 }) (entry-leaf row (p + 1) (omega arith) leaf) refl in
       let sum : p + 1 + 2 ≡ p + n = omega arith in
       rw sum at past
 
-  kept-by : Lists Places row p → kids 0 0 0 ≡ entryOwn Places (getD row p 0) → p + 1 ≤ 8192 → Lists Places row (p + 1)
+  kept-by : Lists Places row p → parts 0 0 0 ≡ entryNext Places (getD row p 0) → p + 1 ≤ 8192 → Lists Places row (p + 1)
   unfolding least
-  kept-by i e m = entry-go Places row p i h (kids 0 0 0) e (le-leb (p + 1 + (least 64 (kids 0 0 0) + 0)) 8192 (omega arith)) (record { ok = true; at = p + 1 }) (entry-done row (p + 1) m) refl
+  kept-by i e m = entry-go Places row p i h (parts 0 0 0) e (le-leb (p + 1 + (least 64 (parts 0 0 0) + 0)) 8192 (omega arith)) (record { ok = true; at = p + 1 }) (entry-done row (p + 1) m) refl
 
   place-by : (w n : ℕ) → getD row p 0 ≡ w → Lists Places row p → n ≡ quickEntry Places p (w ∷ drop (p + 1) row) → 0 < n → Lists Places row (p + n)
   unfolding quickEntry

@@ -1,5 +1,6 @@
 pub mod DueLaws
+pub mod KidsLaws
 pub mod SeekLaws
-pub mod NameLaws
+pub mod StartLaws
 pub mod PositionLaws
 pub mod EntryLaws

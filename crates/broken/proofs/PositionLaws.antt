@@ -9,12 +9,12 @@ use borrow.Author.Tests.{le-leb, lt-leb, leb-true}
 use lib.Dec.{leb}
 use lib.ListN.{drop}
 use Rattle.tree.specs.Form.{pick}
-use Rattle.tree.specs.Tag.{Sort, expr, pred, Own, kids, wrong, own, ownOf, shapeOf}
+use Rattle.tree.specs.Tag.{Sort, expr, pred, own, ownOf, shapeOf}
 use Rattle.tree.specs.declared.tag.Shape.the-variants.{Unknown}
 use Rattle.tree.proofs.Ranges.{one-sort}
-use Rattle.form.specs.Break.{nothing, rest, least, leastAll, after, breakFrom, breakSort, breakAt}
+use Rattle.form.specs.Break.{Next, parts, never, nextOf, nothing, rest, least, leastAll, after, breakFrom, breakSort, breakAt}
 use Rattle.form.specs.declared.answer.Kind.the-variants.{Either}
-use Rattle.form.proofs.BreakLaws.{open-wrong}
+use Rattle.form.proofs.BreakLaws.{open-never}
 use Rattle.broken.specs.declared.seek.Sought.{Sought}
 use Rattle.broken.specs.Internal.Seeks.{Seeks}
 
@@ -23,28 +23,28 @@ same-both true n = refl
 same-both false n = refl
 
 -- after a whole form no word can come
-no-more : (p : ℕ) (ws : List ℕ) → breakFrom (λ w. wrong) p nothing ws ≡ p
+no-more : (p : ℕ) (ws : List ℕ) → breakFrom (λ w. never) p nothing ws ≡ p
 unfolding breakFrom after least leastAll
 no-more p [] = refl
 no-more p (w ∷ ws) = rw (lt-leb (suc p + (8193 + 0)) 8192 (omega arith))
 
-pub whole-at : (row : List ℕ) (o : Own) (s : Sought) → Seeks row 0 64 o 0 s → s .at ≡ breakFrom (λ w. wrong) 0 (rest 64 o nothing) row
+pub whole-at : (row : List ℕ) (o : Next) (s : Sought) → Seeks row 0 64 o 0 s → s .at ≡ breakFrom (λ w. never) 0 (rest 64 o nothing) row
 unfolding leastAll
-whole-at row o s h = sym (h .breaks (λ w. wrong) nothing refl ∙ rw (no-more (s .at) (drop (s .at) row)) (same-both (s .ok) (s .at)))
+whole-at row o s h = sym (h .breaks (λ w. never) nothing refl ∙ rw (no-more (s .at) (drop (s .at) row)) (same-both (s .ok) (s .at)))
 
 -- either sort: a row breaks at once as a form of a sort that has no such first tag, and no tag is of both sorts
-unknown-own : (s : Sort) (t : ℕ) → shapeOf s t ≡ Unknown → own s t ≡ wrong
-unfolding own ownOf
-unknown-own s t e = rw e
+unknown-next : (s : Sort) (t : ℕ) → shapeOf s t ≡ Unknown → nextOf (own s t) ≡ never
+unfolding nextOf own ownOf
+unknown-next s t e = rw e
 
 unknown-breaks : (s : Sort) (t : ℕ) (ws : List ℕ) → shapeOf s t ≡ Unknown → breakSort s (t ∷ ws) ≡ 0
 unfolding breakFrom after
 unknown-breaks expr t ws e =
-    let least = open-wrong (64 - 1) (rest 64 (kids 0 0 0) nothing) in
-    rw (unknown-own expr t e, least, lt-leb (1 + (8193 + leastAll (rest 64 (kids 0 0 0) nothing))) 8192 (omega arith))
+    let least = open-never (64 - 1) (rest 64 (parts 0 0 0) nothing) in
+    rw (unknown-next expr t e, least, lt-leb (1 + (8193 + leastAll (rest 64 (parts 0 0 0) nothing))) 8192 (omega arith))
 unknown-breaks pred t ws e =
-    let least = open-wrong (64 - 1) (rest 64 (kids 0 0 0) nothing) in
-    rw (unknown-own pred t e, least, lt-leb (1 + (8193 + leastAll (rest 64 (kids 0 0 0) nothing))) 8192 (omega arith))
+    let least = open-never (64 - 1) (rest 64 (parts 0 0 0) nothing) in
+    rw (unknown-next pred t e, least, lt-leb (1 + (8193 + leastAll (rest 64 (parts 0 0 0) nothing))) 8192 (omega arith))
 
 other-sort : (row : List ℕ) → 0 < breakSort pred row → breakSort expr row ≡ 0
 unfolding breakFrom

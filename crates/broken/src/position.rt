@@ -9,14 +9,13 @@ use form::head::is_leaf;
 ghost use mathlib.Core.Path.{_≡_};
 ghost use Prim.Native.Nat.{_+_, _≤_, _<_};
 ghost use lib.ListN.{length, drop};
-ghost use Rattle.tree.specs.Tag.{wrong};
-ghost use Rattle.form.specs.Break.{nothing, rest, least, breakFrom, breakAt, breakList, entryOwn};
-ghost use Rattle.broken.specs.Internal.Seeks.{ownDue, leafEntry, quickEntry};
+ghost use Rattle.form.specs.Break.{never, nothing, rest, least, breakFrom, breakAt, breakList, entryNext};
+ghost use Rattle.broken.specs.Internal.Seeks.{nextDue, leafEntry, quickEntry};
 
 // Where a row breaks of which so much must come, and nothing after it.
 fn broken_due(row: &[u32], due: Due) -> u32
-    requires { ⌜ least 64 (ownDue due) ≤ 8192 ⌝ }
-    ensures { λ r. ⌜ r ≡ breakFrom (λ w. wrong) 0 (rest 64 (ownDue due) nothing) (now (row .entry)) ⌝ }
+    requires { ⌜ least 64 (nextDue due) ≤ 8192 ⌝ }
+    ensures { λ r. ⌜ r ≡ breakFrom (λ w. never) 0 (rest 64 (nextDue due) nothing) (now (row .entry)) ⌝ }
 {
     let s = seek(row, 0, due, Limit::DEPTH, 0);
     s.at as u32
@@ -41,7 +40,7 @@ pub fn broken_at(row: &[u32], kind: Kind) -> u32
 
 // What must come after the first word of an entry.
 fn entry_due(kind: ListKind, w: u32) -> Due
-    ensures { λ r. ⌜ ownDue r ≡ entryOwn kind w ⌝ }
+    ensures { λ r. ⌜ nextDue r ≡ entryNext kind w ⌝ }
 {
     match kind {
         ListKind::Pairs => Due::Kids(0, 0, 1),

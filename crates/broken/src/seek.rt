@@ -1,22 +1,26 @@
 // The search for the word at which a row breaks.
 use crate::due::Due;
-use crate::due::after_names;
 use crate::due::after_word;
-use crate::due::child_of;
-use crate::due::is_done;
+use crate::due::child_due;
 use crate::due::is_own;
+use crate::due::later_decls;
+use crate::due::least_kids;
+use crate::due::least_later;
 use crate::due::least_words;
-use crate::due::names_of;
-use crate::due::one_fewer;
-use crate::due::only_exprs;
+use crate::kids::child_head;
+use crate::kids::exprs_after;
+use crate::kids::no_kids;
+use crate::kids::one_less;
 use form::answer::Limit;
+use form::head::Head;
 use form::head::is_leaf;
 ghost use mathlib.Core.Path.{_≡_};
-ghost use Prim.Native.Nat.{_+_, _≤_};
+ghost use Prim.Native.Nat.{_+_, _≤_, _<_};
 ghost use lib.Dec.{leb};
-ghost use lib.ListN.{drop};
-ghost use Rattle.form.specs.Break.{least};
-ghost use Rattle.broken.specs.Internal.Seeks.{ownDue, namesThere, leafNext, SeeksOwn, Seeks};
+ghost use lib.ListN.{length, drop};
+ghost use Rattle.tree.specs.Tag.{own};
+ghost use Rattle.form.specs.Break.{parts, nextOf, least};
+ghost use Rattle.broken.specs.Internal.Seeks.{sortOf, nextDue, leafNext, Starts, SeeksOwn, SeeksChild, Seeks};
 
 // Whether the rest of a node was there, and where it ended; or else where the row breaks.
 pub struct Sought {
@@ -31,39 +35,25 @@ pub struct OwnSought {
     pub due: Due,
 }
 
+// Where the children of a node begin, and how many predicates and expressions they are; or another case.
+pub enum Start {
+    At(usize, u32, u32),
+    Other,
+}
+
 // Whether the rest fits from `at` on, with so many words after it.
 pub(crate) fn fits(at: usize, depth: u32, due: Due, need: usize) -> bool
     requires { ⌜ at ≤ 8193 ⌝ }
     requires { ⌜ need ≤ 8192 ⌝ }
-    ensures { λ r. ⌜ r ≡ leb (at + (least depth (ownDue due) + need)) 8192 ⌝ }
+    ensures { λ r. ⌜ r ≡ leb (at + (least depth (nextDue due) + need)) 8192 ⌝ }
 {
     at + (least_words(depth, due) + need) <= Limit::WORDS
 }
 
-// How many of the next n words can be names, up to the first that cannot.
-fn names_there(row: &[u32], at: usize, n: u32) -> u32
-    requires { ⌜ at ≤ 8192 ⌝ }
-    ensures { λ r. ⌜ r ≡ namesThere n (drop at (now (row .entry))) ⌝ }
-{
-    let mut p = at;
-    let mut left = n;
-    while 0 < left {
-        if row.len() <= p {
-            return n - left;
-        }
-        if Limit::NAME < row[p] {
-            return n - left;
-        }
-        p += 1;
-        left -= 1;
-    }
-    n
-}
-
-// The own words of a node from `at` on, up to its first child, whose children may be so deep and after which at least so many words must come.
+// The own words of a node from `at` on, up to the next child, if children may be so deep and at least so many words must come after the node.
 fn seek_own(row: &[u32], at: usize, due: Due, depth: u32, need: usize) -> OwnSought
-    requires { ⌜ at + (least depth (ownDue due) + need) ≤ 8192 ⌝ }
-    ensures { λ r. ⌜ SeeksOwn (now (row .entry)) at depth (ownDue due) need r ⌝ }
+    requires { ⌜ at + (least depth (nextDue due) + need) ≤ 8192 ⌝ }
+    ensures { λ r. ⌜ SeeksOwn (now (row .entry)) at depth (nextDue due) need r ⌝ }
 {
     let mut p = at;
     let mut rest = due;
@@ -83,9 +73,7 @@ fn seek_own(row: &[u32], at: usize, due: Due, depth: u32, need: usize) -> OwnSou
                 due: rest,
             };
         }
-        let names = names_there(row, p + 1, names_of(rest));
-        rest = after_names(rest, names);
-        p += 1 + names as usize;
+        p += 1;
     }
     OwnSought {
         ok: true,
@@ -94,46 +82,76 @@ fn seek_own(row: &[u32], at: usize, due: Due, depth: u32, need: usize) -> OwnSou
     }
 }
 
-// Whether only expressions must come and the first of them is a name or an index, the common case, after which the others have room.
-fn is_leaf_next(row: &[u32], at: usize, due: Due, depth: u32, need: usize) -> bool
-    requires { ⌜ at + (least depth (ownDue due) + need) ≤ 8192 ⌝ }
-    ensures { λ r. ⌜ r ≡ leafNext depth (ownDue due) need at (drop at (now (row .entry))) ⌝ }
+// The children of a node whose own words begin at `at`, in the common case: its own words are there, its declarations have no flags, and what
+// must come after them has room.
+fn start_of(row: &[u32], at: usize, preds: u32, tag: u32, depth: u32, need: usize) -> Start
+    requires { ⌜ need ≤ 8192 ⌝ }
+    ensures { λ r. ⌜ Starts (now (row .entry)) at depth (nextOf (own (sortOf preds) tag)) need r ⌝ }
 {
-    if only_exprs(due) == 0 {
+    let Head::Kids(end, inner_preds, inner_exprs, decls) = child_head(row, at, preds, tag) else {
+        return Start::Other;
+    };
+    if Limit::WORDS < end {
+        return Start::Other;
+    }
+    if Limit::WORDS < end + (least_kids(depth, 0, inner_preds, inner_exprs) + need) {
+        return Start::Other;
+    }
+    Start::At(end, inner_preds, inner_exprs)
+}
+
+// Whether only expressions must come and the first of them is a name or an index, the common case, after which the others have room.
+fn is_leaf_next(row: &[u32], at: usize, preds: u32, exprs: u32, depth: u32, need: usize) -> bool
+    requires { ⌜ at + (least depth (parts 0 preds exprs) + need) ≤ 8192 ⌝ }
+    ensures { λ r. ⌜ r ≡ leafNext depth preds exprs need at (drop at (now (row .entry))) ⌝ }
+{
+    if 0 < preds {
         return false;
     }
-    if Limit::WORDS <= at + (least_words(depth, due) + need) {
+    if Limit::WORDS <= at + (least_kids(depth, 0, 0, exprs) + need) {
         return false;
     }
     is_leaf(row, at, depth)
 }
 
-// The rest of a node from `at` on, whose children may be so deep and after which at least so many words must come.
-pub(crate) fn seek(row: &[u32], at: usize, due: Due, depth: u32, need: usize) -> Sought
-    requires { ⌜ at + (least depth (ownDue due) + need) ≤ 8192 ⌝ }
-    ensures { λ r. ⌜ Seeks (now (row .entry)) at depth (ownDue due) need r ⌝ }
+// A child whose tag stands at `at`: a predicate where predicates must still come, or else an expression. Its own children may be so deep, and
+// at least so many words must come after it.
+fn seek_child(row: &[u32], at: usize, preds: u32, depth: u32, need: usize) -> Sought
+    requires { ⌜ (at < length (now row)) × (at + (1 + need) ≤ 8192) ⌝ }
+    ensures { λ r. ⌜ SeeksChild (now (row .entry)) at depth (sortOf preds) need r ⌝ }
 {
-    let own = seek_own(row, at, due, depth, need);
-    let mut p = own.at;
-    if !own.ok {
-        return Sought { ok: false, at: p };
-    }
-    let mut rest = own.due;
-    while !is_done(rest) {
+    let Start::At(p, inner_preds, inner_exprs) = start_of(row, at + 1, preds, row[at], depth, need)
+    else {
+        let due = child_due(preds, row[at]);
+        if !fits(at + 1, depth, due, need) {
+            return Sought { ok: false, at: at };
+        }
+        return seek(row, at + 1, due, depth, need);
+    };
+    seek_kids(row, p, inner_preds, inner_exprs, depth, need)
+}
+
+// So many predicates and expressions from `at` on, which may be so deep and after which at least so many words must come.
+fn seek_kids(row: &[u32], at: usize, preds: u32, exprs: u32, depth: u32, need: usize) -> Sought
+    requires { ⌜ at + (least depth (parts 0 preds exprs) + need) ≤ 8192 ⌝ }
+    ensures { λ r. ⌜ Seeks (now (row .entry)) at depth (parts 0 preds exprs) need r ⌝ }
+{
+    let mut p = at;
+    let mut more_preds = preds;
+    let mut more_exprs = exprs;
+    while !no_kids(more_preds, more_exprs) {
         if row.len() <= p {
             return Sought { ok: false, at: p };
         }
-        if is_leaf_next(row, p, rest, depth, need) {
-            rest = one_fewer(rest);
+        if is_leaf_next(row, p, more_preds, more_exprs, depth, need) {
+            more_exprs = one_less(more_exprs);
             p += 2;
         } else {
-            let child = child_of(rest, row[p]);
-            rest = one_fewer(rest);
-            let more = least_words(depth, rest) + need;
-            if !fits(p + 1, depth - 1, child, more) {
-                return Sought { ok: false, at: p };
-            }
-            let s = seek(row, p + 1, child, depth - 1, more);
+            let first_preds = more_preds;
+            more_exprs = exprs_after(more_preds, more_exprs);
+            more_preds = one_less(more_preds);
+            let more = least_kids(depth, 0, more_preds, more_exprs) + need;
+            let s = seek_child(row, p, first_preds, depth - 1, more);
             if !s.ok {
                 return s;
             }
@@ -141,4 +159,46 @@ pub(crate) fn seek(row: &[u32], at: usize, due: Due, depth: u32, need: usize) ->
         }
     }
     Sought { ok: true, at: p }
+}
+
+// The rest of a node from `at` on, whose children may be so deep and after which at least so many words must come. Own words may stand again
+// after an annotation.
+pub(crate) fn seek(row: &[u32], at: usize, due: Due, depth: u32, need: usize) -> Sought
+    requires { ⌜ at + (least depth (nextDue due) + need) ≤ 8192 ⌝ }
+    ensures { λ r. ⌜ Seeks (now (row .entry)) at depth (nextDue due) need r ⌝ }
+{
+    let mut p = at;
+    let mut rest = due;
+    loop {
+        let own = seek_own(row, p, rest, depth, need);
+        p = own.at;
+        if !own.ok {
+            return Sought { ok: false, at: p };
+        }
+        let next = own.due;
+        match next {
+            Due::Kids(names, preds, exprs) => {
+                return seek_kids(row, p, preds, exprs, depth, need);
+            }
+            Due::Note(decls, exprs) => {
+                if row.len() <= p {
+                    return Sought { ok: false, at: p };
+                }
+                let more = least_later(depth, decls, exprs) + need;
+                let note = seek_child(row, p, 0, depth - 1, more);
+                if !note.ok {
+                    return note;
+                }
+                rest = later_decls(decls, exprs);
+                p = note.at;
+            }
+            // No own word is left here, so neither of these can be.
+            Due::Ask(lo, hi, then) => {
+                return Sought { ok: false, at: p };
+            }
+            Due::Wrong => {
+                return Sought { ok: false, at: p };
+            }
+        }
+    }
 }

@@ -1,12 +1,12 @@
 -- What a reading place finds in its row.
-use mathlib.Core.List.{List}
+use mathlib.Core.List.{List, map}
 use Prim.Native.Nat.{ℕ, _+_}
 use lib.Dec.{leb, ltb}
 use lib.ListN.{length, getD}
 use Rattle.tree.specs.Form.{pick}
 use Rattle.form.specs.Answer.{Outcome, answer, withForm}
 use Rattle.form.specs.declared.answer.Kind.the-variants.{Predicate}
-use Rattle.rules.specs.Fill.{ofQuantified, quantified}
+use Rattle.rules.specs.Fill.{nameOf, ofQuantified, quantified}
 use Rattle.cursor.specs.declared.Opening.{Opening}
 
 -- the position after one word; the end stays where it is
@@ -18,4 +18,4 @@ openingOf row = record { tag = getD row 0 0; count = getD row 1 0; short = leb (
 
 -- the names that a quantified predicate declares: its answer's length is their number
 unfoldable pub declaredOutcome : List ℕ → Outcome
-declaredOutcome row = withForm Predicate row (λ s f. ofQuantified (λ t ns b. answer ns) 3 (quantified f))
+declaredOutcome row = withForm Predicate row (λ s f. ofQuantified (λ t ds b. answer (map nameOf ds)) 3 (quantified f))

@@ -6,7 +6,7 @@ ghost use mathlib.Core.Path.{_≡_};
 ghost use lib.Dec.{leb};
 ghost use lib.ListN.{length, getD};
 ghost use Rattle.form.specs.Answer.{told};
-ghost use Rattle.replace.specs.Internal.Pieces.{declaredIn};
+ghost use Rattle.decls.specs.Internal.Noted.{countIn};
 ghost use Rattle.cursor.specs.Read.{nextAt, openingOf, declaredOutcome};
 
 pub struct Cursor<'a> {
@@ -90,7 +90,7 @@ pub fn read_opening(row: &[u32]) -> Opening
 
 // The number of declarations of a row that is a quantified predicate; 0 for any other.
 fn declared(row: &[u32]) -> u32
-    ensures { λ r. ⌜ r ≡ declaredIn (now (row .entry)) ⌝ }
+    ensures { λ r. ⌜ r ≡ countIn (now (row .entry)) ⌝ }
 {
     let o = read_opening(row);
     if o.short {
@@ -100,6 +100,12 @@ fn declared(row: &[u32]) -> u32
         return o.count;
     }
     if o.tag == 852 {
+        return o.count;
+    }
+    if o.tag == 861 {
+        return o.count;
+    }
+    if o.tag == 862 {
         return o.count;
     }
     0

@@ -11,15 +11,15 @@ use lib.Dec.{leb}
 use lib.ListN.{length, getD, drop, drop-of-length-le}
 use lib.Seq.{drop-cons, drop-drop}
 use Rattle.tree.specs.Form.{pick, between}
-use Rattle.tree.specs.Tag.{Sort, Own, ask, kids, wrong, own, ownOf, shapeOf}
-use Rattle.form.specs.Decode.{Head, head, bad, addWord, addName, only, names, read}
+use Rattle.tree.specs.Tag.{Sort, Own, ask, kids, flags, wrong, own, ownOf, shapeOf}
+use Rattle.form.specs.Decode.{Head, head, flagged, bad, addWord, addName, only, names, read}
 use Rattle.form.specs.Internal.Heads.{wordAt, headAt, namesAt}
 use Rattle.tree.specs.declared.tag.Shape.{Shape}
-use Rattle.tree.specs.declared.tag.Shape.the-variants.{Unknown, Plain, Name, Value, Exprs, Preds, Apply, Compr, Quant}
+use Rattle.tree.specs.declared.tag.Shape.the-variants.{Unknown, Plain, Name, Value, Exprs, Preds, Apply, Compr, Quant, NotedCompr, NotedQuant}
 use Rattle.form.specs.declared.head.Step.the-variants.{End, Bad}
 use Rattle.form.specs.declared.head.Word.the-variants.{Is, Not}
 use Rattle.form.specs.declared.head.Head as code
-use Rattle.form.specs.declared.head.Head.the-variants.{Kids, None}
+use Rattle.form.specs.declared.head.Head.the-variants.{Kids, Noted, None}
 use Rattle.form.proofs.DecodeLaws.{clash}
 use Rattle.tree.proofs.Ranges.{split}
 
@@ -34,7 +34,7 @@ pub between-in : (lo hi w : ℕ) → lo ≤ w → w ≤ hi → between lo hi w �
 between-in lo hi w a b = rw (le-leb lo w a, le-leb w hi b)
 
 -- the word asked for
-word-is : (lo hi : ℕ) (l : List ℕ) (w : ℕ) → wordAt lo hi l ≡ Is w → (ws : List ℕ) × (l ≡ w ∷ ws) × (between lo hi w ≡ true)
+pub word-is : (lo hi : ℕ) (l : List ℕ) (w : ℕ) → wordAt lo hi l ≡ Is w → (ws : List ℕ) × (l ≡ w ∷ ws) × (between lo hi w ≡ true)
 unfolding wordAt
 word-is lo hi [] w e = absurd (clash cc)
 word-is lo hi (x ∷ l) w e = go (between lo hi x) refl e
@@ -59,10 +59,11 @@ asked-in lo hi row at w e = ⊎-elim (λ h. h) (λ h. let q : wordAt lo hi (drop
 head-word : (at w : ℕ) (h : Head) → headAt at (addWord w h) ≡ headAt (at + 1) h
 unfolding headAt
 head-word at w (head o ds p e r) = ap (λ n. Kids n p e (length ds)) (omega arith)
+head-word at w (flagged o n p e r) = ap (λ z. Noted z p e n) (omega arith)
 head-word at w bad = refl
 
 -- after the first word
-next-drop : (row : List ℕ) (at w : ℕ) (ws : List ℕ) → drop at row ≡ w ∷ ws → ws ≡ drop (at + 1) row
+pub next-drop : (row : List ℕ) (at w : ℕ) (ws : List ℕ) → drop at row ≡ w ∷ ws → ws ≡ drop (at + 1) row
 next-drop row at w ws e = rw (← drop-drop 1 at row, e)
 
 module _ (lo hi : ℕ) (k : ℕ → Own) (row : List ℕ) (at : ℕ) where
@@ -80,10 +81,15 @@ pub no-kids : (at p e : ℕ) (l : List ℕ) → headAt at (read (kids 0 p e) l) 
 unfolding headAt read
 no-kids at p e l = ap (λ n. Kids n p e 0) (omega arith)
 
+pub no-flags : (at n p e : ℕ) (l : List ℕ) → headAt at (read (flags n p e) l) ≡ Noted at p e n
+unfolding headAt read
+no-flags at n p e l = ap (λ z. Noted z p e n) (omega arith)
+
 -- names
 names-word : (at w : ℕ) (h : Head) → namesAt at (addName w h) ≡ namesAt (at + 1) h
 unfolding namesAt
 names-word at w (head o ds p e r) = ap End (omega arith)
+names-word at w (flagged o n p e r) = refl
 names-word at w bad = refl
 
 module _ (row : List ℕ) where
@@ -115,10 +121,12 @@ names-none (suc n) p l h = absurd (omega arith)
 -- n names, whatever follows them
 abbrev withKids : ℕ → ℕ → Head → Head
 withKids p e (head o ds a b r) = head o ds p e r
+withKids p e (flagged o n a b r) = bad
 withKids p e bad = bad
 
 with-name : (p e w : ℕ) (b : Bool) (h : Head) → only b (addName w (withKids p e h)) ≡ withKids p e (only b (addName w h))
 with-name p e w true (head o ds a b r) = refl
+with-name p e w true (flagged o n a b r) = refl
 with-name p e w true bad = refl
 with-name p e w false h = refl
 
@@ -129,10 +137,12 @@ names-with (suc n) p e (w ∷ l) = rw (names-with n p e l) (with-name p e w (bet
 
 abbrev Long : ℕ → Head → Type 0
 Long n (head o ds a b r) = (o ≡ []) × (length ds ≡ n)
+Long n (flagged o m a b r) = ⊥
 Long n bad = Unit {0}
 
 long-name : (n w : ℕ) (b : Bool) (h : Head) → Long n h → Long (suc n) (only b (addName w h))
 long-name n w true (head o ds a b r) q = (q .0, ap suc (q .1))
+long-name n w true (flagged o m a b r) q = tt
 long-name n w true bad q = tt
 long-name n w false h q = tt
 
@@ -146,11 +156,13 @@ unfolding headAt namesAt
 with-end n p e at q (head o ds a b r) g k =
     let x : at + length ds ≡ q = cc in
     rw (g .0) (rw (g .1) (ap (λ z. Kids z p e n) (let y = g .1 in omega arith)))
+with-end n p e at q (flagged o m a b r) g k = absurd g
 with-end n p e at q bad g k = absurd (clash cc)
 
 with-bad : (p e at : ℕ) (h : Head) → namesAt at h ≡ Bad → headAt at (withKids p e h) ≡ None
 unfolding headAt namesAt
 with-bad p e at (head o ds a b r) k = absurd (clash cc)
+with-bad p e at (flagged o m a b r) k = refl
 with-bad p e at bad k = refl
 
 pub names-go : (n p e at q : ℕ) (l : List ℕ) → namesAt at (names n 0 0 l) ≡ End q → headAt at (read (kids n p e) l) ≡ Kids q p e n
@@ -165,19 +177,23 @@ names-no n p e at l k = rw (names-with n p e l) (with-bad p e at (names n 0 0 l)
 abbrev Few : Own → Type 0
 Few (ask lo hi k) = (w : ℕ) → between lo hi w ≡ true → Few (k w)
 Few (kids n p e) = n ≤ 32
+Few (flags n p e) = n ≤ 32
 Few wrong = Unit {0}
 
 abbrev Fewer : Head → Type 0
 Fewer (head o ds p e r) = length ds ≤ 32
+Fewer (flagged o n p e r) = n ≤ 32
 Fewer bad = Unit {0}
 
 fewer-word : (w : ℕ) (b : Bool) (h : Head) → (b ≡ true → Fewer h) → Fewer (only b (addWord w h))
 fewer-word w true (head o ds p e r) q = q refl
+fewer-word w true (flagged o n p e r) q = q refl
 fewer-word w true bad q = tt
 fewer-word w false h q = tt
 
 fewer-names : (n : ℕ) (h : Head) → n ≤ 32 → Long n h → Fewer h
 fewer-names n (head o ds p e r) q g = let y = g .1 in omega arith
+fewer-names n (flagged o m p e r) q g = absurd g
 fewer-names n bad q g = tt
 
 few-read : (k : Own) (l : List ℕ) → Few k → Fewer (read k l)
@@ -185,6 +201,7 @@ unfolding read
 few-read (ask lo hi k) [] f = tt
 few-read (ask lo hi k) (w ∷ l) f = fewer-word w (between lo hi w) (read (k w) l) (λ b. few-read (k w) l (f w b))
 few-read (kids n p e) l f = fewer-names n (names n p e l) f (names-long n p e l)
+few-read (flags n p e) l f = f
 few-read wrong l f = tt
 
 between-high : (lo hi w : ℕ) → between lo hi w ≡ true → w ≤ hi
@@ -206,15 +223,28 @@ few-own (Preds m) = λ w b. omega arith
 few-own Apply = λ v c w b. omega arith
 few-own Compr = λ v c w b. between-high 1 32 w b
 few-own Quant = λ w b. between-high 1 32 w b
+few-own NotedCompr = λ v c w b. between-high 1 32 w b
+few-own NotedQuant = λ w b. between-high 1 32 w b
 
 few-head : (b p x y z : ℕ) (h : Head) → Fewer h → headAt b h ≡ Kids p x y z → z ≤ 32
 unfolding headAt
 few-head b p x y z (head o ds p′ e′ r) f e = let q : length ds ≡ z = cc in omega arith
+few-head b p x y z (flagged o n p′ e′ r) f e = absurd (clash cc)
 few-head b p x y z bad f e = absurd (clash cc)
+
+few-noted : (b p x y z : ℕ) (h : Head) → Fewer h → headAt b h ≡ Noted p x y z → z ≤ 32
+unfolding headAt
+few-noted b p x y z (head o ds p′ e′ r) f e = absurd (clash cc)
+few-noted b p x y z (flagged o n p′ e′ r) f e = let q : n ≡ z = cc in omega arith
+few-noted b p x y z bad f e = absurd (clash cc)
 
 pub few : (b p x y z : ℕ) (s : Sort) (t : ℕ) (l : List ℕ) {h : code.Head} → h ≡ headAt b (read (own s t) l) → h ≡ Kids p x y z → z ≤ 32
 unfolding own
 few b p x y z s t l e k = few-head b p x y z (read (own s t) l) (few-read (ownOf (shapeOf s t)) l (few-own (shapeOf s t))) (sym e ∙ k)
+
+pub few-flags : (b p x y z : ℕ) (s : Sort) (t : ℕ) (l : List ℕ) {h : code.Head} → h ≡ headAt b (read (own s t) l) → h ≡ Noted p x y z → z ≤ 32
+unfolding own
+few-flags b p x y z s t l e k = few-noted b p x y z (read (own s t) l) (few-read (ownOf (shapeOf s t)) l (few-own (shapeOf s t))) (sym e ∙ k)
 
 -- the head of a tag from the head of its shape
 pub shape-head : (b : ℕ) (s : Sort) (t : ℕ) (l : List ℕ) {sh : Shape} {h : code.Head} → sh ≡ shapeOf s t → h ≡ headAt b (read (ownOf sh) l) → h ≡ headAt b (read (own s t) l)
@@ -227,6 +257,7 @@ plain-head b s t p x l e k = rw (← e, k) (sym (no-kids b p x l))
 
 fewer-read : (s : Sort) (t : ℕ) (l o ds : List ℕ) (p e : ℕ) (r : List ℕ) (h : Head) → read (own s t) l ≡ h → h ≡ head o ds p e r → Fewer h → length ds ≤ 32
 fewer-read s t l o ds p e r (head o′ ds′ p′ e′ r′) q k f = let z : ds′ ≡ ds = cc in rw z at f
+fewer-read s t l o ds p e r (flagged o′ n p′ e′ r′) q k f = absurd (clash cc)
 fewer-read s t l o ds p e r bad q k f = absurd (clash cc)
 
 pub few-names : (s : Sort) (t : ℕ) (l o ds : List ℕ) (p e : ℕ) (r : List ℕ) → read (own s t) l ≡ head o ds p e r → length ds ≤ 32
@@ -236,4 +267,20 @@ few-names s t l o ds p e r q = fewer-read s t l o ds p e r (read (own s t) l) re
 pub head-rises : (b p x y w : ℕ) (z : Head) → headAt b z ≡ Kids p x y w → b < p + 1
 unfolding headAt
 head-rises b p x y w (head o ds x′ y′ l) e = let ep : p ≡ b + (length o + length ds) = cc in omega arith
+head-rises b p x y w (flagged o n x′ y′ l) e = absurd (clash cc)
 head-rises b p x y w bad e = absurd (clash cc)
+
+pub flags-rise : (b p x y w : ℕ) (z : Head) → headAt b z ≡ Noted p x y w → b < p + 1
+unfolding headAt
+flags-rise b p x y w (head o ds x′ y′ l) e = absurd (clash cc)
+flags-rise b p x y w (flagged o n x′ y′ l) e = let ep : p ≡ b + length o = cc in omega arith
+flags-rise b p x y w bad e = absurd (clash cc)
+
+fewer-flags : (s : Sort) (t : ℕ) (l o : List ℕ) (n p e : ℕ) (r : List ℕ) (h : Head) → read (own s t) l ≡ h → h ≡ flagged o n p e r → Fewer h → n ≤ 32
+fewer-flags s t l o n p e r (head o′ ds′ p′ e′ r′) q k f = absurd (clash cc)
+fewer-flags s t l o n p e r (flagged o′ n′ p′ e′ r′) q k f = let z : n′ ≡ n = cc in rw z at f
+fewer-flags s t l o n p e r bad q k f = absurd (clash cc)
+
+pub few-decls : (s : Sort) (t : ℕ) (l o : List ℕ) (n p e : ℕ) (r : List ℕ) → read (own s t) l ≡ flagged o n p e r → n ≤ 32
+unfolding own
+few-decls s t l o n p e r q = fewer-flags s t l o n p e r (read (own s t) l) refl q (few-read (ownOf (shapeOf s t)) l (few-own (shapeOf s t)))

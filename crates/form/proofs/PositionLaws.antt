@@ -1,7 +1,7 @@
 -- Where a row breaks is where document 02 says: some row of the kind within the limits begins with the words before the break, and none with
 -- these and the next word. Assumes nothing.
 use mathlib.Core.Path.{_≡_, refl, sym, _∙_}
-use mathlib.Core.Bool.{Bool, true, false, _&&_}
+use mathlib.Core.Bool.{Bool, true, false}
 use mathlib.Core.List.{List, [], _∷_, _++_, append-nil}
 use Prim.Native.Nat.{ℕ, zero, suc, _+_, _-_, _≤_, _<_}
 use native.Mathlib.Nat.{le-refl}
@@ -11,106 +11,105 @@ use lib.Dec.{leb}
 use lib.ListN.{length, take, drop, take-append-drop}
 use lib.Seq.{length-take-le}
 use Rattle.tree.specs.Form.{Form, none, more, pick, between, encode}
-use Rattle.tree.specs.Tag.{Sort, expr, pred, Own, ask, kids, wrong, own, ownOf, Tags, find, exprTags, predTags, shapeOf}
+use Rattle.tree.specs.Tag.{Sort, expr, pred, own, ownOf, Tags, find, exprTags, predTags, shapeOf}
 use Rattle.tree.specs.declared.tag.Shape.{Shape}
 use Rattle.form.specs.Decode.{got, decodeAll, decode, Whole, one, not-one, rowForm, Found, found, missing, asSort, either, formOf}
-use Rattle.form.specs.Break.{Open, nothing, rest, least, leastAll, after, breakFrom, breakSort, breakAt}
+use Rattle.form.specs.Break.{Next, word, note, parts, never, declsNext, nextOf, Open, nothing, rest, least, leastAll, after, breakFrom, breakSort, breakAt}
 use Rattle.form.specs.declared.answer.Kind.{Kind}
 use Rattle.form.specs.declared.answer.Kind.the-variants.{Expression, Predicate, Either}
 use Rattle.form.proofs.DecodeLaws.{clash, chain-sound, decode-encode}
 use Rattle.form.proofs.HeadLaws.{between-in}
 use Rattle.form.proofs.RowLaws.{found-exact, row-one}
-use Rattle.form.proofs.BreakLaws.{Fine, fine-ask, fine-kids, fine-wrong, Runs, run-room, too-many, kids-run, kids-go, open-ask, open-nil, open-wrong, open-name, open-pred, open-expr}
+use Rattle.form.proofs.BreakLaws.{Fine, fine-word, fine-note, fine-parts, fine-never, least-of, decls-fine, flags-grow, open-note, Runs, run-room, too-many, kids-run, kids-go, open-word, open-nil, open-never, open-name, open-pred, open-expr}
 
 -- the table's own words: a count from its least on, and what follows grows with it
-kids-grow : (d n p e n′ p′ e′ : ℕ) → n ≤ n′ → p ≤ p′ → e ≤ e′ → least d (kids n p e) ≤ least d (kids n′ p′ e′)
+parts-grow : (d n p e n′ p′ e′ : ℕ) → n ≤ n′ → p ≤ p′ → e ≤ e′ → least d (parts n p e) ≤ least d (parts n′ p′ e′)
 unfolding least
-kids-grow zero n p e n′ p′ e′ h i j = omega arith
-kids-grow (suc d) n p e n′ p′ e′ h i j = omega arith
+parts-grow zero n p e n′ p′ e′ h i j = omega arith
+parts-grow (suc d) n p e n′ p′ e′ h i j = omega arith
 
-least-of : (lo hi w : ℕ) → between lo hi w ≡ true → lo ≤ w
-least-of lo hi w e = leb-true lo w (left (leb lo w) e)
-  where
-    left : (b : Bool) → (b && leb w hi) ≡ true → b ≡ true
-    left true e = refl
-    left false e = absurd (clash cc)
+fine-one : (hi : ℕ) → Fine (word 0 hi (λ n. parts 0 0 0))
+fine-one hi = fine-word (between-in 0 hi 0 (omega arith) (omega arith)) (λ w d t. le-refl _) (λ w. fine-parts)
 
-fine-word : (hi : ℕ) → Fine (ask 0 hi (λ n. kids 0 0 0))
-fine-word hi = fine-ask (between-in 0 hi 0 (omega arith) (omega arith)) (λ w d t. le-refl _) (λ w. fine-kids)
+fine-exprs : (m : ℕ) → m ≤ 4294967295 → Fine (word m 4294967295 (λ n. parts 0 0 n))
+fine-exprs m h = fine-word (between-in m 4294967295 m (le-refl m) h) (λ w d t. let l = least-of m 4294967295 w t in parts-grow d 0 0 m 0 0 w (omega arith) (omega arith) (omega arith)) (λ w. fine-parts)
 
-fine-exprs : (m : ℕ) → m ≤ 4294967295 → Fine (ask m 4294967295 (λ n. kids 0 0 n))
-fine-exprs m h = fine-ask (between-in m 4294967295 m (le-refl m) h) (λ w d t. let l = least-of m 4294967295 w t in kids-grow d 0 0 m 0 0 w (omega arith) (omega arith) (omega arith)) (λ w. fine-kids)
+fine-preds : (m : ℕ) → m ≤ 4294967295 → Fine (word m 4294967295 (λ n. parts 0 n 0))
+fine-preds m h = fine-word (between-in m 4294967295 m (le-refl m) h) (λ w d t. let l = least-of m 4294967295 w t in parts-grow d 0 m 0 0 w 0 (omega arith) (omega arith) (omega arith)) (λ w. fine-parts)
 
-fine-preds : (m : ℕ) → m ≤ 4294967295 → Fine (ask m 4294967295 (λ n. kids 0 n 0))
-fine-preds m h = fine-ask (between-in m 4294967295 m (le-refl m) h) (λ w d t. let l = least-of m 4294967295 w t in kids-grow d 0 m 0 0 w 0 (omega arith) (omega arith) (omega arith)) (λ w. fine-kids)
+fine-bound : (e : ℕ) → Fine (word 1 32 (λ n. parts n 1 e))
+fine-bound e = fine-word refl (λ w d t. let l = least-of 1 32 w t in parts-grow d 1 1 e w 1 e (omega arith) (omega arith) (omega arith)) (λ w. fine-parts)
 
-fine-bound : (e : ℕ) → Fine (ask 1 32 (λ n. kids n 1 e))
-fine-bound e = fine-ask refl (λ w d t. let l = least-of 1 32 w t in kids-grow d 1 1 e w 1 e (omega arith) (omega arith) (omega arith)) (λ w. fine-kids)
+fine-flags : (e : ℕ) → Fine (word 1 32 (λ n. declsNext false n 1 e))
+fine-flags e = fine-word refl (λ w d t. flags-grow d 1 e w (least-of 1 32 w t)) (λ w. decls-fine false w 1 e)
 
 data FineTags : Tags → Type 0 where
   no-tags : FineTags []
-  a-tag : {e : ℕ × ℕ × Shape} {es : Tags} → Fine (ownOf (e .2)) → FineTags es → FineTags (e ∷ es)
+  a-tag : {e : ℕ × ℕ × Shape} {es : Tags} → Fine (nextOf (ownOf (e .2))) → FineTags es → FineTags (e ∷ es)
 
-pick-fine : (b : Bool) (x y : Shape) → Fine (ownOf x) → Fine (ownOf y) → Fine (ownOf (pick b x y))
+pick-fine : (b : Bool) (x y : Shape) → Fine (nextOf (ownOf x)) → Fine (nextOf (ownOf y)) → Fine (nextOf (ownOf (pick b x y)))
 pick-fine true x y f g = f
 pick-fine false x y f g = g
 
-find-fine : {es : Tags} → FineTags es → (t : ℕ) → Fine (ownOf (find es t))
-unfolding ownOf
-find-fine no-tags t = fine-wrong
+find-fine : {es : Tags} → FineTags es → (t : ℕ) → Fine (nextOf (ownOf (find es t)))
+unfolding ownOf nextOf
+find-fine no-tags t = fine-never
 find-fine (a-tag {e} {es} f g) t = pick-fine (leb (e .0) t) (pick (leb t (e .1)) (e .2) (find es t)) (find es t) (pick-fine (leb t (e .1)) (e .2) (find es t) f (find-fine g t)) (find-fine g t)
 
-pub own-fine : (s : Sort) (t : ℕ) → Fine (own s t)
-unfolding own shapeOf exprTags predTags ownOf
+pub own-fine : (s : Sort) (t : ℕ) → Fine (nextOf (own s t))
+unfolding own shapeOf exprTags predTags ownOf nextOf
 own-fine expr t =
     find-fine
-    (a-tag (fine-word 65535)
-    (a-tag (fine-word 4294967295)
+    (a-tag (fine-one 65535)
+    (a-tag (fine-one 4294967295)
     (a-tag (fine-exprs 0 (omega arith))
-    (a-tag fine-kids
-    (a-tag fine-kids
-    (a-tag fine-kids
+    (a-tag fine-parts
+    (a-tag fine-parts
+    (a-tag fine-parts
     (a-tag (fine-exprs 2 (omega arith))
-    (a-tag fine-kids
-    (a-tag fine-kids
-    (a-tag fine-kids
-    (a-tag (fine-ask refl (λ w d t. le-refl _) (λ w. fine-bound 1))
-    no-tags)))))))))))
+    (a-tag fine-parts
+    (a-tag fine-parts
+    (a-tag fine-parts
+    (a-tag (fine-word refl (λ w d t. le-refl _) (λ w. fine-bound 1))
+    (a-tag (fine-word refl (λ w d t. le-refl _) (λ w. fine-flags 1))
+    no-tags))))))))))))
     t
 own-fine pred t =
     find-fine
-    (a-tag (fine-word 65535)
-    (a-tag fine-kids
-    (a-tag fine-kids
+    (a-tag (fine-one 65535)
+    (a-tag fine-parts
+    (a-tag fine-parts
     (a-tag (fine-exprs 1 (omega arith))
-    (a-tag (fine-ask refl (λ w d t. le-refl _) (λ w. fine-exprs 0 (omega arith)))
-    (a-tag fine-kids
-    (a-tag fine-kids
+    (a-tag (fine-word refl (λ w d t. le-refl _) (λ w. fine-exprs 0 (omega arith)))
+    (a-tag fine-parts
+    (a-tag fine-parts
     (a-tag (fine-preds 2 (omega arith))
-    (a-tag fine-kids
+    (a-tag fine-parts
     (a-tag (fine-bound 0)
-    no-tags))))))))))
+    (a-tag (fine-flags 0)
+    no-tags)))))))))))
     t
 
 -- all that is open is of the table
 pub data Good : Open → Type 0 where
   good-none : Good nothing
-  good-rest : (d : ℕ) (o : Own) (x : Open) → Fine o → Good x → Good (rest d o x)
+  good-rest : (d : ℕ) (o : Next) (x : Open) → Fine o → Good x → Good (rest d o x)
 
-module _ (z : ℕ → Own) (fz : (w : ℕ) → Fine (z w)) where
-  in-fine : (b : Bool) (o : Own) → Fine o → Fine (pick b o wrong)
+module _ (z : ℕ → Next) (fz : (w : ℕ) → Fine (z w)) where
+  in-fine : (b : Bool) (o : Next) → Fine o → Fine (pick b o never)
   in-fine true o f = f
-  in-fine false o f = fine-wrong
+  in-fine false o f = fine-never
 
   after-good : {x : Open} → Good x → (w : ℕ) → Good (after z x w)
   unfolding after
   after-good good-none w = good-rest _ _ _ (fz w) good-none
-  after-good (good-rest d (ask lo hi k) x (fine-ask u v f) g) w = good-rest _ _ _ (in-fine (between lo hi w) (k w) (f w)) g
-  after-good (good-rest d (kids (suc n) p e) x f g) w = good-rest _ _ _ (in-fine (between 0 65535 w) (kids n p e) fine-kids) g
-  after-good (good-rest d (kids zero (suc p) e) x f g) w = good-rest _ _ _ (own-fine pred w) (good-rest _ _ _ fine-kids g)
-  after-good (good-rest d (kids zero zero (suc e)) x f g) w = good-rest _ _ _ (own-fine expr w) (good-rest _ _ _ fine-kids g)
-  after-good (good-rest d (kids zero zero zero) x f g) w = after-good g w
-  after-good (good-rest d wrong x f g) w = good-rest _ _ _ fine-wrong g
+  after-good (good-rest d (word lo hi k) x (fine-word u v f) g) w = good-rest _ _ _ (in-fine (between lo hi w) (k w) (f w)) g
+  after-good (good-rest d (note k) x (fine-note f) g) w = good-rest _ _ _ (own-fine expr w) (good-rest _ _ _ f g)
+  after-good (good-rest d (parts (suc n) p e) x f g) w = good-rest _ _ _ (in-fine (between 0 65535 w) (parts n p e) fine-parts) g
+  after-good (good-rest d (parts zero (suc p) e) x f g) w = good-rest _ _ _ (own-fine pred w) (good-rest _ _ _ fine-parts g)
+  after-good (good-rest d (parts zero zero (suc e)) x f g) w = good-rest _ _ _ (own-fine expr w) (good-rest _ _ _ fine-parts g)
+  after-good (good-rest d (parts zero zero zero) x f g) w = after-good g w
+  after-good (good-rest d never x f g) w = good-rest _ _ _ fine-never g
 
   open-none : leastAll nothing ≡ 0
   unfolding leastAll
@@ -118,16 +117,18 @@ module _ (z : ℕ → Own) (fz : (w : ℕ) → Fine (z w)) where
 
   -- a word after which one word fewer must come
   next-word : {x : Open} → Good x → (m : ℕ) → leastAll x ≡ suc m → suc m ≤ 8192 → (w : ℕ) × (leastAll (after z x w) ≡ m)
-  unfolding after own ownOf shapeOf exprTags predTags
+  unfolding after nextOf own ownOf shapeOf exprTags predTags
   next-word good-none m e h = absurd (let q = open-none in omega arith)
-  next-word (good-rest d (ask lo hi k) x (fine-ask u v f) g) m e h = let q = open-ask d x lo hi k in (lo, rw u (omega arith))
-  next-word (good-rest d (kids (suc n) p e) x f g) m q h = let r = open-name d x n p e in (0, omega arith)
-  next-word (good-rest zero (kids zero (suc p) e) x f g) m q h = let r = open-pred zero x p e in absurd (omega arith)
-  next-word (good-rest (suc d) (kids zero (suc p) e) x f g) m q h = let r = open-pred (suc d) x p e in let s = open-nil (suc d - 1) (rest (suc d) (kids zero p e) x) in (610, omega arith)
-  next-word (good-rest zero (kids zero zero (suc e)) x f g) m q h = let r = open-expr zero x e in absurd (omega arith)
-  next-word (good-rest (suc d) (kids zero zero (suc e)) x f g) m q h = let r = open-expr (suc d) x e in let s = open-nil (suc d - 1) (rest (suc d) (kids zero zero e) x) in (401, omega arith)
-  next-word (good-rest d (kids zero zero zero) x f g) m q h = next-word g m (sym (open-nil d x) ∙ q) h
-  next-word (good-rest d wrong x f g) m q h = let r = open-wrong d x in absurd (omega arith)
+  next-word (good-rest d (word lo hi k) x (fine-word u v f) g) m e h = let q = open-word d x lo hi k in (lo, rw u (omega arith))
+  next-word (good-rest zero (note k) x f g) m q h = let r = open-note zero x k in absurd (omega arith)
+  next-word (good-rest (suc d) (note k) x f g) m q h = let r = open-note (suc d) x k in let s = open-nil (suc d - 1) (rest (suc d) k x) in (401, omega arith)
+  next-word (good-rest d (parts (suc n) p e) x f g) m q h = let r = open-name d x n p e in (0, omega arith)
+  next-word (good-rest zero (parts zero (suc p) e) x f g) m q h = let r = open-pred zero x p e in absurd (omega arith)
+  next-word (good-rest (suc d) (parts zero (suc p) e) x f g) m q h = let r = open-pred (suc d) x p e in let s = open-nil (suc d - 1) (rest (suc d) (parts zero p e) x) in (610, omega arith)
+  next-word (good-rest zero (parts zero zero (suc e)) x f g) m q h = let r = open-expr zero x e in absurd (omega arith)
+  next-word (good-rest (suc d) (parts zero zero (suc e)) x f g) m q h = let r = open-expr (suc d) x e in let s = open-nil (suc d - 1) (rest (suc d) (parts zero zero e) x) in (401, omega arith)
+  next-word (good-rest d (parts zero zero zero) x f g) m q h = next-word g m (sym (open-nil d x) ∙ q) h
+  next-word (good-rest d never x f g) m q h = let r = open-never d x in absurd (omega arith)
 
   fill : (m at : ℕ) {x : Open} → Good x → leastAll x ≡ m → at + m ≤ 8192 → (v : List ℕ) × Runs z at x v
   unfolding Runs
@@ -173,12 +174,12 @@ module _ (z : ℕ → Own) (fz : (w : ℕ) → Fine (z w)) where
 
 -- a row is one form of the sort exactly where it runs
 abbrev start : Sort → Open
-start s = rest 64 (elim s [ expr ↦ kids 0 0 1 | pred ↦ kids 0 1 0 ]) nothing
+start s = rest 64 (elim s [ expr ↦ parts 0 0 1 | pred ↦ parts 0 1 0 ]) nothing
 
-abbrev none-after : ℕ → Own
-none-after w = wrong
+abbrev none-after : ℕ → Next
+none-after w = never
 
-pub run-length : (z : ℕ → Own) (at : ℕ) (x : Open) (ws : List ℕ) → Runs z at x ws → at + length ws ≤ 8192
+pub run-length : (z : ℕ → Next) (at : ℕ) (x : Open) (ws : List ℕ) → Runs z at x ws → at + length ws ≤ 8192
 unfolding Runs
 run-length z at x [] r = let h = r .0 in omega arith
 run-length z at x (w ∷ ws) r = let h = run-length z (suc at) (after z x w) ws (r .1) in omega arith
@@ -220,8 +221,8 @@ runs-one pred row r =
     (f, decode-one pred row f (omega arith) (rw j at a))
 
 good-start : (s : Sort) → Good (start s)
-good-start expr = good-rest _ _ _ fine-kids good-none
-good-start pred = good-rest _ _ _ fine-kids good-none
+good-start expr = good-rest _ _ _ fine-parts good-none
+good-start pred = good-rest _ _ _ fine-parts good-none
 
 least-start : (s : Sort) → 0 + leastAll (start s) ≤ 8192
 unfolding leastAll least
@@ -231,14 +232,14 @@ least-start pred = omega arith
 -- some form of the sort begins with the words before the break
 pub sort-goes-on : (s : Sort) (row : List ℕ) → (v : List ℕ) × (f : Form) × (rowForm s (take (breakSort s row) row ++ v) ≡ one f)
 sort-goes-on s row =
-    let (v, r) = goes-on none-after (λ w. fine-wrong) row 0 (start s) (good-start s) (least-start s) (breakSort s row) (omega arith) in
+    let (v, r) = goes-on none-after (λ w. fine-never) row 0 (start s) (good-start s) (least-start s) (breakSort s row) (omega arith) in
     let (f, e) = runs-one s (take (breakSort s row) row ++ v) r in
     (v, f, e)
 
 -- and no more of the row's words can begin one
 pub sort-stops : (s : Sort) (row : List ℕ) (n : ℕ) (v : List ℕ) (f : Form) → n ≤ length row → rowForm s (take n row ++ v) ≡ one f → n ≤ breakSort s row
 sort-stops s row n v f h e =
-    let r = run-prefix none-after (λ w. fine-wrong) (take n row) v (drop n row) 0 (start s) (one-runs s (take n row ++ v) f e) in
+    let r = run-prefix none-after (λ w. fine-never) (take n row) v (drop n row) 0 (start s) (one-runs s (take n row ++ v) f e) in
     let k = rw (take-append-drop n row) at r in
     let l = length-take-le n row h in
     omega arith

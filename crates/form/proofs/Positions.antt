@@ -5,7 +5,7 @@ use Prim.Native.Nat.{ℕ}
 use lib.ListN.{replicate}
 use Rattle.tree.specs.Tag.{own, ownOf, shapeOf, exprTags, predTags}
 use Rattle.form.specs.Decode.{missing, formOf, rowForm, decode, decodeAll, read}
-use Rattle.form.specs.Break.{least, leastAll, after, breakFrom, breakAt, breakList}
+use Rattle.form.specs.Break.{declsNext, nextOf, least, leastAll, after, breakFrom, breakAt, breakList}
 use Rattle.form.specs.declared.answer.Kind.the-variants.{Expression, Predicate, Either}
 use Rattle.form.specs.declared.answer.ListKind.the-variants.{Pairs, Places}
 
@@ -33,7 +33,7 @@ abbrev breaks : List ℕ
 breaks = 0 ∷ 0 ∷ 3 ∷ 4 ∷ 2 ∷ 1 ∷ 1 ∷ 3 ∷ 1 ∷ 1 ∷ 6 ∷ []
 
 pub worked-rows : map (λ row. breakAt Either row) rows ≡ breaks
-unfolding breakAt breakFrom leastAll least after own ownOf shapeOf exprTags predTags
+unfolding breakAt breakFrom leastAll least after nextOf own ownOf shapeOf exprTags predTags
 worked-rows = refl
 
 -- the limits of the whole row: a count that cannot be met in 8,192 words, and the largest that can; nothing stands at depth 65, and at
@@ -52,25 +52,46 @@ abbrev deepBreaks : List ℕ
 deepBreaks = 1 ∷ 2 ∷ 64 ∷ 63 ∷ 65 ∷ 64 ∷ []
 
 pub worked-limits : map (λ row. breakAt Either row) deep ≡ deepBreaks
-unfolding breakAt breakFrom leastAll least after own ownOf shapeOf exprTags predTags
+unfolding breakAt breakFrom leastAll least after nextOf own ownOf shapeOf exprTags predTags
 worked-limits = refl
+
+-- annotations: a flag that is neither 0 nor 1; the last flag 0 where no annotation came, and where one did; a predicate as annotation; an
+-- annotation, and the words after it, that run out; a quantifier at depth 63, whose annotation may have no children, and one at depth 64
+abbrev annotated : List (List ℕ)
+annotated =
+    (862 ∷ 1 ∷ 4 ∷ 2 ∷ 1 ∷ 7 ∷ 610 ∷ [])
+    ∷ (862 ∷ 1 ∷ 4 ∷ 0 ∷ 610 ∷ [])
+    ∷ (861 ∷ 2 ∷ 4 ∷ 1 ∷ 1 ∷ 7 ∷ 5 ∷ 0 ∷ 610 ∷ [])
+    ∷ (862 ∷ 2 ∷ 4 ∷ 0 ∷ 5 ∷ 1 ∷ 610 ∷ [])
+    ∷ (873 ∷ 0 ∷ 1 ∷ 4 ∷ 1 ∷ 1 ∷ [])
+    ∷ (873 ∷ 0 ∷ 1 ∷ 4 ∷ 1 ∷ 1 ∷ 7 ∷ 610 ∷ [])
+    ∷ (nots 62 ++ (862 ∷ 1 ∷ 4 ∷ 1 ∷ 4 ∷ 1 ∷ 401 ∷ []))
+    ∷ (nots 63 ++ (862 ∷ 1 ∷ 4 ∷ 1 ∷ 401 ∷ 610 ∷ []))
+    ∷ []
+
+abbrev annotatedBreaks : List ℕ
+annotatedBreaks = 3 ∷ 3 ∷ 9 ∷ 6 ∷ 6 ∷ 8 ∷ 67 ∷ 63 ∷ []
+
+pub worked-annotations : map (λ row. breakAt Either row) annotated ≡ annotatedBreaks
+unfolding breakAt breakFrom leastAll least after nextOf declsNext own ownOf shapeOf exprTags predTags
+worked-annotations = refl
 
 -- a row breaks by the kind that is asked for
 pub worked-kinds : (breakAt Expression (610 ∷ []) ≡ 0) × (breakAt Predicate (1 ∷ 4 ∷ []) ≡ 0) × (breakAt Predicate (610 ∷ []) ≡ 1)
-unfolding breakAt breakFrom leastAll least after own ownOf shapeOf exprTags predTags
+unfolding breakAt breakFrom leastAll least after nextOf own ownOf shapeOf exprTags predTags
 worked-kinds = (refl, refl, refl)
 
 -- lists: a pair's name may be any word, a place is 0 or 1; a pair without its expression; a predicate in its place
 pub worked-lists : (breakList Pairs (70000 ∷ 3 ∷ 5 ∷ []) ≡ 3) × (breakList Pairs (4 ∷ []) ≡ 1) × (breakList Pairs (4 ∷ 3 ∷ 0 ∷ 5 ∷ 610 ∷ []) ≡ 4) × (breakList Places (0 ∷ 2 ∷ []) ≡ 1) × (breakList Places (0 ∷ 1 ∷ []) ≡ 2)
-unfolding breakList breakFrom leastAll least after own ownOf shapeOf exprTags predTags
+unfolding breakList breakFrom leastAll least after nextOf own ownOf shapeOf exprTags predTags
 worked-lists = (refl, refl, refl, refl, refl)
 
 -- a row that breaks at its end need not be accepted: its words ran out
 pub worked-ran-out : (breakAt Either (101 ∷ 1 ∷ 4 ∷ []) ≡ 3) × (formOf Either (101 ∷ 1 ∷ 4 ∷ []) ≡ missing)
-unfolding breakAt breakFrom leastAll least after own ownOf shapeOf exprTags predTags formOf rowForm decode decodeAll read
+unfolding breakAt breakFrom leastAll least after nextOf own ownOf shapeOf exprTags predTags formOf rowForm decode decodeAll read
 worked-ran-out = (refl, refl)
 
 -- a list of more than 8,192 words breaks at the first word too many, although its entries are right
 pub worked-too-long : breakList Places (replicate 8193 0) ≡ 8192
-unfolding breakList breakFrom leastAll least after
+unfolding breakList breakFrom leastAll least after nextOf
 worked-too-long = refl

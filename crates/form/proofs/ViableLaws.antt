@@ -14,10 +14,10 @@ use lib.Dec.{leb}
 use lib.ListN.{length, take, drop, take-append-drop}
 use lib.Seq.{take-length, take-take}
 use Rattle.tree.specs.Form.{Form, pick}
-use Rattle.tree.specs.Tag.{Sort, expr, pred, Own}
+use Rattle.tree.specs.Tag.{Sort, expr, pred}
 use Rattle.form.specs.Decode.{Found, found, missing, formOf}
 use Rattle.form.specs.Lists.{Entry, listOf}
-use Rattle.form.specs.Break.{Open, leastAll, after, breakFrom, breakSort, breakAt, breakList}
+use Rattle.form.specs.Break.{Next, Open, leastAll, after, breakFrom, breakSort, breakAt, breakList}
 use Rattle.form.specs.declared.answer.Kind.{Kind}
 use Rattle.form.specs.declared.answer.Kind.the-variants.{Expression, Predicate, Either}
 use Rattle.form.specs.declared.answer.ListKind.{ListKind}
@@ -62,7 +62,7 @@ viable-list-shorter : (kind : ListKind) (a b : List ℕ) → ViableList kind (a 
 viable-list-shorter kind a b (v, es, l, e) = (b ++ v, es, rw (← append-assoc a b v) l, rw (← append-assoc a b v) e)
 
 -- no break stands past the end of the row
-break-within : (z : ℕ → Own) (at : ℕ) (x : Open) (ws : List ℕ) → breakFrom z at x ws ≤ at + length ws
+break-within : (z : ℕ → Next) (at : ℕ) (x : Open) (ws : List ℕ) → breakFrom z at x ws ≤ at + length ws
 unfolding breakFrom
 break-within z at x [] = omega arith
 break-within z at x (w ∷ ws) = go (leb (suc at + leastAll (after z x w)) 8192) (break-within z (suc at) (after z x w) ws)
@@ -71,7 +71,7 @@ break-within z at x (w ∷ ws) = go (leb (suc at + leastAll (after z x w)) 8192)
     go true h = omega arith
     go false h = omega arith
 
-from-start : (z : ℕ → Own) (x : Open) (row : List ℕ) → breakFrom z 0 x row ≤ length row
+from-start : (z : ℕ → Next) (x : Open) (row : List ℕ) → breakFrom z 0 x row ≤ length row
 from-start z x row = let h : breakFrom z 0 x row ≤ 0 + length row = break-within z 0 x row in omega arith
 
 sort-within : (s : Sort) (row : List ℕ) → breakSort s row ≤ length row

@@ -1,51 +1,79 @@
 -- Where a row breaks: the position of the first word at which no row of the kind can go on within the limits, or the row's length. It goes word
 -- by word, with what must still come and the fewest words that this takes.
+use mathlib.Core.Bool.{Bool, true, false}
 use mathlib.Core.List.{List, [], _∷_}
 use Prim.Native.Nat.{ℕ, zero, suc, _+_, _-_, _*_}
-use lib.Dec.{leb}
+use lib.Dec.{leb, eqb}
 use Rattle.tree.specs.Form.{pick, between}
-use Rattle.tree.specs.Tag.{Sort, expr, pred, Own, ask, kids, wrong, own}
+use Rattle.tree.specs.Tag.{Sort, expr, pred, Own, ask, kids, flags, wrong, own}
 use Rattle.form.specs.declared.answer.Kind.{Kind}
 use Rattle.form.specs.declared.answer.Kind.the-variants.{Expression, Predicate, Either}
 use Rattle.form.specs.declared.answer.ListKind.{ListKind}
 use Rattle.form.specs.declared.answer.ListKind.the-variants.{Pairs, Places}
 
+-- what must still come of a node: a word between limits, and what follows it; an annotation, and what follows it; names, predicates and
+-- expressions, so many of each; what cannot come
+pub data Next : Type 0 where
+  word : ℕ → ℕ → (ℕ → Next) → Next
+  note : Next → Next
+  parts : ℕ → ℕ → ℕ → Next
+  never : Next
+
+-- declarations with flags, by whether an annotation came: the last flag is 1 if none did
+abbrev pub lowFlag : Bool → ℕ → ℕ
+lowFlag true n = 0
+lowFlag false zero = 1
+lowFlag false (suc n) = 0
+
+unfoldable pub declsNext : Bool → ℕ → ℕ → ℕ → Next
+declsNext came zero p e = pick came (parts 0 p e) never
+declsNext came (suc n) p e =
+    word 0 65535 (λ name. word (lowFlag came n) 1 (λ flag. pick (eqb flag 0) (declsNext came n p e) (note (declsNext true n p e))))
+
+unfoldable pub nextOf : Own → Next
+nextOf (ask lo hi k) = word lo hi (λ w. nextOf (k w))
+nextOf (kids n p e) = parts n p e
+nextOf (flags n p e) = declsNext false n p e
+nextOf wrong = never
+
 -- what must still come of the nodes that are open, the innermost first: how deep its children may be, and its rest
 pub data Open : Type 0 where
   nothing : Open
-  rest : ℕ → Own → Open → Open
+  rest : ℕ → Next → Open → Open
 
 -- the fewest words of a form at most so deep: one, or more than a row has
 abbrev pub leastForm : ℕ → ℕ
 leastForm zero = 8193
 leastForm (suc d) = 1
 
-unfoldable pub least : ℕ → Own → ℕ
-least d (ask lo hi k) = suc (least d (k lo))
-least d (kids n p e) = n + (p + e) * leastForm d
-least d wrong = 8193
+unfoldable pub least : ℕ → Next → ℕ
+least d (word lo hi k) = suc (least d (k lo))
+least d (note k) = leastForm d + least d k
+least d (parts n p e) = n + (p + e) * leastForm d
+least d never = 8193
 
 unfoldable pub leastAll : Open → ℕ
 leastAll nothing = 0
 leastAll (rest d o x) = least d o + leastAll x
 
 -- what must come after the next word; where nothing is open, z says it
-unfoldable pub after : (ℕ → Own) → Open → ℕ → Open
+unfoldable pub after : (ℕ → Next) → Open → ℕ → Open
 after z nothing w = rest 64 (z w) nothing
-after z (rest d (ask lo hi k) x) w = rest d (pick (between lo hi w) (k w) wrong) x
-after z (rest d (kids (suc n) p e) x) w = rest d (pick (between 0 65535 w) (kids n p e) wrong) x
-after z (rest d (kids zero (suc p) e) x) w = rest (d - 1) (own pred w) (rest d (kids zero p e) x)
-after z (rest d (kids zero zero (suc e)) x) w = rest (d - 1) (own expr w) (rest d (kids zero zero e) x)
-after z (rest d (kids zero zero zero) x) w = after z x w
-after z (rest d wrong x) w = rest d wrong x
+after z (rest d (word lo hi k) x) w = rest d (pick (between lo hi w) (k w) never) x
+after z (rest d (note k) x) w = rest (d - 1) (nextOf (own expr w)) (rest d k x)
+after z (rest d (parts (suc n) p e) x) w = rest d (pick (between 0 65535 w) (parts n p e) never) x
+after z (rest d (parts zero (suc p) e) x) w = rest (d - 1) (nextOf (own pred w)) (rest d (parts zero p e) x)
+after z (rest d (parts zero zero (suc e)) x) w = rest (d - 1) (nextOf (own expr w)) (rest d (parts zero zero e) x)
+after z (rest d (parts zero zero zero) x) w = after z x w
+after z (rest d never x) w = rest d never x
 
 -- from a position on: a word is taken if what must come after it has room
-unfoldable pub breakFrom : (ℕ → Own) → ℕ → Open → List ℕ → ℕ
+unfoldable pub breakFrom : (ℕ → Next) → ℕ → Open → List ℕ → ℕ
 breakFrom z at x [] = at
 breakFrom z at x (w ∷ ws) = pick (leb (suc at + leastAll (after z x w)) 8192) (breakFrom z (suc at) (after z x w) ws) at
 
 abbrev pub breakSort : Sort → List ℕ → ℕ
-breakSort s row = breakFrom (λ w. wrong) 0 (rest 64 (elim s [ expr ↦ kids 0 0 1 | pred ↦ kids 0 1 0 ]) nothing) row
+breakSort s row = breakFrom (λ w. never) 0 (rest 64 (elim s [ expr ↦ parts 0 0 1 | pred ↦ parts 0 1 0 ]) nothing) row
 
 unfoldable pub breakAt : Kind → List ℕ → ℕ
 breakAt Expression row = breakSort expr row
@@ -53,9 +81,9 @@ breakAt Predicate row = breakSort pred row
 breakAt Either row = pick (leb (breakSort expr row) (breakSort pred row)) (breakSort pred row) (breakSort expr row)
 
 -- a list has any number of entries
-abbrev pub entryOwn : ListKind → ℕ → Own
-entryOwn Pairs w = kids 0 0 1
-entryOwn Places w = pick (leb w 1) (kids 0 0 w) wrong
+abbrev pub entryNext : ListKind → ℕ → Next
+entryNext Pairs w = parts 0 0 1
+entryNext Places w = pick (leb w 1) (parts 0 0 w) never
 
 unfoldable pub breakList : ListKind → List ℕ → ℕ
-breakList kind row = breakFrom (entryOwn kind) 0 nothing row
+breakList kind row = breakFrom (entryNext kind) 0 nothing row

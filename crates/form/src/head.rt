@@ -6,7 +6,7 @@ use tree::tag::expr_shape;
 use tree::tag::pred_shape;
 ghost use mathlib.Core.Path.{_≡_};
 ghost use lib.ListN.{drop};
-ghost use Rattle.tree.specs.Tag.{expr, pred, own, ownOf, ask, kids};
+ghost use Rattle.tree.specs.Tag.{expr, pred, own, ownOf, ask, kids, flags};
 ghost use Rattle.form.specs.Decode.{read, names};
 ghost use Rattle.form.specs.Internal.Heads.{wordAt, headAt, namesAt, startsLeaf};
 
@@ -26,11 +26,13 @@ pub enum Word {
 // number of declarations that are open in them.
 pub enum Head {
     Kids(usize, u32, u32, u32),
+    // The same where declarations have flags: where they begin.
+    Noted(usize, u32, u32, u32),
     None,
 }
 
 // The word at `at`, if it is between the limits.
-fn asked(row: &[u32], at: usize, lo: u32, hi: u32) -> Word
+pub fn asked(row: &[u32], at: usize, lo: u32, hi: u32) -> Word
     ensures { λ r. ⌜ r ≡ wordAt lo hi (drop at (now (row .entry))) ⌝ }
 {
     if row.len() <= at {
@@ -125,6 +127,26 @@ fn compr_head(row: &[u32], at: usize) -> Head
     bound_head(row, at + 1, 1)
 }
 
+// The declarations with flags of a quantifier: one predicate and so many expressions follow.
+fn flags_head(row: &[u32], at: usize, exprs: u32) -> Head
+    ensures { λ r. ⌜ r ≡ headAt at (read (ask 1 32 (λ n. flags n 1 exprs)) (drop at (now (row .entry)))) ⌝ }
+{
+    let Word::Is(n) = asked(row, at, 1, Limit::DECLARATIONS) else {
+        return Head::None;
+    };
+    Head::Noted(at + 1, 1, exprs, n)
+}
+
+// The form word of a comprehension, and its declarations with flags.
+fn flags_compr_head(row: &[u32], at: usize) -> Head
+    ensures { λ r. ⌜ r ≡ headAt at (read (ask 0 3 (λ form. ask 1 32 (λ n. flags n 1 1))) (drop at (now (row .entry)))) ⌝ }
+{
+    let Word::Is(w) = asked(row, at, 0, 3) else {
+        return Head::None;
+    };
+    flags_head(row, at + 1, 1)
+}
+
 // What stands after a tag of the shape, before its children.
 fn own_words(row: &[u32], at: usize, shape: Shape) -> Head
     ensures { λ r. ⌜ r ≡ headAt at (read (ownOf shape) (drop at (now (row .entry)))) ⌝ }
@@ -139,6 +161,8 @@ fn own_words(row: &[u32], at: usize, shape: Shape) -> Head
         Shape::Apply => apply_head(row, at),
         Shape::Compr => compr_head(row, at),
         Shape::Quant => bound_head(row, at, 0),
+        Shape::NotedCompr => flags_compr_head(row, at),
+        Shape::NotedQuant => flags_head(row, at, 0),
     }
 }
 

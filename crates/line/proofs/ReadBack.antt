@@ -9,8 +9,8 @@ use native.Mathlib.Omega.{arith}
 use borrow.Author.Tests.{ne-eqb, le-leb, ltb-true, ltb-false}
 use lib.Dec.{ltb}
 use lib.ListN.{length, length-append}
-use Rattle.tree.specs.Form.{free, bound, Form, leaf, node, Forms, none, more, pick, between, encode, encodeAll}
-use Rattle.spell.specs.Spell.{digits, decimal, spaced, bracket, spellLeaf, spell, spellAll}
+use Rattle.tree.specs.Form.{free, bound, Form, leaf, node, noted, Decls, undeclared, bare, typed, Forms, none, more, pick, between, encode, encodeDecls, encodeAll}
+use Rattle.spell.specs.Spell.{digits, decimal, spaced, bracket, spellLeaf, spell, spellDecls, spellAll}
 use Rattle.line.specs.Scan.{onDigit, turn, note, markWords, depthAfter, Scan, ended, broken, addByte, scan, group}
 use Rattle.line.specs.declared.turn.State.{State}
 use Rattle.line.specs.declared.turn.State.the-variants.{Opened, Spaced, Closed, Digits}
@@ -162,6 +162,12 @@ unfolding spell
 children-follow none r f = f
 children-follow (more g fs) r f = by-space
 
+decls-follow : (ds : Decls) (r : List ℕ) → Follows r → Follows (spellDecls ds ++ r)
+unfolding spell spaced
+decls-follow undeclared r f = f
+decls-follow (bare n ds) r f = by-space
+decls-follow (typed n g ds) r f = by-space
+
 -- the inside of a bracket, up to its end
 inner-scan : (k t : ℕ) (ws ks vs r : List ℕ) → t ≤ 4294967295 → All32 ws → Follows (ks ++ (93 ∷ r))
     → scan false (suc k) Closed (ks ++ (93 ∷ r)) ≡ prepend vs (length ks) (scan false (suc k) Closed (93 ∷ r))
@@ -188,6 +194,13 @@ bracket-scan k t ws ks vs r h a f y e =
 none-scan : (k : ℕ) (r : List ℕ) → scan false (suc k) Closed r ≡ prepend [] 0 (scan false (suc k) Closed r)
 none-scan k r = sym (prepend-none (scan false (suc k) Closed r))
 
+-- declarations, and the children after them
+noted-both : (ds : Decls) (ks : Forms) (k : ℕ) (r : List ℕ)
+    → scan false (suc k) Closed (spellDecls ds ++ (spellAll ks ++ r)) ≡ prepend (encodeDecls ds) (length (spellDecls ds)) (scan false (suc k) Closed (spellAll ks ++ r))
+    → scan false (suc k) Closed (spellAll ks ++ r) ≡ prepend (encodeAll ks) (length (spellAll ks)) (scan false (suc k) Closed r)
+    → scan false (suc k) Closed ((spellDecls ds ++ spellAll ks) ++ r) ≡ prepend (encodeDecls ds ++ encodeAll ks) (length (spellDecls ds ++ spellAll ks)) (scan false (suc k) Closed r)
+noted-both ds ks k r a b = rw (append-assoc (spellDecls ds), a, b, prepend-twice, length-append)
+
 mutual
   unfolding spell spellLeaf encode
 
@@ -197,6 +210,22 @@ mutual
   spell-scan (node t o ds ks) k r h y =
       rw (← append-assoc o ds (encodeAll ks)) (bracket-scan k t (o ++ ds) (spellAll ks) (encodeAll ks) r (h .0) (all-left (o ++ ds) (encodeAll ks) (rw append-assoc (h .1)))
       (children-follow ks (93 ∷ r) by-close) y (children-scan ks (suc k) (93 ∷ r) (all-right (o ++ ds) (encodeAll ks) (rw append-assoc (h .1))) by-close))
+  spell-scan (noted t o ds ks) k r h y =
+      bracket-scan k t o (spellDecls ds ++ spellAll ks) (encodeDecls ds ++ encodeAll ks) r (h .0) (all-left o (encodeDecls ds ++ encodeAll ks) (h .1))
+      (rw (append-assoc (spellDecls ds)) (decls-follow ds (spellAll ks ++ (93 ∷ r)) (children-follow ks (93 ∷ r) by-close))) y
+      (noted-both ds ks (suc k) (93 ∷ r)
+      (decls-scan ds (suc k) (spellAll ks ++ (93 ∷ r)) (all-left (encodeDecls ds) (encodeAll ks) (all-right o (encodeDecls ds ++ encodeAll ks) (h .1))) (children-follow ks (93 ∷ r) by-close))
+      (children-scan ks (suc k) (93 ∷ r) (all-right (encodeDecls ds) (encodeAll ks) (all-right o (encodeDecls ds ++ encodeAll ks) (h .1))) by-close))
+
+  decls-scan : (ds : Decls) (k : ℕ) (r : List ℕ) → All32 (encodeDecls ds) → Follows r → scan false (suc k) Closed (spellDecls ds ++ r) ≡ prepend (encodeDecls ds) (length (spellDecls ds)) (scan false (suc k) Closed r)
+  decls-scan undeclared k r h f = none-scan k r
+  decls-scan (bare n ds) k r h f =
+      rw (append-assoc (spaced (n ∷ 0 ∷ [])), spaced-scan k (n ∷ 0 ∷ []) (spellDecls ds ++ r) (h .0, (h .1 .0, tt)) (decls-follow ds r f), decls-scan ds k r (h .1 .1) f, prepend-twice, length-append)
+  decls-scan (typed n g ds) k r h f =
+      let a = length-append (spaced (n ∷ 1 ∷ [])) (32 ∷ (spell g ++ spellDecls ds)) in
+      let b = length-append (spell g) (spellDecls ds) in
+      rw (append-assoc (spaced (n ∷ 1 ∷ [])), spaced-scan k (n ∷ 1 ∷ []) (32 ∷ ((spell g ++ spellDecls ds) ++ r)) (h .0, (h .1 .0, tt)) by-space, space-scan k ((spell g ++ spellDecls ds) ++ r), append-assoc (spell g), spell-scan g k (spellDecls ds ++ r) (all-left (encode g) (encodeDecls ds) (h .1 .1)) after-space, decls-scan ds k r (all-right (encode g) (encodeDecls ds) (h .1 .1)) f, prepend-twice, prepend-twice, prepend-twice)
+      (ap (λ z. prepend (n ∷ 1 ∷ (encode g ++ encodeDecls ds)) z (scan false (suc k) Closed r)) (omega arith))
 
   children-scan : (fs : Forms) (k : ℕ) (r : List ℕ) → All32 (encodeAll fs) → Follows r → scan false (suc k) Closed (spellAll fs ++ r) ≡ prepend (encodeAll fs) (length (spellAll fs)) (scan false (suc k) Closed r)
   children-scan none k r h f = none-scan k r
@@ -224,3 +253,9 @@ spelled-read (leaf (bound n)) h = group-of 2 (n ∷ []) [] [] (h .0) (h .1) by-c
 spelled-read (node t o ds ks) h =
     rw (← append-assoc o ds (encodeAll ks)) (group-of t (o ++ ds) (spellAll ks) (encodeAll ks) (h .0) (all-left (o ++ ds) (encodeAll ks) (rw append-assoc (h .1))) (children-follow ks (93 ∷ []) by-close)
     (children-scan ks 0 (93 ∷ []) (all-right (o ++ ds) (encodeAll ks) (rw append-assoc (h .1))) by-close))
+spelled-read (noted t o ds ks) h =
+    group-of t o (spellDecls ds ++ spellAll ks) (encodeDecls ds ++ encodeAll ks) (h .0) (all-left o (encodeDecls ds ++ encodeAll ks) (h .1))
+    (rw (append-assoc (spellDecls ds)) (decls-follow ds (spellAll ks ++ (93 ∷ [])) (children-follow ks (93 ∷ []) by-close)))
+    (noted-both ds ks 0 (93 ∷ [])
+    (decls-scan ds 0 (spellAll ks ++ (93 ∷ [])) (all-left (encodeDecls ds) (encodeAll ks) (all-right o (encodeDecls ds ++ encodeAll ks) (h .1))) (children-follow ks (93 ∷ []) by-close))
+    (children-scan ks 0 (93 ∷ []) (all-right (encodeDecls ds) (encodeAll ks) (all-right o (encodeDecls ds ++ encodeAll ks) (h .1))) by-close))

@@ -1,13 +1,13 @@
 -- Fill on rows is fill on trees. Assumes nothing.
 use mathlib.Core.Path.{_≡_, refl, ap, sym, _∙_}
-use mathlib.Core.Bool.{Bool, true}
-use mathlib.Core.List.{List, [], _∷_, map}
+use mathlib.Core.Bool.{Bool, true, false}
+use mathlib.Core.List.{List, [], _∷_, _++_, map}
 use mathlib.Core.Option.{none as absent, some}
 use Prim.Native.Nat.{ℕ, zero, suc, _+_, _-_, _≤_, _<_}
 use native.Mathlib.Omega.{arith}
-use borrow.Author.Tests.{eq-eqb, ne-eqb}
-use lib.Dec.{eqb}
-use lib.ListN.{length, getD, take, drop, replicate, length-map, length-drop}
+use borrow.Author.Tests.{eq-eqb, ne-eqb, lt-ltb, le-ltb}
+use lib.Dec.{eqb, ltb}
+use lib.ListN.{length, getD, take, drop, replicate, length-map, length-drop, take-append-drop}
 use Rattle.tree.specs.Form.{Form, pick, encode}
 use Rattle.tree.specs.Tag.{Sort, pred}
 use Rattle.form.specs.Break.{breakAt, breakList}
@@ -18,51 +18,104 @@ use Rattle.reader.specs.Internal.Reads.{mark, markEntries, emptyTable, tabled, 
 use Rattle.form.specs.declared.answer.Kind.the-variants.{Predicate}
 use Rattle.form.specs.declared.answer.ListKind.the-variants.{Places}
 use Rattle.reader.specs.declared.lists.Table.{Table}
-use Rattle.form.proofs.DecodeLaws.{Ok}
+use Rattle.form.proofs.DecodeLaws.{clash, Ok}
 use Rattle.form.proofs.ListLaws.{GoodAll, list-sound}
 use Rattle.reader.proofs.TableLaws.{listed-words, listed-n, rows-n, listing-yes}
 use Rattle.shift.proofs.CheckedLaws.{Checked}
-use Rattle.rules.specs.Fill.{quantified, ofQuantified, fill, fillOutcome}
-use Rattle.replace.specs.Internal.Pieces.{InRow, Ready, replaced, fillPlan, declaredIn, keptWords, headWords, placedRow, isFound}
-use Rattle.listed.specs.Internal.Listed.{filledRow}
+use Rattle.rules.specs.Walk.{subst}
+use Rattle.rules.specs.Fill.{unnoted, quantified, ofQuantified, keptDecls, fillFor, fill, fillOutcome}
+use Rattle.shift.specs.Internal.Items.{items, rewritten}
+use Rattle.shift.proofs.RowLaws.{itemsOf, marksOf, only-mark}
+use Rattle.shift.proofs.AroundLaws.{headOf, body-items, Quant}
+use Rattle.replace.specs.Internal.Pieces.{InRow, Ready, planned, replaced, fillPlan, keptWords, headWords, placedRow, isFound}
+use Rattle.decls.specs.Internal.Noted.{countIn, bodyStart, notedHead}
+use Rattle.decls.proofs.CountLaws.{body-start}
+use Rattle.decls.proofs.HeadLaws.{quantHead, encode-head}
+use Rattle.decls.proofs.RowHeads.{plain-first, plain-start, plain-head, noted-row-head, no-quant, the-quant, the-count}
+use Rattle.listed.specs.Internal.Listed.{plainRow, notedRow, filledRow}
 use Rattle.replace.proofs.EntryLaws.{PlaceAt, listed-places, listed-in-row, listed-full}
 use Rattle.replace.proofs.BuildLaws.{emit-sure}
-use Rattle.replace.proofs.InsideLaws.{some-deep, fill-fits}
+use Rattle.replace.proofs.InsideLaws.{SmallPlaces, some-deep, fill-fits}
 use Rattle.replace.proofs.SmallLaws.{LeavesBy, listed-small}
 use Rattle.listed.proofs.CallLaws.{call-small, call-long, call-missing, call-list-long, call-no-list, call-read}
 use Rattle.replace.proofs.FillTree.{wordFor, fill-tree}
-use Rattle.replace.proofs.NameLaws.{kept-names, encode-quantify}
-use Rattle.replace.proofs.QuantLaws.{Quant, quant-tag, quant-names, quant-items, pred-sort, no-quant, the-quant, the-count}
+use Rattle.replace.proofs.QuantLaws.{Quant as Plain, pred-sort, form-ok, quant-by-tag}
 use Rattle.replace.proofs.ReadyLaws.{ready-is}
 
 -- what the code writes under a head
-pub filled-placed : (sure : Bool) (hd list lm row marks : List ℕ) (t : Table) (room : ℕ) → Ready (fillPlan t) list lm → hd ≡ headWords (getD row 0 0) (keptWords (take (t .n) (t .words)) (drop 2 row))
-    → placedRow sure hd t 0 list lm (drop (2 + t .n) row) (drop (2 + t .n) marks) room ≡ filledRow sure list lm row marks t room
-unfolding filledRow placedRow
-filled-placed sure hd list lm row marks t room r e = rw (ready-is t list lm 0 r, e)
+pub plain-placed : (sure : Bool) (hd list lm row marks : List ℕ) (t : Table) (room : ℕ) → Ready (fillPlan t) list lm → hd ≡ headWords (getD row 0 0) (keptWords (take (t .n) (t .words)) (drop 2 row))
+    → placedRow sure hd t 0 list lm (drop (2 + t .n) row) (drop (2 + t .n) marks) room ≡ plainRow sure list lm row marks t room
+unfolding plainRow placedRow
+plain-placed sure hd list lm row marks t room r e = rw (ready-is t list lm 0 r, e)
 
 pub same-filled : (sure : Bool) (list lm lm′ row marks : List ℕ) (t : Table) (room : ℕ) → lm ≡ lm′ → filledRow sure list lm row marks t room ≡ filledRow sure list lm′ row marks t room
 same-filled sure list lm lm′ row marks t room e = rw e
 
+pub noted-placed : (hd list lm row marks : List ℕ) (t : Table) (room from : ℕ) → Ready (fillPlan t) list lm → hd ≡ notedHead (getD row 0 0 - 10) (take (t .n) (t .words)) row 8192 → from ≡ bodyStart row (t .n)
+    → placedRow false hd t 0 list lm (drop from row) (drop from marks) room ≡ notedRow list lm row marks t room
+unfolding notedRow placedRow
+noted-placed hd list lm row marks t room from r e k = rw (ready-is t list lm 0 r, e, k)
+
+-- by the first word
+module _ (sure : Bool) (list lm row marks : List ℕ) (t : Table) (room : ℕ) where
+  pub filled-plain : getD row 0 0 < 860 → plainRow sure list lm row marks t room ≡ filledRow sure list lm row marks t room
+  unfolding filledRow
+  filled-plain h = rw (lt-ltb (getD row 0 0) 860 h)
+
+  pub filled-noted : 860 ≤ getD row 0 0 → notedRow list lm row marks t room ≡ filledRow sure list lm row marks t room
+  unfolding filledRow
+  filled-noted h = rw (le-ltb (getD row 0 0) 860 h)
+
 -- a quantified row filled by places is the filled tree
-module _ (f : Form) (q : Quant f) (t : Table) (list lm : List ℕ) (ps : List Place) (words : take (t .n) (t .words) ≡ map wordFor ps) (count : t .n ≡ length ps)
-    (placed : (i : ℕ) → i < length ps → PlaceAt (Unit {0}) list lm (getD (t .starts) i 0) (getD (t .ends) i 0) (getD ps i kept)) (fits : length ps ≡ length (q .decls))
+module _ (f : Form) (y : Quant 63 f) (t : Table) (list lm : List ℕ) (ps : List Place) (words : take (t .n) (t .words) ≡ map wordFor ps) (count : t .n ≡ length ps)
+    (placed : (i : ℕ) → i < length ps → PlaceAt (Unit {0}) list lm (getD (t .starts) i 0) (getD (t .ends) i 0) (getD ps i kept)) (all : length ps ≡ length (y .decls))
+    (ok : Ok 64 pred f) (short : length (encode f) ≤ 8192)
     (m : List ℕ) (marks : take (length (encode f)) m ≡ mark f 0 0 (replicate (length (encode f)) 0)) (room : ℕ)
-    (sure : Bool) (inside : sure ≡ true → length (encode (fill (q .tag) (q .decls) ps (q .body))) ≤ 8192 → isOne (rowForm pred (encode (fill (q .tag) (q .decls) ps (q .body)))) ≡ true) where
-  pub filled-tree : filledRow sure list lm (encode f) m t room ≡ finish pred room (fill (q .tag) (q .decls) ps (q .body))
-  unfolding filledRow replaced fill
-  filled-tree =
-      let most = q .most in
-      rw (
-        quant-items f q (t .n) m (count ∙ fits) marks,
-        fill-tree t list lm ps words count placed (omega arith) {d = 63} (omega arith) (q .ok),
-        quant-tag f q,
-        quant-names f q,
-        words,
-        kept-names ps (q .decls) (encode (q .body)) fits,
-        encode-quantify,
-      )
-      (emit-sure sure pred room _ inside)
+    (sure : Bool) (inside : sure ≡ true → ltb (getD (encode f) 0 0) 860 ≡ true → length (encode (fill (y .op) (y .decls) ps (y .body))) ≤ 8192 → isOne (rowForm pred (encode (fill (y .op) (y .decls) ps (y .body)))) ≡ true) where
+  row-marks-are : m ≡ marksOf 0 f ++ drop (length (encode f)) m
+  row-marks-are = sym (take-append-drop (length (encode f)) m) ∙ ap (λ z. z ++ drop (length (encode f)) m) (marks ∙ only-mark f)
+
+  -- the words of the body, from where it starts
+  body-filled : (from : ℕ) → from ≡ length (headOf (y .op) (y .decls)) → rewritten (planned (fillPlan t) list lm) (items (drop from (encode f)) (drop from m)) ≡ encode (subst (fillFor ps) (y .body))
+  body-filled from e =
+      let most = y .most in
+      let n : length (y .decls) + 0 ≡ t .n = omega arith in
+      let i : items (drop from (encode f)) (drop from (marksOf 0 f ++ drop (length (encode f)) m)) ≡ itemsOf (t .n) (y .body)
+      = ap (λ z. items (drop from (encode z)) (drop from (marksOf 0 z ++ drop (length (encode f)) m))) (y .form)
+      ∙ (body-items (y .op) 0 (y .decls) (y .body) from (drop (length (encode f)) m) e ∙ ap (λ z. itemsOf z (y .body)) n) in
+      ap (λ z. rewritten (planned (fillPlan t) list lm) (items (drop from (encode f)) (drop from z))) row-marks-are ∙ (rw i (fill-tree t list lm ps words count placed (omega arith) {d = 63} (omega arith) (y .ok)))
+
+  under-head : (hd : List ℕ) (from : ℕ) (b : Bool) → hd ≡ quantHead (y .op) (keptDecls ps (y .decls)) → from ≡ length (headOf (y .op) (y .decls))
+      → (b ≡ true → length (encode (fill (y .op) (y .decls) ps (y .body))) ≤ 8192 → isOne (rowForm pred (encode (fill (y .op) (y .decls) ps (y .body)))) ≡ true)
+      → replaced b Predicate hd (fillPlan t) list lm (drop from (encode f)) (drop from m) room ≡ finish pred room (fill (y .op) (y .decls) ps (y .body))
+  unfolding replaced fill
+  under-head hd from b h k i = rw (body-filled from k, h, ← encode-head (y .op) (keptDecls ps (y .decls)) (subst (fillFor ps) (y .body))) (emit-sure b pred room _ i)
+
+  pub filled-tree : filledRow sure list lm (encode f) m t room ≡ finish pred room (fill (y .op) (y .decls) ps (y .body))
+  unfolding filledRow plainRow notedRow
+  filled-tree = go (ltb (getD (encode f) 0 0) 860) refl
+    where
+      go : (b : Bool) → ltb (getD (encode f) 0 0) 860 ≡ b → pick b (plainRow sure list lm (encode f) m t room) (notedRow list lm (encode f) m t room) ≡ finish pred room (fill (y .op) (y .decls) ps (y .body))
+      go true q =
+          under-head (headWords (getD (encode f) 0 0) (keptWords (take (t .n) (t .words)) (drop 2 (encode f)))) (2 + t .n) sure
+          (rw words (plain-head y ps all q)) (rw (count ∙ all) (plain-start y q)) (λ s. inside s q)
+      go false q =
+          under-head (notedHead (getD (encode f) 0 0 - 10) (take (t .n) (t .words)) (encode f) 8192) (bodyStart (encode f) (t .n)) false
+          (rw words (noted-row-head y ps all ok short q)) (rw (count ∙ all) (body-start f ok y)) (λ s. absurd (clash cc))
+
+-- without annotations the result is a form where the row is shallow enough for the expressions
+fill-plain-fits : (m : ℕ) (f : Form) (d : ℕ) → Ok (suc d) pred f → d + m ≤ 63 → Ok 64 pred f → (y : Quant 63 f) → ltb (getD (encode f) 0 0) 860 ≡ true → (ps : List Place) → length ps ≡ length (y .decls) → SmallPlaces m ps
+    → length (encode (fill (y .op) (y .decls) ps (y .body))) ≤ 8192 → isOne (rowForm pred (encode (fill (y .op) (y .decls) ps (y .body)))) ≡ true
+fill-plain-fits m f d o h ok y w ps all small l = same (quant-by-tag ok (rw (plain-first y w .1) (y .which)))
+  where
+    same : Plain f → isOne (rowForm pred (encode (fill (y .op) (y .decls) ps (y .body)))) ≡ true
+    same z =
+        let i = sym (y .is) ∙ z .is in
+        let t : y .op ≡ z .tag = cc in
+        let n : y .decls ≡ map unnoted (z .decls) = cc in
+        let b : y .body ≡ z .body = cc in
+        let c : length ps ≡ length (z .decls) = all ∙ (ap length n ∙ length-map (z .decls) unnoted) in
+        rw (t, n, b) (fill-fits m f d o h z ps c small (rw (t, n, b) at l))
 
 -- the whole call
 abbrev fillGo : ℕ → Sort → Form → List Entry → Outcome
@@ -96,11 +149,11 @@ module _ (list row : List ℕ) (wl room : ℕ) where
         unfolding fillOutcome
         fill-read es o = call-read Predicate Places (fillGo room) list row wl enough m x short es o
 
-        fill-counted : (es : List Entry) → listOf Places list ≡ some es → (q : Quant (x .form))
-            → fillOutcome list row wl room ≡ needs 5 (eqb (length es) (length (q .decls))) (finish pred room (fill (q .tag) (q .decls) (map placeOf es) (q .body)))
+        fill-counted : (es : List Entry) → listOf Places list ≡ some es → (q : Quant 63 (x .form))
+            → fillOutcome list row wl room ≡ needs 5 (eqb (length es) (length (q .decls))) (finish pred room (fill (q .op) (q .decls) (map placeOf es) (q .body)))
         fill-counted es o q = fill-read es o ∙ rw (q .is)
 
-        module _ (a b : List ℕ) (t : Table) (ok : Bool) (h : Listing (listOf Places list) emptyTable t a b ok) (y : ok ≡ true) (n : ℕ) (e : n ≡ declaredIn row) where
+        module _ (a b : List ℕ) (t : Table) (ok : Bool) (h : Listing (listOf Places list) emptyTable t a b ok) (y : ok ≡ true) (n : ℕ) (e : n ≡ countIn row) where
           pub fill-other : n ≡ 0 → fillOutcome list row wl room ≡ refusal 3
           fill-other z =
               let (es, o, u, k) = listing-yes _ _ _ _ _ _ h y in
@@ -154,9 +207,9 @@ module _ (list : List ℕ) (t : Table) (work : List ℕ) (n : ℕ) (y : Placing 
       let f = listed-full (y .es) t (y .table) in
       record { tabled = record { few = (let c = table-n in let d = es-few in omega arith); words = f .0; starts = f .1; ends = f .2 }; in-row = places-in-row; marked = rw length-drop (omega arith) }
 
-  module _ (row : List ℕ) (wl room : ℕ) (enough : 16384 ≤ wl) (short : length list ≤ 8192) (x : Checked Predicate row (take (length row) work) (length row))
-      (e : n ≡ declaredIn row) (z : n ≡ 0 → ⊥) where
-    q : Quant (x .form)
+  module _ (row : List ℕ) (wl room : ℕ) (enough : 16384 ≤ wl) (short : length list ≤ 8192) (row-short : length row ≤ 8192) (x : Checked Predicate row (take (length row) work) (length row))
+      (e : n ≡ countIn row) (z : n ≡ 0 → ⊥) where
+    q : Quant 63 (x .form)
     q = the-quant row (take (length row) work) (length row) x n e z
 
     ps-count : length (map placeOf (y .es)) ≡ length (q .decls)
@@ -165,27 +218,27 @@ module _ (list : List ℕ) (t : Table) (work : List ℕ) (n : ℕ) (y : Placing 
     row-marks : take (length (encode (x .form))) work ≡ mark (x .form) 0 0 (replicate (length (encode (x .form))) 0)
     row-marks = rw (x .words) at (x .marks)
 
-    fill-said : fillOutcome list row wl room ≡ finish pred room (fill (q .tag) (q .decls) (map placeOf (y .es)) (q .body))
+    fill-said : fillOutcome list row wl room ≡ finish pred room (fill (q .op) (q .decls) (map placeOf (y .es)) (q .body))
     fill-said = fill-counted list row wl room enough (take (length row) work) x short (y .es) (y .is) q ∙ rw (eq-eqb (length (y .es)) (length (q .decls)) (sym (length-map (y .es) placeOf) ∙ ps-count))
 
     module _ (d : ℕ) (left : LeavesBy (t .starts) (t .ends) (t .n) list d) (b : Bool) (shallow : b ≡ true → Ok d (x .sort) (x .form)) where
       abbrev result : Form
-      result = fill (q .tag) (q .decls) (map placeOf (y .es)) (q .body)
+      result = fill (q .op) (q .decls) (map placeOf (y .es)) (q .body)
 
-      within : (k : ℕ) → k ≡ d → Ok k pred (x .form) → length (encode result) ≤ 8192 → isOne (rowForm pred (encode result)) ≡ true
-      within zero e o l = absurd (let h = some-deep o in omega arith)
-      within (suc k) e o l =
+      within : (k : ℕ) → k ≡ d → Ok k pred (x .form) → ltb (getD (encode (x .form)) 0 0) 860 ≡ true → length (encode result) ≤ 8192 → isOne (rowForm pred (encode result)) ≡ true
+      within zero e o w l = absurd (let h = some-deep o in omega arith)
+      within (suc k) e o w l =
           let a = left .most in
-          fill-fits (64 - d) (x .form) k o (omega arith) q (map placeOf (y .es)) ps-count (listed-small Places list (y .es) (y .is) es-few d (rw (y .table) at left) (omega arith)) l
+          fill-plain-fits (64 - d) (x .form) k o (omega arith) (form-ok row (take (length row) work) (length row) x) q w (map placeOf (y .es)) ps-count (listed-small Places list (y .es) (y .is) es-few d (rw (y .table) at left) (omega arith)) l
 
-      fill-within : b ≡ true → length (encode result) ≤ 8192 → isOne (rowForm pred (encode result)) ≡ true
-      fill-within s l = within d refl (rw (pred-sort row (x .sort) (x .form) (x .is-found)) at (shallow s)) l
+      fill-within : b ≡ true → ltb (getD (encode (x .form)) 0 0) 860 ≡ true → length (encode result) ≤ 8192 → isOne (rowForm pred (encode result)) ≡ true
+      fill-within s w l = within d refl (rw (pred-sort row (x .sort) (x .form) (x .is-found)) at (shallow s)) w l
 
       fill-built : filledRow b list (drop 8192 work) (encode (x .form)) work (tabled (y .es) 0 emptyTable) room ≡ finish pred room result
       fill-built =
           filled-tree (x .form) q (tabled (y .es) 0 emptyTable) list (drop 8192 work) (map placeOf (y .es)) (listed-words (y .es) es-few ∙ place-words (y .es) (list-sound Places list (y .es) (y .is) .1))
           (listed-n (y .es) ∙ sym (length-map (y .es) placeOf))
-          (λ i h. listed-places Places list (y .es) (y .is) es-few (drop 8192 work) (y .marks) i (rw (length-map (y .es) placeOf) at h)) ps-count work row-marks room b fill-within
+          (λ i h. listed-places Places list (y .es) (y .is) es-few (drop 8192 work) (y .marks) i (rw (length-map (y .es) placeOf) at h)) ps-count (form-ok row (take (length row) work) (length row) x) (rw (x .words) at row-short) work row-marks room b fill-within
 
       fill-made : filledRow b list (drop 8192 work) row work t room ≡ finish pred room result
       fill-made =

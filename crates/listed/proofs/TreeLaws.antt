@@ -14,7 +14,7 @@ use Rattle.rules.specs.Walk.{Outer, named, dangling, walk, up, lift, put, subst
 use Rattle.rules.specs.Bind.{bindName, bindFor, bind}
 use Rattle.rules.proofs.WalkLaws.{binding-add, shift-shift, lift-up, subst-lift, fuse-level, self, undo, always, each-always}
 use Rattle.rules.specs.Free.{orName, seek, freeFor, substitute}
-use Rattle.rules.specs.Fill.{keptCount, keptNames, fillFor, fill}
+use Rattle.rules.specs.Fill.{Decl, keptCount, keptDecls, fillFor, fill}
 use Rattle.replace.proofs.FillTree.{fill-past, fill-here}
 
 -- the entries lifted
@@ -62,10 +62,10 @@ none-kept : (ns : List ℕ) → keptCount (map named-place ns) ≡ 0
 none-kept [] = refl
 none-kept (n ∷ ns) = none-kept ns
 
-no-names : (ns ms : List ℕ) → keptNames (map named-place ns) ms ≡ []
-no-names [] ms = refl
-no-names (n ∷ ns) [] = refl
-no-names (n ∷ ns) (m ∷ ms) = no-names ns ms
+no-decls : (ns : List ℕ) (ds : List Decl) → keptDecls (map named-place ns) ds ≡ []
+no-decls [] ds = refl
+no-decls (n ∷ ns) [] = refl
+no-decls (n ∷ ns) (d ∷ ds) = no-decls ns ds
 
 module _ (m : ℕ) where
   name-back : (a ns : List ℕ) (n : ℕ) → n ≡ m → subst (fillFor (map named-place (a ++ (n ∷ ns)))) (leaf (bound (length ns))) ≡ leaf (free m)
@@ -98,7 +98,7 @@ unfolding walk
 back ns k (named m) = subst-lift (fillFor (map named-place ns)) k (bindName ns m) ∙ rw (bound-back m [] ns)
 back ns k (dangling j) = subst-lift (fillFor (map named-place ns)) k (leaf (bound (length ns + j))) ∙ rw (outer-back ns j) (ap (λ z. leaf (bound z)) (omega arith))
 
--- names bound, and then filled with those names
-pub fill-bound : (t : ℕ) (ns : List ℕ) (f : Form) → fill t ns (map named-place ns) (bind ns f) ≡ f
+-- names bound, and then filled with those names under declarations of any kind
+pub fill-bound : (t : ℕ) (ns : List ℕ) (ds : List Decl) (f : Form) → fill t ds (map named-place ns) (bind ns f) ≡ f
 unfolding fill bind
-fill-bound t ns f = rw (no-names ns ns) (undo (put (fillFor (map named-place ns))) (put (bindFor ns)) always (λ k x h. back ns k x) 0 f (each-always 0 f))
+fill-bound t ns ds f = rw (no-decls ns ds) (undo (put (fillFor (map named-place ns))) (put (bindFor ns)) always (λ k x h. back ns k x) 0 f (each-always 0 f))

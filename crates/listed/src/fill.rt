@@ -5,21 +5,24 @@ use crate::marks::mark_row;
 use crate::marks::refuse_list;
 use broken::position::broken_at;
 use broken::position::broken_list;
+use decls::ends::body_start;
+use decls::ends::declared;
+use decls::heads::write_noted;
 use form::answer::Answer;
 use form::answer::Kind;
 use form::answer::Limit;
 use form::answer::ListKind;
-use replace::heads::declared;
 use replace::heads::write_head;
 use replace::small::depth_left_by;
 use replace::tables::fill_places;
 ghost use mathlib.Core.Path.{_≡_};
 ghost use Prim.Native.Nat.{_+_, _≤_};
-ghost use lib.ListN.{length, take, drop};
+ghost use lib.ListN.{length, getD, take, drop};
 ghost use Rattle.form.specs.Answer.{told, written};
 ghost use Rattle.rules.specs.Fill.{fillOutcome};
 ghost use Rattle.replace.specs.Internal.Pieces.{Ready, tableOf, fillPlan, keptHead};
-ghost use Rattle.listed.specs.Internal.Listed.{filledRow};
+ghost use Rattle.decls.specs.Internal.Noted.{notedHead};
+ghost use Rattle.listed.specs.Internal.Listed.{plainRow, notedRow, filledRow};
 
 // The head of the row with the declarations that are kept by the first n words: its length.
 fn write_first(words: &[u32], n: usize, row: &[u32], head: &mut [u32]) -> usize
@@ -30,8 +33,8 @@ fn write_first(words: &[u32], n: usize, row: &[u32], head: &mut [u32]) -> usize
     write_head(&words[..n], row, head)
 }
 
-// The quantified predicate with its n declarations filled by the places of a table, whose rows are lent.
-fn fill_with(
+// The quantified predicate without annotations, with its n declarations filled by the places of a table, whose rows are lent.
+fn fill_plain(
     sure: bool,
     list: &[u32],
     list_marks: &[u32],
@@ -45,8 +48,8 @@ fn fill_with(
 ) -> Answer
     requires { ⌜ Ready (fillPlan (tableOf n (now words) (now starts) (now ends))) (now list) (now «list_marks») ⌝ }
     requires { ⌜ 2 + n ≤ length (now row) ⌝ }
-    ensures { λ r. ⌜ r ≡ told (filledRow sure (now (list .entry)) (now («list_marks» .entry)) (now (row .entry)) (now (marks .entry)) (tableOf n (now (words .entry)) (now (starts .entry)) (now (ends .entry))) (length (now (out .entry)))) ⌝ }
-    ensures { λ _. ⌜ now (out .exit) ≡ written (filledRow sure (now (list .entry)) (now («list_marks» .entry)) (now (row .entry)) (now (marks .entry)) (tableOf n (now (words .entry)) (now (starts .entry)) (now (ends .entry))) (length (now (out .entry)))) (now (out .entry)) ⌝ }
+    ensures { λ r. ⌜ r ≡ told (plainRow sure (now (list .entry)) (now («list_marks» .entry)) (now (row .entry)) (now (marks .entry)) (tableOf n (now (words .entry)) (now (starts .entry)) (now (ends .entry))) (length (now (out .entry)))) ⌝ }
+    ensures { λ _. ⌜ now (out .exit) ≡ written (plainRow sure (now (list .entry)) (now («list_marks» .entry)) (now (row .entry)) (now (marks .entry)) (tableOf n (now (words .entry)) (now (starts .entry)) (now (ends .entry))) (length (now (out .entry)))) (now (out .entry)) ⌝ }
 {
     let mut head = [0u32; 34];
     let h = write_first(words, n, row, &mut head);
@@ -65,6 +68,88 @@ fn fill_with(
         2 + n,
         out,
     )
+}
+
+// The head with the operator and the declarations of an annotated row that are kept by the first n words: its length.
+fn write_first_noted(op: u32, words: &[u32], n: usize, row: &[u32], head: &mut [u32]) -> usize
+    requires { ⌜ n ≤ length (now words) ⌝ }
+    ensures { λ r. ⌜ r ≤ length (now (head .entry)) ⌝ }
+    ensures { λ r. ⌜ take r (now (head .exit)) ≡ notedHead op (take n (now (words .entry))) (now (row .entry)) (length (now (head .entry))) ⌝ }
+{
+    write_noted(op, &words[..n], row, head)
+}
+
+// The same with annotations: those of the declarations that are kept stay as they are. Its head may be as long as a row, so the result is
+// checked.
+fn fill_noted(
+    list: &[u32],
+    list_marks: &[u32],
+    row: &[u32],
+    marks: &[u32],
+    n: usize,
+    words: &[u32; 32],
+    starts: &[usize; 32],
+    ends: &[usize; 32],
+    out: &mut [u32],
+) -> Answer
+    requires { ⌜ Ready (fillPlan (tableOf n (now words) (now starts) (now ends))) (now list) (now «list_marks») ⌝ }
+    requires { ⌜ (2 + n ≤ length (now row)) × (860 ≤ getD (now row) 0 0) ⌝ }
+    ensures { λ r. ⌜ r ≡ told (notedRow (now (list .entry)) (now («list_marks» .entry)) (now (row .entry)) (now (marks .entry)) (tableOf n (now (words .entry)) (now (starts .entry)) (now (ends .entry))) (length (now (out .entry)))) ⌝ }
+    ensures { λ _. ⌜ now (out .exit) ≡ written (notedRow (now (list .entry)) (now («list_marks» .entry)) (now (row .entry)) (now (marks .entry)) (tableOf n (now (words .entry)) (now (starts .entry)) (now (ends .entry))) (length (now (out .entry)))) (now (out .entry)) ⌝ }
+{
+    let mut head = [0u32; 8192];
+    let h = write_first_noted(row[0] - 10, words, n, row, &mut head);
+    let from = body_start(row, n as u32);
+    fill_places(
+        &head[..h],
+        n,
+        words,
+        starts,
+        ends,
+        0,
+        false,
+        list,
+        list_marks,
+        row,
+        marks,
+        from,
+        out,
+    )
+}
+
+// The same, with annotations or without.
+fn fill_with(
+    sure: bool,
+    list: &[u32],
+    list_marks: &[u32],
+    row: &[u32],
+    marks: &[u32],
+    n: usize,
+    words: &[u32; 32],
+    starts: &[usize; 32],
+    ends: &[usize; 32],
+    out: &mut [u32],
+) -> Answer
+    requires { ⌜ Ready (fillPlan (tableOf n (now words) (now starts) (now ends))) (now list) (now «list_marks») ⌝ }
+    requires { ⌜ 2 + n ≤ length (now row) ⌝ }
+    ensures { λ r. ⌜ r ≡ told (filledRow sure (now (list .entry)) (now («list_marks» .entry)) (now (row .entry)) (now (marks .entry)) (tableOf n (now (words .entry)) (now (starts .entry)) (now (ends .entry))) (length (now (out .entry)))) ⌝ }
+    ensures { λ _. ⌜ now (out .exit) ≡ written (filledRow sure (now (list .entry)) (now («list_marks» .entry)) (now (row .entry)) (now (marks .entry)) (tableOf n (now (words .entry)) (now (starts .entry)) (now (ends .entry))) (length (now (out .entry)))) (now (out .entry)) ⌝ }
+{
+    if row[0] < 860 {
+        return fill_plain(
+            sure,
+            list,
+            list_marks,
+            row,
+            marks,
+            n,
+            words,
+            starts,
+            ends,
+            out,
+        );
+    }
+    fill_noted(list, list_marks, row, marks, n, words, starts, ends, out)
 }
 
 // Fill where the form's marks stand at the start of the work row, and the list's from word 8,192 on.

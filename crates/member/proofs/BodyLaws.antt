@@ -2,24 +2,26 @@
 use mathlib.Core.Path.{_≡_, refl, ap, sym, subst, _∙_}
 use mathlib.Core.Bool.{Bool, true, false}
 use mathlib.Core.List.{List, [], _∷_, _++_, append-nil, map}
+use mathlib.Core.Option.{none as absent, some}
 use Prim.Native.Nat.{ℕ, suc, _+_, _-_, _≤_}
 use native.Mathlib.Omega.{arith}
 use lib.Dec.{leb, ltb}
-use lib.ListN.{length, take, drop, set, replicate, length-append, length-map}
+use lib.ListN.{length, getD, take, drop, set, replicate, length-append, length-map}
 use lib.Seq.{drop-drop, drop-at, take-at}
-use Rattle.tree.specs.Form.{free, bound, Form, leaf, node, Forms, none, more, pick, count, encode, encodeAll}
+use Rattle.tree.specs.Form.{free, bound, Form, leaf, node, noted, Decls, undeclared, bare, typed, namesOf, Forms, none, more, pick, count, encode, encodeDecls, encodeAll}
 use Rattle.tree.specs.Tag.{expr, pred, shapeOf, predTags}
 use Rattle.form.specs.Decode.{got, gots, decode}
 use Rattle.form.specs.Lists.{Place, kept, filled}
 use Rattle.reader.specs.Internal.Reads.{mark}
 use Rattle.reader.specs.declared.lists.Table.{Table}
-use Rattle.form.proofs.DecodeLaws.{Ok, OkAll, ok-none, ok-more, decodeAll-encode, decode-sound}
-use Rattle.rules.specs.Walk.{Binding, inside, outside, binding, Outer, named, dangling, walkIndex, walk, walkAll, up, lift, collect, each}
-use Rattle.rules.proofs.WalkLaws.{eachAll, binding-add, self, always, each-always, each-all, walk-agree}
+use Rattle.form.proofs.DecodeLaws.{clash, Ok, OkAll, ok-none, ok-more, decodeAll-encode, decode-sound}
+use Rattle.rules.specs.Walk.{Binding, inside, outside, binding, Outer, named, dangling, walkIndex, walk, walkDecls, walkAll, up, lift, collect, each}
+use Rattle.rules.proofs.WalkLaws.{eachAll, walk-names, binding-add, self, always, each-always, each-all, walk-agree}
 use Rattle.rules.proofs.TreeLaws.{walk-self, each-walk}
-use Rattle.shift.proofs.RowLaws.{zeros, marksOf, marksAll, marks-length, mark-front}
+use Rattle.shift.proofs.RowLaws.{zeros, marksOf, marksDecls, marksAll, marks-length, mark-front}
 use Rattle.replace.proofs.FillTree.{ok-flat}
 use Rattle.rules.proofs.OkLaws.{ok-deep}
+use Rattle.rules.specs.Fill.{Decl, unnoted, nameOf, unlisted, anyNoted}
 use Rattle.rules.specs.Replacement.{indexOf}
 use Rattle.rules.specs.Split.{equal, parts}
 use Rattle.rules.specs.Scan.{joinAll}
@@ -27,12 +29,20 @@ use Rattle.rules.specs.Partial.{noPlaces}
 use Rattle.rules.specs.Member.{offerAll, anyFilled, fillOffers, memberOf}
 use Rattle.places.specs.Internal.Wrote.{Wrote}
 use Rattle.places.specs.Internal.Positions.{readAll, Beside, partsAt, MarkedAt}
-use Rattle.member.specs.Internal.Member.{Shares, shares, keepPart, spotAt, share, equalities, Shared, Sharing, SetIn, BodyTold, lifted, filledBody, shallow, Shaped, well-formed, conjunction, leftParts}
+use Rattle.member.specs.Internal.Member.{Shares, shares, keepPart, spotAt, share, equalities, Shared, Sharing, setHead, SetIn, BodyTold, lifted, filledBody, shallow, Shaped, well-formed, conjunction, leftParts}
 use Rattle.member.specs.declared.member.Comprehension.{Comprehension}
 use Rattle.places.proofs.WroteLaws.{wrote-end, wrote-on, wrote-in, wrote-self, based, headed}
 use Rattle.places.proofs.PartsOk.{OkParts, equal-ok, counted-ok, parts-few}
 use Rattle.rules.proofs.FrontLaws.{map-replicate}
+use Rattle.member.proofs.SetLaws.{head-tag}
 use Rattle.member.proofs.MemberTree.{shiftRight, parts-lift, offersOf, share-offers, front-lift}
+
+-- declarations take a word each at least
+decls-long : (ds : List Decl) → length ds ≤ length (encodeDecls (unlisted ds))
+unfolding encode
+decls-long [] = omega arith
+decls-long ((n, absent) ∷ ds) = let h = decls-long ds in omega arith
+decls-long ((n, some f) ∷ ds) = let h = decls-long ds in let l = length-append (encode f) (encodeDecls (unlisted ds)) in omega arith
 
 -- where the parts stand
 module _ {row : List ℕ} {c : Comprehension} (x : SetIn row c) where
@@ -46,41 +56,70 @@ module _ {row : List ℕ} {c : Comprehension} (x : SetIn row c) where
   va = length (encode (x .value))
 
   abbrev pub behind : List ℕ
-  behind = 803 ∷ x .form ∷ c .n ∷ (x .names ++ (encode (x .guard) ++ encode (x .value)))
+  behind = setHead (x .form) (x .decls) ++ (encode (x .guard) ++ encode (x .value))
+
+  abbrev hd : ℕ
+  hd = length (setHead (x .form) (x .decls))
 
   pub element-words : drop 1 row ≡ encode (x .element) ++ behind
   element-words = ap (drop 1) (x .words)
 
-  set-words : drop (c .at) row ≡ behind
+  pub set-words : drop (c .at) row ≡ behind
   set-words =
       let e : c .at ≡ 1 + el = x .at in
       rw (e, ← drop-drop el 1 row, element-words) (drop-at (encode (x .element)) behind el refl)
 
-  names-words : drop (c .at + 3) row ≡ x .names ++ (encode (x .guard) ++ encode (x .value))
-  names-words = rw (← drop-drop 3 (c .at) row, set-words)
-
   pub guard-words : drop (c .guard) row ≡ encode (x .guard) ++ encode (x .value)
-  guard-words =
-      let e : c .guard ≡ c .at + 3 + c .n = let g = x .guard-at in omega arith in
-      rw (e, ← drop-drop (c .n) (c .at + 3) row, names-words) (drop-at (x .names) (encode (x .guard) ++ encode (x .value)) (c .n) (sym (x .number)))
+  guard-words = rw (x .guard-at, ← drop-drop hd (c .at) row, set-words) (drop-at (setHead (x .form) (x .decls)) (encode (x .guard) ++ encode (x .value)) hd refl)
 
   pub value-words : drop (c .value) row ≡ encode (x .value)
   value-words = rw (x .value-at, ← drop-drop gd (c .guard) row, guard-words) (drop-at (encode (x .guard)) (encode (x .value)) gd refl)
 
-  pub row-long : length row ≡ 4 + el + c .n + gd + va
+  pub row-long : length row ≡ 1 + el + hd + gd + va
   row-long =
-      let n = x .number in
-      ap length (x .words) ∙ rw (length-append (encode (x .element)), length-append (x .names), length-append (encode (x .guard))) (omega arith)
+      ap length (x .words)
+      ∙ rw (length-append (encode (x .element)), length-append (setHead (x .form) (x .decls)), length-append (encode (x .guard))) (omega arith)
+
+  pub head-least : 4 ≤ hd
+  head-least = go (anyNoted (x .decls)) refl
+    where
+      go : (z : Bool) → anyNoted (x .decls) ≡ z → 4 ≤ length (pick z (873 ∷ x .form ∷ length (x .decls) ∷ encodeDecls (unlisted (x .decls))) (803 ∷ x .form ∷ length (x .decls) ∷ map nameOf (x .decls)))
+      go true e = let l = x .least in let k = decls-long (x .decls) in omega arith
+      go false e = let l = x .least in let k = length-map (x .decls) nameOf in omega arith
 
   pub guard-part : take (c .value - c .guard) (drop (c .guard) row) ≡ encode (x .guard)
   guard-part =
       let n : c .value - c .guard ≡ gd = let v = x .value-at in omega arith in
       rw (n, guard-words) (take-at (encode (x .guard)) (encode (x .value)) gd refl)
 
-  pub names-part : take (c .guard - (c .at + 3)) (drop (c .at + 3) row) ≡ x .names
-  names-part =
-      let n : c .guard - (c .at + 3) ≡ c .n = let g = x .guard-at in omega arith in
-      rw (n, names-words) (take-at (x .names) (encode (x .guard) ++ encode (x .value)) (c .n) (sym (x .number)))
+  -- declarations without annotations
+  module _ (tag : getD row (c .at) 0 ≡ 803) where
+    names-only : anyNoted (x .decls) ≡ false
+    names-only = go (anyNoted (x .decls)) refl
+      where
+        go : (z : Bool) → anyNoted (x .decls) ≡ z → z ≡ false
+        go true e = let w : getD row (c .at) 0 ≡ 873 = head-tag row (c .at) (x .form) (x .decls) (encode (x .guard) ++ encode (x .value)) set-words ∙ rw e in absurd (omega arith)
+        go false e = refl
+
+    plain-decls : (ds : List Decl) → anyNoted ds ≡ false → ds ≡ map unnoted (map nameOf ds)
+    plain-decls [] e = refl
+    plain-decls ((n, absent) ∷ ds) e = ap (λ z. unnoted n ∷ z) (plain-decls ds e)
+    plain-decls ((n, some f) ∷ ds) e = absurd (clash cc)
+
+    pub names-part : take (c .guard - (c .at + 3)) (drop (c .at + 3) row) ≡ map nameOf (x .decls)
+    names-part =
+        let e = names-only in
+        let l = length-map (x .decls) nameOf in
+        let h : c .guard ≡ c .at + (3 + length (map nameOf (x .decls))) = x .guard-at ∙ rw e (omega arith) in
+        let n : c .guard - (c .at + 3) ≡ length (map nameOf (x .decls)) = omega arith in
+        let w : drop (c .at + 3) row ≡ map nameOf (x .decls) ++ (encode (x .guard) ++ encode (x .value)) = rw (← drop-drop 3 (c .at) row, set-words, e) in
+        rw (n, w) (take-at (map nameOf (x .decls)) (encode (x .guard) ++ encode (x .value)) (length (map nameOf (x .decls))) refl)
+
+    pub names-all : map unnoted (take (c .guard - (c .at + 3)) (drop (c .at + 3) row)) ≡ x .decls
+    names-all = rw names-part (sym (plain-decls (x .decls) names-only))
+
+    pub names-count : length (take (c .guard - (c .at + 3)) (drop (c .at + 3) row)) ≡ c .n
+    names-count = ap length names-part ∙ (length-map (x .decls) nameOf ∙ sym (x .number))
 
   pub places : (1 ≤ c .at) × (c .at + 3 ≤ c .guard) × (c .guard ≤ c .value) × (c .value - c .guard ≡ gd) × (c .value ≤ length row) × (c .n ≤ 32)
   places =
@@ -88,6 +127,7 @@ module _ {row : List ℕ} {c : Comprehension} (x : SetIn row c) where
       let g = x .guard-at in
       let v = x .value-at in
       let l = row-long in
+      let k = head-least in
       let m = x .most in
       let n = x .number in
       (omega arith, omega arith, omega arith, omega arith, omega arith, omega arith)
@@ -114,6 +154,7 @@ module _ {row : List ℕ} {c : Comprehension} (x : SetIn row c) where
     unfolding encode
     set-beside w e =
         let l = row-long in
+        let k = head-least in
         record {
           lefts = more (x .value) none;
           rights = more (x .element) none;
@@ -205,6 +246,13 @@ mutual
   marks-lift n k u (leaf (free m)) = refl
   marks-lift n k u (leaf (bound i)) = marks-index n k u i (binding k i)
   marks-lift n k u (node t o ds ks) = ap (λ z. 0 ∷ (zeros o ++ (zeros ds ++ z))) (marks-liftAll n (length ds + k) (length ds + u) ks)
+  marks-lift n k u (noted t o ds ks) =
+      rw (walk-names (up n) k ds, marks-liftDecls n k u ds, marks-liftAll n (length (namesOf ds) + k) (length (namesOf ds) + u) ks)
+
+  marks-liftDecls : (n k u : ℕ) (ds : Decls) → marksDecls u (walkDecls (up n) k ds) ≡ marksDecls u ds
+  marks-liftDecls n k u undeclared = refl
+  marks-liftDecls n k u (bare m ds) = ap (λ z. 0 ∷ 0 ∷ z) (marks-liftDecls n k u ds)
+  marks-liftDecls n k u (typed m f ds) = rw (marks-lift n k u f, marks-liftDecls n k u ds)
 
   marks-liftAll : (n k u : ℕ) (fs : Forms) → marksAll u (walkAll (up n) k fs) ≡ marksAll u fs
   marks-liftAll n k u none = refl
@@ -281,10 +329,10 @@ module _ (g : Form) (ok : Ok 62 pred g) where
 any-lift : (n : ℕ) (ps : List Place) → anyFilled (map (lifted n) ps) ≡ anyFilled ps
 any-lift n ps = rw (front-lift n ps, length-map ps (lifted n))
 
-fill-shares : (ns : List ℕ) (g : Form) (z : Shares) (ps : List Place) (qs : List (Form × Form)) → z ≡ shares ps qs → fillOffers ns g (offersOf (length ns) z) ≡ filledBody ns ps (joinAll 351 g (equalities (length ns) qs))
+fill-shares : (ns : List Decl) (g : Form) (z : Shares) (ps : List Place) (qs : List (Form × Form)) → z ≡ shares ps qs → fillOffers ns g (offersOf (length ns) z) ≡ filledBody ns ps (joinAll 351 g (equalities (length ns) qs))
 fill-shares ns g z ps qs e = rw (e, any-lift (length ns) ps)
 
-pub member-shares : (element : Form) (ns : List ℕ) (g value : Form) (ps : List Place) (qs : List (Form × Form)) → share (length ns) (parts value element) (noPlaces (length ns)) ≡ shares ps qs
+pub member-shares : (element : Form) (ns : List Decl) (g value : Form) (ps : List Place) (qs : List (Form × Form)) → share (length ns) (parts value element) (noPlaces (length ns)) ≡ shares ps qs
     → memberOf element ns g value ≡ filledBody ns ps (joinAll 351 g (equalities (length ns) qs))
 member-shares element ns g value ps qs e =
     let n = length ns in

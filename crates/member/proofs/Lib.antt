@@ -1,7 +1,13 @@
 pub mod MemberTree
 pub mod ShareLaws
 pub mod FillingLaws
-pub mod BodyLaws
 pub mod SetLaws
+pub mod BodyLaws
+pub mod TableLaws
+pub mod NotesLaws
+pub mod FormLaws
+pub mod NotedSteps
 pub mod FillBodyLaws
+pub mod NotedLaws
+pub mod NotedRows
 pub mod MemberLaws

@@ -19,6 +19,7 @@ use Rattle.form.proofs.DecodeLaws.{Ok, decode-encode, decode-sound}
 use Rattle.shift.proofs.CheckedLaws.{too-long, form-there, check-refuses}
 use Rattle.shift.proofs.RowLaws.{marksOf, only-mark, mark-front}
 use Rattle.rules.proofs.OkLaws.{ok-deep}
+use Rattle.rules.specs.Fill.{Decl}
 use Rattle.rules.specs.Split.{parts}
 use Rattle.rules.specs.Partial.{noPlaces}
 use Rattle.rules.specs.Point.{ofResult}
@@ -34,7 +35,7 @@ use Rattle.places.proofs.WroteLaws.{wrote-in}
 use Rattle.places.proofs.PartsOk.{OkParts, parts-ok}
 use Rattle.places.proofs.PartsLaws.{same-forms, marks-long}
 use Rattle.places.proofs.PlacesLaws.{PredRow}
-use Rattle.member.proofs.BodyLaws.{read-right, names-part, ok-element, ok-value, set-count, left-ok, guard-ok, guard-shape, guard-flat, marks-same, guard-length, member-shares}
+use Rattle.member.proofs.BodyLaws.{read-right, ok-element, ok-value, set-count, left-ok, guard-ok, guard-shape, guard-flat, marks-same, guard-length, member-shares}
 
 -- the body as it was written
 module _ (row lm : List ℕ) (n u : ℕ) (g : Form) (out : List ℕ) (t : Table) (end : ℕ) (o : List ℕ) where
@@ -53,11 +54,11 @@ cleared-zeros end m work h =
     record { zeros = ap (λ (i : ℕ). replicate i 0) (sym l); enough = omega arith }
 
 -- the places filled in the body
-pub record Fills (row lm names : List ℕ) (t : Table) (body marks : List ℕ) (r : Form) : Type 0 where
-  pub filling : Filling row lm names t body marks
-  pub same : filledBody names (filling .places) (filling .body) ≡ r
+pub record Fills (n : ℕ) (row lm : List ℕ) (ds : List Decl) (t : Table) (body marks : List ℕ) (r : Form) : Type 0 where
+  pub filling : Filling n row lm t body marks
+  pub same : filledBody ds (filling .places) (filling .body) ≡ r
 
-module _ (row lm names : List ℕ) (n : ℕ) (number : n ≡ length names) (most : length names ≤ 32) (el gd va : Form) (ok-el : Ok 63 expr el) (ok-va : Ok 62 expr va) (is-gd : decode 62 pred (encode gd) ≡ got gd [])
+module _ (row lm : List ℕ) (ds : List Decl) (n : ℕ) (number : n ≡ length ds) (most : length ds ≤ 32) (el gd va : Form) (ok-el : Ok 63 expr el) (ok-va : Ok 62 expr va) (is-gd : decode 62 pred (encode gd) ≡ got gd [])
     (long : length row ≤ length lm) where
   abbrev ok-gd : Ok 62 pred gd
   ok-gd = decode-sound 62 pred (encode gd) gd [] is-gd .1
@@ -70,7 +71,7 @@ module _ (row lm names : List ℕ) (n : ℕ) (number : n ≡ length names) (most
 
   module _ (t : Table) (work work′ old marks : List ℕ) (stop : ℕ) (zeros : old ≡ replicate (length old) 0) (len : length marks ≡ length old) (enough : length (encode (unshifted n gd va el)) ≤ length old)
       (made : marks ≡ mark (unshifted n gd va el) 0 n old) where
-    fills-by : (z : Shares) → share n (parts va el) (noPlaces n) ≡ z → BodyTold row lm n n gd work z t stop work′ → Fills row lm names t (take stop work′) marks (memberOf el names gd va)
+    fills-by : (z : Shares) → share n (parts va el) (noPlaces n) ≡ z → BodyTold row lm n n gd work z t stop work′ → Fills n row lm ds t (take stop work′) marks (memberOf el ds gd va)
     unfolding BodyTold Wrote
     fills-by (shares ps qs) e (tab, wr) =
         let q : leftParts (share n (parts va el) (noPlaces n)) ≡ qs = ap leftParts e in
@@ -85,45 +86,36 @@ module _ (row lm names : List ℕ) (n : ℕ) (number : n ≡ length names) (most
           filling =
               record {
                 places = ps;
-                table = rw (← number) tab;
+                table = tab;
                 body = joinAll 351 gd (equalities n qs);
                 words = bw;
-                marked = rw (← number) (mk ∙ sm);
+                marked = mk ∙ sm;
                 enough = let l = ap length bw in omega arith;
                 flat = guard-flat gd ok-gd n qs oks;
                 shape = guard-shape gd ok-gd n qs is-gd;
-                most = most;
+                most = omega arith;
                 long = long;
               };
-          same = rw number (sym (member-shares el names gd va ps qs (rw number at e)));
+          same = sym (member-shares el ds gd va ps qs (rw number at e) ∙ rw (← number));
         }
 
-    pub fills : BodyTold row lm n n gd work (share n (parts va el) (noPlaces n)) t stop work′ → Fills row lm names t (take stop work′) marks (memberOf el names gd va)
+    pub fills : BodyTold row lm n n gd work (share n (parts va el) (noPlaces n)) t stop work′ → Fills n row lm ds t (take stop work′) marks (memberOf el ds gd va)
     fills b = fills-by (share n (parts va el) (noPlaces n)) refl b
 
 -- the same of a row
 module _ {row : List ℕ} {c : Comprehension} (x : SetIn row c) (short : length row ≤ 8192) (end : ℕ) (work : List ℕ) (un : Unshifted row c end work) where
-  abbrev Names : List ℕ
-  Names = take (c .guard - (c .at + 3)) (drop (c .at + 3) row)
-
-  names-count : c .n ≡ length Names
-  names-count = x .number ∙ ap length (sym (names-part x))
-
-  names-few : length Names ≤ 32
-  names-few = let a = ap length (names-part x) in let m = x .most in omega arith
-
   pub unshifted-read : decode 65 pred (drop 0 (take end work)) ≡ got (unshifted (c .n) (x .guard) (x .value) (x .element)) []
   unfolding Unshifted
-  unshifted-read = rw (un x, ← append-nil (encode (unshifted (c .n) (x .guard) (x .value) (x .element)))) (decode-encode (unshifted-ok row row Names (c .n) names-count names-few (x .element) (x .guard) (x .value) (ok-element x) (ok-value x) (x .is-guard) (omega arith) (set-count x (c .n) (noPlaces (c .n)) short)) [])
+  unshifted-read = rw (un x, ← append-nil (encode (unshifted (c .n) (x .guard) (x .value) (x .element)))) (decode-encode (unshifted-ok row row (x .decls) (c .n) (x .number) (x .most) (x .element) (x .guard) (x .value) (ok-element x) (ok-value x) (x .is-guard) (omega arith) (set-count x (c .n) (noPlaces (c .n)) short)) [])
 
   module _ (lm : List ℕ) (long : length row ≤ length lm) (old : List ℕ) (clear : Cleared (take end work) old) (marks : List ℕ) (len : length marks ≡ length old) (made : marks ≡ mark (unshifted (c .n) (x .guard) (x .value) (x .element)) 0 (c .n) old)
       (t : Table) (work₁ work′ : List ℕ) (stop : ℕ) where
-    pub row-fills : BodyTold row lm (c .n) (c .n) (x .guard) work₁ (share (c .n) (parts (x .value) (x .element)) (noPlaces (c .n))) t stop work′ → Fills row lm Names t (take stop work′) marks (memberOf (x .element) (x .names) (x .guard) (x .value))
+    pub row-fills : BodyTold row lm (c .n) (c .n) (x .guard) work₁ (share (c .n) (parts (x .value) (x .element)) (noPlaces (c .n))) t stop work′ → Fills (c .n) row lm (x .decls) t (take stop work′) marks (memberOf (x .element) (x .decls) (x .guard) (x .value))
     unfolding Unshifted
     row-fills b =
         let e = ap length (un x) in
         let k = clear .enough in
-        rw (← names-part x) (fills row lm Names (c .n) names-count names-few (x .element) (x .guard) (x .value) (ok-element x) (ok-value x) (x .is-guard) long t work₁ work′ old marks stop (clear .zeros) len (omega arith) made b)
+        (fills row lm (x .decls) (c .n) (x .number) (x .most) (x .element) (x .guard) (x .value) (ok-element x) (ok-value x) (x .is-guard) long t work₁ work′ old marks stop (clear .zeros) len (omega arith) made b)
 
 -- the whole call
 module _ (row : List ℕ) (wl room : ℕ) where
@@ -161,7 +153,7 @@ module _ (row : List ℕ) (wl room : ℕ) where
           unfolding SetTold
           set-of = rw e at h
 
-          pub member-is : memberOutcome row wl room ≡ finish pred room (memberOf (set-of .element) (set-of .names) (set-of .guard) (set-of .value))
+          pub member-is : memberOutcome row wl room ≡ finish pred room (memberOf (set-of .element) (set-of .decls) (set-of .guard) (set-of .value))
           member-is = member-read ∙ rw (set-of .is (x .form) row-read)
 
           -- the marks of the element

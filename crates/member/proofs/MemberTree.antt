@@ -10,13 +10,14 @@ use native.Mathlib.Omega.{arith}
 use borrow.Author.Tests.{ltb-true, ltb-false, lt-ltb, le-ltb, le-leb}
 use lib.Dec.{ltb, eqb}
 use lib.ListN.{length, getD, take, drop, set, replicate, List·getD-map}
-use Rattle.tree.specs.Form.{free, bound, Form, leaf, node, Forms, none, more, pick}
+use Rattle.tree.specs.Form.{free, bound, Form, leaf, node, noted, Forms, none, more, pick}
 use Rattle.form.specs.Lists.{Place, kept, filled}
 use Rattle.rules.specs.Walk.{Outer, named, dangling, walk, walkAll, up, lift, put, subst, collect, each}
 use Rattle.rules.specs.Shift.{reaches, fall, lower}
 use Rattle.rules.proofs.WalkLaws.{binding-add, fuse-level, shift-shift, self, always, each-always, each-all, walk-agree}
 use Rattle.rules.proofs.TreeLaws.{walk-self, each-walk}
-use Rattle.rules.specs.Fill.{keptCount, keptNames, fillIndex, fillFor}
+use Rattle.rules.specs.Fill.{keptCount, fillIndex, fillFor}
+use Rattle.replace.proofs.PlainLaws.{keptNames}
 use Rattle.replace.proofs.FillTree.{kept-reverse}
 use Rattle.rules.specs.Replacement.{Taken, taken, nothing, indexOf, above, accept}
 use Rattle.rules.specs.Split.{isTwo, isPair, parts, partsAll, equal}
@@ -50,6 +51,8 @@ mutual
   parts-lift n (node t o ds ks) (leaf (bound i)) = refl
   parts-lift n (node t o ds ks) (node u p [] js) = rw (two-walk (up n) 0 js) (split-lift n (node t o ds ks) (node u p [] js) (partsAll ks (walkAll (up n) 0 js)) (partsAll ks js) (isPair t ds ks && isPair u [] js) (partsAll-lift n ks js))
   parts-lift n (node t o ds ks) (node u p (e ∷ es) js) = rw (and-false (eqb u 201), and-false (isPair t ds ks))
+  parts-lift n (node t o ds ks) (noted u p es js) = refl
+  parts-lift n (noted t o ds ks) r = refl
 
   partsAll-lift : (n : ℕ) (ks js : Forms) → partsAll ks (walkAll (up n) 0 js) ≡ map (shiftRight n) (partsAll ks js)
   partsAll-lift n none js = refl
@@ -82,6 +85,7 @@ unfolding accept walk
 accept-lift n (leaf (free m)) (leaf (free k)) = refl
 accept-lift n (leaf (free m)) (leaf (bound j)) = rw (high n j)
 accept-lift n (leaf (free m)) (node t o ds ks) = refl
+accept-lift n (leaf (free m)) (noted t o ds ks) = refl
 accept-lift n (leaf (bound i)) (leaf (free k)) = allowed-lift n i (leaf (free k)) (ltb i n) refl
 accept-lift n (leaf (bound i)) (leaf (bound j)) = go (ltb i (0 + (j + n))) refl
   where
@@ -91,9 +95,15 @@ accept-lift n (leaf (bound i)) (leaf (bound j)) = go (ltb i (0 + (j + n))) refl
         let a = ltb-false i (0 + (j + n)) e in
         rw (e, high n j, le-ltb i n (omega arith))
 accept-lift n (leaf (bound i)) (node t o ds ks) = allowed-lift n i (node t o ds ks) (ltb i n) refl
+accept-lift n (leaf (bound i)) (noted t o ds ks) = allowed-lift n i (noted t o ds ks) (ltb i n) refl
 accept-lift n (node u p es js) (leaf (free k)) = refl
 accept-lift n (node u p es js) (leaf (bound j)) = rw (high n j)
 accept-lift n (node u p es js) (node t o ds ks) = refl
+accept-lift n (node u p es js) (noted t o ds ks) = refl
+accept-lift n (noted u p es js) (leaf (free k)) = refl
+accept-lift n (noted u p es js) (leaf (bound j)) = rw (high n j)
+accept-lift n (noted u p es js) (node t o ds ks) = refl
+accept-lift n (noted u p es js) (noted t o ds ks) = refl
 
 -- offers of the shifted parts are the shares
 abbrev pub offersOf : ℕ → Shares → Offers
@@ -185,7 +195,7 @@ kept-count-lift j [] = refl
 kept-count-lift j (kept ∷ qs) = ap suc (kept-count-lift j qs)
 kept-count-lift j (filled e ∷ qs) = kept-count-lift j qs
 
-lift-reverse : (j : ℕ) (qs : List Place) → map (lifted j) (reverse qs) ≡ reverse (map (lifted j) qs)
+pub lift-reverse : (j : ℕ) (qs : List Place) → map (lifted j) (reverse qs) ≡ reverse (map (lifted j) qs)
 lift-reverse j [] = refl
 lift-reverse j (p ∷ qs) = rw (reverse-cons p qs, map-append (lifted j) (reverse qs) (p ∷ []), lift-reverse j qs, reverse-cons (lifted j p) (map (lifted j) qs))
 
@@ -213,7 +223,7 @@ lower-places j r [] = refl
 lower-places j r (kept ∷ ps) = ap (λ z. kept ∷ z) (lower-places j r ps)
 lower-places j r (filled e ∷ ps) = rw (lower-lift j r e, lower-places j r ps)
 
-lift-drop : (n j : ℕ) (ps : List Place) → drop j (map (lifted n) ps) ≡ map (lifted n) (drop j ps)
+pub lift-drop : (n j : ℕ) (ps : List Place) → drop j (map (lifted n) ps) ≡ map (lifted n) (drop j ps)
 lift-drop n zero ps = refl
 lift-drop n (suc j) [] = refl
 lift-drop n (suc j) (p ∷ ps) = lift-drop n j ps

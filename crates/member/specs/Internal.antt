@@ -1,2 +1,3 @@
 -- What the contracts of private functions cite. Nothing here is needed to read a public contract.
 pub mod Member
+pub mod Noted

@@ -1,4 +1,6 @@
 // Declarations round a body, with the places of a table filled.
+use crate::member::Comprehension;
+use crate::noted::fill_noted;
 use form::answer::Answer;
 use reader::lists::Table;
 use replace::instantiate_partial::instantiate_partial;
@@ -6,15 +8,17 @@ use tree::tag::Tag;
 ghost use mathlib.Core.Path.{_≡_};
 ghost use Prim.Native.Nat.{_≤_};
 ghost use mathlib.Core.Bool.{false};
+ghost use mathlib.Core.List.{map};
 ghost use lib.ListN.{length, take, drop};
 ghost use Rattle.replace.specs.Internal.Partial.{partialRow};
 ghost use Rattle.tree.specs.Tag.{pred};
+ghost use Rattle.rules.specs.Fill.{unnoted};
 ghost use Rattle.form.specs.Answer.{told, written, finish};
 ghost use Rattle.replace.specs.Internal.Pieces.{keptWords};
-ghost use Rattle.member.specs.Internal.Member.{Filling, filledBody, frontOf};
+ghost use Rattle.member.specs.Internal.Member.{SetIn, Filling, Unannotated, filledBody, frontOf};
 
 // How many words stand before the first that is not 0; 0 where each is 0.
-fn front_of(words: &[u32]) -> usize
+pub(crate) fn front_of(words: &[u32]) -> usize
     ensures { λ r. ⌜ r ≡ frontOf 0 (now (words .entry)) ⌝ }
 {
     let mut i = 0;
@@ -85,8 +89,8 @@ fn fill_kept(
     )
 }
 
-// The names round the body, with the places of the table filled by parts of the row.
-pub(crate) fn fill_body(
+// The names round the body, with the places of the table filled by parts of the row. The body does not begin with an annotated existence.
+fn fill_plain(
     row: &[u32],
     row_marks: &[u32],
     names: &[u32],
@@ -95,9 +99,9 @@ pub(crate) fn fill_body(
     marks: &[u32],
     out: &mut [u32],
 ) -> Answer
-    requires { ⌜ Filling (now row) (now «row_marks») (now names) table (now body) (now marks) ⌝ }
-    ensures { λ r. ⌜ ((x : Filling (now (row .entry)) (now («row_marks» .entry)) (now (names .entry)) table (now (body .entry)) (now (marks .entry))) → r ≡ told (finish pred (length (now (out .entry))) (filledBody (now (names .entry)) (x .places) (x .body)))) ⌝ }
-    ensures { λ _. ⌜ ((x : Filling (now (row .entry)) (now («row_marks» .entry)) (now (names .entry)) table (now (body .entry)) (now (marks .entry))) → now (out .exit) ≡ written (finish pred (length (now (out .entry))) (filledBody (now (names .entry)) (x .places) (x .body))) (now (out .entry))) ⌝ }
+    requires { ⌜ Filling (length (now names)) (now row) (now «row_marks») table (now body) (now marks) × Unannotated (now body) ⌝ }
+    ensures { λ r. ⌜ ((x : Filling (length (now (names .entry))) (now (row .entry)) (now («row_marks» .entry)) table (now (body .entry)) (now (marks .entry))) → r ≡ told (finish pred (length (now (out .entry))) (filledBody (map unnoted (now (names .entry))) (x .places) (x .body)))) ⌝ }
+    ensures { λ _. ⌜ ((x : Filling (length (now (names .entry))) (now (row .entry)) (now («row_marks» .entry)) table (now (body .entry)) (now (marks .entry))) → now (out .exit) ≡ written (finish pred (length (now (out .entry))) (filledBody (map unnoted (now (names .entry))) (x .places) (x .body))) (now (out .entry))) ⌝ }
 {
     let n = names.len();
     let words = table.words;
@@ -105,4 +109,30 @@ pub(crate) fn fill_body(
     let k = keep_names(&words[..n], names, &mut stays);
     let j = front_of(&words[..n]);
     fill_kept(row, row_marks, &stays[..k], j, table, body, marks, out)
+}
+
+// The declarations of the comprehension round the body, with the places of the table filled by parts of the row.
+pub(crate) fn fill_body(
+    row: &[u32],
+    row_marks: &[u32],
+    set: Comprehension,
+    table: Table,
+    body: &[u32],
+    marks: &[u32],
+    out: &mut [u32],
+) -> Answer
+    requires { ⌜ SetIn (now row) set × Filling (set .n) (now row) (now «row_marks») table (now body) (now marks) × (length (now row) ≤ 8192) ⌝ }
+    ensures { λ r. ⌜ ((x : SetIn (now (row .entry)) set) (y : Filling (set .n) (now (row .entry)) (now («row_marks» .entry)) table (now (body .entry)) (now (marks .entry))) → r ≡ told (finish pred (length (now (out .entry))) (filledBody (x .decls) (y .places) (y .body)))) ⌝ }
+    ensures { λ _. ⌜ ((x : SetIn (now (row .entry)) set) (y : Filling (set .n) (now (row .entry)) (now («row_marks» .entry)) table (now (body .entry)) (now (marks .entry))) → now (out .exit) ≡ written (finish pred (length (now (out .entry))) (filledBody (x .decls) (y .places) (y .body))) (now (out .entry))) ⌝ }
+{
+    let at = set.at;
+    if row[at] != Tag::COMPREHENSION_SET {
+        return fill_noted(row, row_marks, set, table, body, marks, out);
+    }
+    if body[0] == Tag::NOTED_EXISTS {
+        return fill_noted(row, row_marks, set, table, body, marks, out);
+    }
+    let from = at + 3;
+    let to = set.guard;
+    fill_plain(row, row_marks, &row[from..to], table, body, marks, out)
 }

@@ -31,8 +31,8 @@ fn rewrite_body(
     out: &mut [u32],
 ) -> Answer
     requires { ⌜ Membering (now row) (now «row_marks») set (length (now work)) × Unshifted (now row) set end (now work) × Cleared (take end (now work)) (now marks) × (end ≤ length (now work)) ⌝ }
-    ensures { λ r. ⌜ ((x : SetIn (now (row .entry)) set) → r ≡ told (finish pred (length (now (out .entry))) (memberOf (x .element) (x .names) (x .guard) (x .value)))) ⌝ }
-    ensures { λ _. ⌜ ((x : SetIn (now (row .entry)) set) → now (out .exit) ≡ written (finish pred (length (now (out .entry))) (memberOf (x .element) (x .names) (x .guard) (x .value))) (now (out .entry))) ⌝ }
+    ensures { λ r. ⌜ ((x : SetIn (now (row .entry)) set) → r ≡ told (finish pred (length (now (out .entry))) (memberOf (x .element) (x .decls) (x .guard) (x .value)))) ⌝ }
+    ensures { λ _. ⌜ ((x : SetIn (now (row .entry)) set) → now (out .exit) ≡ written (finish pred (length (now (out .entry))) (memberOf (x .element) (x .decls) (x .guard) (x .value))) (now (out .entry))) ⌝ }
 {
     let n = set.n;
     let Step::End(e) = pred_at(&work[..end], marks, 0, 65, n) else {
@@ -41,17 +41,7 @@ fn rewrite_body(
     let body = write_body(row, row_marks, set, n, work);
     let table = body.table;
     let stop = body.end;
-    let from = set.at + 3;
-    let to = set.guard;
-    fill_body(
-        row,
-        row_marks,
-        &row[from..to],
-        table,
-        &work[..stop],
-        marks,
-        out,
-    )
+    fill_body(row, row_marks, set, table, &work[..stop], marks, out)
 }
 
 // The same, with marks for the body.
@@ -63,8 +53,8 @@ fn rewrite_set(
     out: &mut [u32],
 ) -> Answer
     requires { ⌜ Membering (now row) (now «row_marks») set (length (now work)) ⌝ }
-    ensures { λ r. ⌜ ((x : SetIn (now (row .entry)) set) → r ≡ told (finish pred (length (now (out .entry))) (memberOf (x .element) (x .names) (x .guard) (x .value)))) ⌝ }
-    ensures { λ _. ⌜ ((x : SetIn (now (row .entry)) set) → now (out .exit) ≡ written (finish pred (length (now (out .entry))) (memberOf (x .element) (x .names) (x .guard) (x .value))) (now (out .entry))) ⌝ }
+    ensures { λ r. ⌜ ((x : SetIn (now (row .entry)) set) → r ≡ told (finish pred (length (now (out .entry))) (memberOf (x .element) (x .decls) (x .guard) (x .value)))) ⌝ }
+    ensures { λ _. ⌜ ((x : SetIn (now (row .entry)) set) → now (out .exit) ≡ written (finish pred (length (now (out .entry))) (memberOf (x .element) (x .decls) (x .guard) (x .value))) (now (out .entry))) ⌝ }
 {
     let body = write_body(row, row_marks, set, 0, work);
     let end = body.end;

@@ -47,7 +47,7 @@ fn no_table(n: usize) -> Table
 }
 
 // The place filled by the part from `start` to `end`.
-fn with_place(table: Table, place: usize, start: usize, end: usize) -> Table
+pub(crate) fn with_place(table: Table, place: usize, start: usize, end: usize) -> Table
     requires { ⌜ place < 32 ⌝ }
     ensures { λ r. ⌜ r ≡ withPlace table place start end ⌝ }
 {

@@ -5,7 +5,7 @@ use mathlib.Core.Path.{_≡_, refl}
 use Prim.Native.Nat.{ℕ}
 use lib.Dec.{leb, ltb, eqb}
 use lib.ListN.{length, getD}
-use Rattle.tree.specs.Form.{Form, leaf, node, none, more, pick}
+use Rattle.tree.specs.Form.{Form, leaf, node, noted, none, more, pick}
 use Rattle.form.specs.Break.{breakAt}
 use Rattle.form.specs.Decode.{Found, found, missing, formOf}
 use Rattle.form.specs.declared.answer.Kind.the-variants.{Predicate}
@@ -41,6 +41,7 @@ module _ (p : Replacements) where
   form-leaves (node t o ds (more l none)) = refused 10
   form-leaves (node t o ds (more l (more r none))) = either (eqb t 101) (offerSides p l r (offered l r)) (says p 10) (sides-leave l r (offered l r)) (refused 10)
   form-leaves (node t o ds (more l (more r (more f fs)))) = refused 10
+  form-leaves (noted t o ds ks) = refused 10
 
   found-leaves : (q : ℕ) (z : Found) → Leaves (offerFound p q z)
   found-leaves q (found s f) = either (leb (p .n) 32) (offerForm p f) (says p 5) (form-leaves f) (refused 5)

@@ -6,13 +6,13 @@ use mathlib.Core.List.{List, [], append-nil}
 use Prim.Native.Nat.{ℕ, suc, _+_, _-_, _≤_}
 use native.Mathlib.Omega.{arith}
 use lib.ListN.{length, getD, take}
-use Rattle.tree.specs.Form.{Form, node, encode}
+use Rattle.tree.specs.Form.{Form, node, noted, encode}
 use Rattle.tree.specs.Tag.{pred}
 use Rattle.form.proofs.DecodeLaws.{clash}
 use Rattle.rules.specs.Replacement.{Taken}
 use Rattle.rules.specs.Scan.{Scan, scanned, negate, scan}
 use Rattle.places.specs.Internal.Wrote.{Wrote}
-use Rattle.one_point.specs.Internal.Writes.{Neat, neat-not, neat-other}
+use Rattle.one_point.specs.Internal.Writes.{Neat, neat-not, neat-other, neat-noted}
 use Rattle.one_point.specs.Internal.Scans.{Left, Became, ScanTold, Entered}
 use Rattle.one_point.specs.declared.scanned.Scanned.{Scanned}
 use Rattle.places.proofs.PartsLaws.{some-words}
@@ -25,6 +25,7 @@ use Rattle.one_point.proofs.ReadLaws.{ScannedAt, told-no, tell, tell-no
 pub neat-negate : {f : Form} → Neat f → Neat (negate f)
 neat-negate (neat-not n) = n
 neat-negate (neat-other {t = t} {o = o} {ds = ds} {ks = ks} h) = rw (negate-other t o ds ks h) (neat-not (neat-other h))
+neat-negate (neat-noted h) = neat-not (neat-noted h)
 
 pub negate-words : {f : Form} → Neat f → length (encode (negate f)) ≤ suc (length (encode f))
 negate-words (neat-not {f = g} n) = let a = not-words g in omega arith
@@ -32,6 +33,7 @@ negate-words (neat-other {t = t} {o = o} {ds = ds} {ks = ks} h) =
     let a = not-words (node t o ds ks) in
     let b = ap (λ z. length (encode z)) (negate-other t o ds ks h) in
     omega arith
+negate-words (neat-noted {t = t} {o = o} {ds = ds} {ks = ks} h) = let a = not-words (noted t o ds ks) in omega arith
 
 -- a scanned child, taken apart
 pub record Child (row : List ℕ) (at : ℕ) (f : Form) (pos : ℕ) (out : List ℕ) (z : Scan) (r : Scanned) (out′ : List ℕ) : Type 0 where

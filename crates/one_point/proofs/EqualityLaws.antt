@@ -6,7 +6,7 @@ use mathlib.Core.List.{List, [], _∷_, _++_, append-nil}
 use Prim.Native.Nat.{ℕ, _+_, _-_, _*_, _≤_}
 use native.Mathlib.Omega.{arith}
 use lib.ListN.{length, take, drop, length-append}
-use Rattle.tree.specs.Form.{Form, leaf, node, Forms, none, more, pick, count, encode, encodeAll}
+use Rattle.tree.specs.Form.{Form, leaf, node, noted, Forms, none, more, pick, count, encode, encodeAll}
 use Rattle.rules.specs.Replacement.{Taken, taken, nothing, accept}
 use Rattle.rules.specs.Split.{isPair, parts, partsAll, equal}
 use Rattle.rules.specs.Scan.{Scans, scans, joined, present, copied, offerPart, offerParts, with, scan}
@@ -70,6 +70,8 @@ mutual
   parts-short : (l r : Form) → words (present (copied (parts l r))) ≤ 2 * (length (encode l) + length (encode r))
   parts-short (leaf x) r = one-short (leaf x) r
   parts-short (node t o ds ks) (leaf y) = one-short (node t o ds ks) (leaf y)
+  parts-short (node t o ds ks) (noted u p es js) = one-short (node t o ds ks) (noted u p es js)
+  parts-short (noted t o ds ks) r = one-short (noted t o ds ks) r
   parts-short (node t o ds ks) (node u p es js) =
       let h = parts-shortAll ks js in
       let a = kids-words t o ds ks in

@@ -15,6 +15,7 @@ pub mod NodeLaws
 pub mod ScanMarkLaws
 pub mod TwiceLaws
 pub mod ImpliesLaws
+pub mod HeadedLaws
 pub mod PartialLaws
 pub mod ScanLimits
 pub mod EqualityMarks
@@ -24,3 +25,8 @@ pub mod QuantifierLaws
 pub mod ShapeLaws
 pub mod OutputLaws
 pub mod InsidePoint
+pub mod PointTree
+pub mod FilledWords
+pub mod NotedRows
+pub mod JoinedRows
+pub mod NotedPoint

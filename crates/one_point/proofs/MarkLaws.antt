@@ -10,12 +10,12 @@ use native.Mathlib.Omega.{arith}
 use lib.ListN.{length, getD, take, drop, set, replicate, length-append, length-drop, length-set, take-append-drop, drop-of-length-le}
 use lib.Dec.{leb}
 use lib.Seq.{drop-set-lt, drop-drop, drop-at, take-at, length-take-le, set-at}
-use Rattle.tree.specs.Form.{Form, leaf, node, Forms, none, more, free, bound, pick, encode, encodeAll}
+use Rattle.tree.specs.Form.{Form, leaf, node, noted, Decls, undeclared, bare, typed, namesOf, Forms, none, more, free, bound, pick, encode, encodeDecls, encodeAll}
 use Rattle.tree.specs.Tag.{pred}
 use Rattle.form.specs.Decode.{Got, got, no-form, decode}
 use Rattle.form.specs.declared.head.Step.{Step}
 use Rattle.form.specs.declared.head.Step.the-variants.{End, Bad}
-use Rattle.reader.specs.Internal.Reads.{mark, markAll, Told, decodeIn}
+use Rattle.reader.specs.Internal.Reads.{mark, markDecls, markAll, Told, decodeIn}
 use Rattle.form.proofs.DecodeLaws.{clash, decode-sound}
 use Rattle.form.proofs.HeadLaws.{here, gone}
 use Rattle.reader.proofs.ReaderLaws.{no-word, in-decode}
@@ -35,6 +35,13 @@ mutual
   pub mark-long : (f : Form) (at u : ℕ) (ms : List ℕ) → length (mark f at u ms) ≡ length ms
   mark-long (leaf x) at u ms = length-set ms at (suc u)
   mark-long (node t o ds ks) at u ms = mark-longAll ks (at + suc (length o + length ds)) (length ds + u) ms
+  mark-long (noted t o ds ks) at u ms =
+      mark-longAll ks (at + suc (length o + length (encodeDecls ds))) (length (namesOf ds) + u) (markDecls ds (at + suc (length o)) u ms) ∙ mark-longDecls ds (at + suc (length o)) u ms
+
+  mark-longDecls : (ds : Decls) (at u : ℕ) (ms : List ℕ) → length (markDecls ds at u ms) ≡ length ms
+  mark-longDecls undeclared at u ms = refl
+  mark-longDecls (bare n ds) at u ms = mark-longDecls ds (at + 2) u ms
+  mark-longDecls (typed n f ds) at u ms = mark-longDecls ds (at + 2 + length (encode f)) u (mark f (at + 2) u ms) ∙ mark-long f (at + 2) u ms
 
   pub mark-longAll : (fs : Forms) (at u : ℕ) (ms : List ℕ) → length (markAll fs at u ms) ≡ length ms
   mark-longAll none at u ms = refl
@@ -50,6 +57,17 @@ mutual
       let a = length-append o (ds ++ encodeAll ks) in
       let b = length-append ds (encodeAll ks) in
       mark-behindAll ks (at + suc (length o + length ds)) (length ds + u) q ms (omega arith)
+  mark-behind (noted t o ds ks) at u q ms h =
+      let a = length-append o (encodeDecls ds ++ encodeAll ks) in
+      let b = length-append (encodeDecls ds) (encodeAll ks) in
+      mark-behindAll ks (at + suc (length o + length (encodeDecls ds))) (length (namesOf ds) + u) q (markDecls ds (at + suc (length o)) u ms) (omega arith) ∙ mark-behindDecls ds (at + suc (length o)) u q ms (omega arith)
+
+  mark-behindDecls : (ds : Decls) (at u q : ℕ) (ms : List ℕ) → at + length (encodeDecls ds) ≤ q → drop q (markDecls ds at u ms) ≡ drop q ms
+  mark-behindDecls undeclared at u q ms h = refl
+  mark-behindDecls (bare n ds) at u q ms h = mark-behindDecls ds (at + 2) u q ms (omega arith)
+  mark-behindDecls (typed n f ds) at u q ms h =
+      let a = length-append (encode f) (encodeDecls ds) in
+      mark-behindDecls ds (at + 2 + length (encode f)) u q (mark f (at + 2) u ms) (omega arith) ∙ mark-behind f (at + 2) u q ms (omega arith)
 
   pub mark-behindAll : (fs : Forms) (at u q : ℕ) (ms : List ℕ) → at + length (encodeAll fs) ≤ q → drop q (markAll fs at u ms) ≡ drop q ms
   mark-behindAll none at u q ms h = refl
@@ -71,6 +89,15 @@ module _ (a b : List ℕ) where
     mark-after : (f : Form) (i u : ℕ) (c : List ℕ) → mark f (length a + i) u (a ++ c) ≡ a ++ mark f i u c
     mark-after (leaf x) i u c = set-after a c i (suc u)
     mark-after (node t o ds ks) i u c = rw (add-assoc (length a) i (suc (length o + length ds))) (mark-afterAll ks (i + suc (length o + length ds)) (length ds + u) c)
+    mark-after (noted t o ds ks) i u c =
+        rw (add-assoc (length a) i (suc (length o + length (encodeDecls ds))), add-assoc (length a) i (suc (length o)), mark-afterDecls ds (i + suc (length o)) u c)
+        (mark-afterAll ks (i + suc (length o + length (encodeDecls ds))) (length (namesOf ds) + u) (markDecls ds (i + suc (length o)) u c))
+
+    mark-afterDecls : (ds : Decls) (i u : ℕ) (c : List ℕ) → markDecls ds (length a + i) u (a ++ c) ≡ a ++ markDecls ds i u c
+    mark-afterDecls undeclared i u c = refl
+    mark-afterDecls (bare n ds) i u c = rw (add-assoc (length a) i 2) (mark-afterDecls ds (i + 2) u c)
+    mark-afterDecls (typed n f ds) i u c =
+        rw (add-assoc (length a) i 2, mark-after f (i + 2) u c, add-assoc (length a) (i + 2) (length (encode f))) (mark-afterDecls ds (i + 2 + length (encode f)) u (mark f (i + 2) u c))
 
     mark-afterAll : (fs : Forms) (i u : ℕ) (c : List ℕ) → markAll fs (length a + i) u (a ++ c) ≡ a ++ markAll fs i u c
     mark-afterAll none i u c = refl

@@ -12,7 +12,7 @@ use Rattle.tree.specs.Form.{Form, node, Forms, pick, count, between, encode, en
 use Rattle.tree.specs.Tag.{pred, sorts, ask, kids as kidsOwn, own, ownOf, shapeOf, predTags}
 use Rattle.form.specs.Decode.{head, only, read, Got, got, no-form, isLeaf, decode}
 use Rattle.tree.specs.declared.tag.Shape.the-variants.{Preds}
-use Rattle.form.proofs.DecodeLaws.{clash, Ok, ok-node, OkAll, decode-sound}
+use Rattle.form.proofs.DecodeLaws.{clash, Ok, ok-node, ok-noted, OkAll, decode-sound}
 use Rattle.rules.specs.Replacement.{Taken, taken, nothing}
 use Rattle.rules.specs.Scan as S
 use Rattle.rules.specs.Scan.{scanned, Scans, scans, joined, present, Role, roleOf, with, scan, scanAll}
@@ -163,12 +163,14 @@ role-or t b e q = rw (e, q) refl
 
 -- a predicate that is not entered is copied
 pub other-scan : (row : List ℕ) (d at n : ℕ) (b : Bool) → roleOf (getD row at 0) b ≡ S.other → (f : Form) (x : List ℕ) → decode d pred (drop at row) ≡ got f x → scan n b f ≡ scanned nothing (some f)
+unfolding scan
 other-scan row d at n b o f x e =
     let (w, k) = decode-sound d pred (drop at row) f x e in
     copied k (rw (tag-at row at f x w) at o)
   where
     copied : {d : ℕ} {f : Form} → Ok d pred f → roleOf (tagOf f) b ≡ S.other → scan n b f ≡ scanned nothing (some f)
     copied (ok-node {t = t} {o = o} {ds = ds} {ks = ks} l h k) r = scan-other n b t o ds ks r
+    copied (ok-noted a h v k) r = refl
 
 pub other-told : (row : List ℕ) (d at n pos : ℕ) (b : Bool) (out : List ℕ) (r : Scanned) (out′ : List ℕ) → roleOf (getD row at 0) b ≡ S.other → ScanTold (λ f. scanned nothing (some f)) row d at pos out r out′ → ScanTold (scan n b) row d at pos out r out′
 unfolding Told

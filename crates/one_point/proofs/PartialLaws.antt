@@ -1,12 +1,12 @@
 -- A rest of declarations filled and its front put round it: the words are the definition's. Assumes nothing.
 use mathlib.Core.Path.{_≡_, refl, ap, sym, _∙_}
-use mathlib.Core.Bool.{true, _||_}
+use mathlib.Core.Bool.{true, false, _||_}
 use mathlib.Core.List.{List, [], _∷_, _++_, append-nil, map}
 use Prim.Native.Nat.{ℕ, zero, suc, _+_, _-_, _*_, _≤_, _<_}
 use native.Mathlib.Nat.{zero-add}
 use native.Mathlib.Omega.{arith}
 use lib.Dec.{eqb}
-use lib.ListN.{length, getD, take, drop, set, replicate, length-drop, length-replicate, replicate-append-replicate}
+use lib.ListN.{length, getD, take, drop, set, replicate, length-drop, length-map, length-replicate, replicate-append-replicate}
 use lib.Seq.{drop-at}
 use Rattle.tree.specs.Form.{Form, encode}
 use Rattle.tree.specs.Tag.{expr, pred}
@@ -14,12 +14,13 @@ use Rattle.form.specs.Lists.{Place, kept, filled}
 use Rattle.reader.specs.Internal.Reads.{mark}
 use Rattle.reader.specs.declared.lists.Table.{Table}
 use Rattle.form.proofs.DecodeLaws.{Ok}
-use Rattle.rules.specs.Walk.{walk, put, subst}
+use Rattle.rules.specs.Walk.{walk, lift, put, subst}
 use Rattle.rules.specs.Shift.{lower}
 use Rattle.shift.specs.Internal.Items.{items, rewritten}
 use Rattle.rules.proofs.LimitLaws.{ok-small}
 use Rattle.shift.proofs.RowLaws.{itemsOf, zeros, marksOf, items-encode, marks-length, mark-zeros, zeros-replicate}
-use Rattle.rules.specs.Fill.{keptNames, fillFor, fill}
+use Rattle.rules.specs.Fill.{unnoted, fillFor, fill}
+use Rattle.replace.proofs.PlainLaws.{keptNames, plain-fill, plain-notes}
 use Rattle.replace.specs.Internal.Pieces.{part, planned, downPlan}
 use Rattle.replace.proofs.EntryLaws.{PlaceAt}
 use Rattle.replace.proofs.FillTree.{wordFor, lowPlace, Above, fill-tree-lower}
@@ -42,7 +43,8 @@ lower-places n (filled x ∷ ps) = ap (λ z. filled (lower n x) ∷ z) (lower-pl
 module _ (t : ℕ) (which : (eqb t 851 || eqb t 852) ≡ true) (rest : List ℕ) (tb : Table) (list lm : List ℕ) (ps : List Place) (words : take (tb .n) (tb .words) ≡ map wordFor ps) (count : tb .n ≡ length ps)
     (fits : length ps ≡ length rest) (few : tb .n ≤ 32)
     (placed : (i : ℕ) → i < length ps → PlaceAt (Unit {0}) list lm (getD (tb .starts) i 0) (getD (tb .ends) i 0) (getD ps i kept)) (higher : (i : ℕ) → i < length ps → Above (tb .n) (getD ps i kept))
-    (g : Form) (ok : Ok 63 pred g) (marks after : List ℕ) (marked : marks ≡ marksOf (tb .n) g ++ after) where
+    (g : Form) (ok : Ok 63 pred g) (marks after : List ℕ) (marked : marks ≡ marksOf (tb .n) g ++ after)
+    (bare : eqb (getD (encode g) 0 0) (t + 10) ≡ false) where
   abbrev lowered : List Place
   lowered = map (lowerPlace (length rest)) ps
 
@@ -67,9 +69,19 @@ module _ (t : ℕ) (which : (eqb t 851 || eqb t 852) ≡ true) (rest : List ℕ)
       let m = y .most in
       rw (marked, quant-items-in g y (length (y .decls)) (tb .n) after refl) (filling (length (y .decls)) {d = 63} {f = y .body} (omega arith) (y .ok))
 
-  pub partial-words : (ns : List ℕ) → partialWords t ns (keptNames lowered rest) tb (tb .n) list lm (encode g) marks ≡ encode (putRound t ns (fill t rest (map (lowerPlace (length rest)) ps) g))
-  unfolding fill
-  partial-words ns = round-words t which lowered g (ok-heads t which (omega arith) ok) restFrom whole-body inner-body ns (keptNames lowered rest)
+  pub partial-words : (ns : List ℕ) → partialWords t ns (keptNames lowered rest) tb (tb .n) list lm (encode g) marks ≡ encode (putRound t (map unnoted ns) (fill t (map unnoted rest) (map (lowerPlace (length rest)) ps) g))
+  partial-words ns = rw (plain-fill t rest (map (lowerPlace (length rest)) ps) g) (round-words t which lowered g (ok-heads t which (omega arith) ok) restFrom whole-body inner-body bare ns (keptNames lowered rest))
+
+-- the first declarations without annotations, and the others
+pub take-unnoted : (j : ℕ) (ns : List ℕ) → take j (map unnoted ns) ≡ map unnoted (take j ns)
+take-unnoted zero ns = refl
+take-unnoted (suc j) [] = refl
+take-unnoted (suc j) (n ∷ ns) = ap (λ z. unnoted n ∷ z) (take-unnoted j ns)
+
+pub drop-unnoted : (j : ℕ) (ns : List ℕ) → drop j (map unnoted ns) ≡ map unnoted (drop j ns)
+drop-unnoted zero ns = refl
+drop-unnoted (suc j) [] = refl
+drop-unnoted (suc j) (n ∷ ns) = drop-unnoted j ns
 
 -- the names whose places are kept
 kept-all : (xs : List ℕ) (n : ℕ) → length xs ≡ n → keptNames (replicate n kept) xs ≡ xs
@@ -78,13 +90,13 @@ kept-all [] (suc n) e = absurd (omega arith)
 kept-all (x ∷ xs) zero e = absurd (omega arith)
 kept-all (x ∷ xs) (suc n) e = ap (λ z. x ∷ z) (kept-all xs n (omega arith))
 
-getD-kept : (n k : ℕ) → getD (replicate n kept) k kept ≡ kept
+pub getD-kept : (n k : ℕ) → getD (replicate n kept) k kept ≡ kept
 getD-kept zero k = refl
 getD-kept (suc n) zero = refl
 getD-kept (suc n) (suc k) = getD-kept n k
 
 -- the words of a table of n places of which the first is filled
-zeros-front : (i n : ℕ) → i ≤ n → take {A = ℕ} i (replicate n 0) ≡ replicate i 0
+pub zeros-front : (i n : ℕ) → i ≤ n → take {A = ℕ} i (replicate n 0) ≡ replicate i 0
 zeros-front zero n h = refl
 zeros-front (suc i) zero h = absurd (omega arith)
 zeros-front (suc i) (suc n) h = ap (λ z. 0 ∷ z) (zeros-front i n (omega arith))
@@ -111,7 +123,7 @@ part-items f row lm s e n h w l m =
 module _ (t : ℕ) (which : (eqb t 851 || eqb t 852) ≡ true) (ns : List ℕ) (i : ℕ) (e : Form) (low : i < length ns) (most : length ns ≤ 32) (tb : Table) (list lm : List ℕ) (number : tb .n ≡ suc i)
     (words : take (tb .n) (tb .words) ≡ 1 ∷ replicate i 0)
     (there : items (part (getD (tb .starts) 0 0) (getD (tb .ends) 0 0) list) (part (getD (tb .starts) 0 0) (getD (tb .ends) 0 0) lm) ≡ itemsOf 0 e) {d : ℕ} (ok-e : Ok d expr e) (over : above i e ≡ true)
-    (g : Form) (ok : Ok 63 pred g) (marks after : List ℕ) (marked : marks ≡ marksOf (tb .n) g ++ after) where
+    (g : Form) (ok : Ok 63 pred g) (marks after : List ℕ) (marked : marks ≡ marksOf (tb .n) g ++ after) (bare : eqb (getD (encode g) 0 0) (t + 10) ≡ false) where
   abbrev ps : List Place
   ps = filled e ∷ replicate i kept
 
@@ -132,17 +144,19 @@ module _ (t : ℕ) (which : (eqb t 851 || eqb t 852) ≡ true) (ns : List ℕ) (
   ps-fit : length ps ≡ length (drop j ns)
   ps-fit = let l = length-drop j ns in let p = ps-length in omega arith
 
-  point-is : instantiatePartial t ns (setPlace (length ns) i e (noPlaces (length ns))) g ≡ putRound t (take j ns) (fill t (drop j ns) (map (lowerPlace (length (drop j ns))) ps) g)
+  point-is : instantiatePartial t (map unnoted ns) (setPlace (length ns) i e (noPlaces (length ns))) g
+      ≡ putRound t (map unnoted (take j ns)) (fill t (map unnoted (drop j ns)) (map (lowerPlace (length (drop j ns))) ps) g)
   unfolding instantiatePartial
-  point-is = rw (front-is (length ns) i e low, from-front (length ns) i e low)
+  point-is =
+      rw (front-is (length ns) i e low, from-front (length ns) i e low, take-unnoted (length ns - suc i) ns, drop-unnoted (length ns - suc i) ns, length-map (drop (length ns - suc i) ns) unnoted, plain-notes (lift (length ns - suc i)) (drop (length ns - suc i) ns))
 
   pub point-stays : keptNames (map (lowerPlace (length (drop (length ns - suc i) ns))) (filled e ∷ replicate i kept)) (drop (length ns - suc i) ns) ≡ drop (length ns - suc i + 1) ns
   point-stays =
       let l = length-drop (j + 1) ns in
       rw (map-replicate (lowerPlace (length (drop (length ns - suc i) ns))) i kept, here ns (length ns - suc i) (omega arith)) (kept-all (drop (j + 1) ns) i (omega arith))
 
-  pub point-words : partialWords t (take (length ns - suc i) ns) (drop (length ns - suc i + 1) ns) tb (tb .n) list lm (encode g) marks ≡ encode (instantiatePartial t ns (setPlace (length ns) i e (noPlaces (length ns))) g)
+  pub point-words : partialWords t (take (length ns - suc i) ns) (drop (length ns - suc i + 1) ns) tb (tb .n) list lm (encode g) marks ≡ encode (instantiatePartial t (map unnoted ns) (setPlace (length ns) i e (noPlaces (length ns))) g)
   point-words =
       rw (← point-stays)
-      (partial-words t which (drop j ns) tb list lm ps (words ∙ ap (λ z. 1 ∷ z) (sym (map-replicate wordFor i kept))) (number ∙ sym ps-length) ps-fit (omega arith) ps-placed ps-higher g ok marks after marked (take j ns))
+      (partial-words t which (drop j ns) tb list lm ps (words ∙ ap (λ z. 1 ∷ z) (sym (map-replicate wordFor i kept))) (number ∙ sym ps-length) ps-fit (omega arith) ps-placed ps-higher g ok marks after marked bare (take j ns))
       ∙ ap encode (sym point-is)

@@ -6,15 +6,15 @@ use Prim.Native.Nat.{ℕ, zero, suc, _+_, _-_, _≤_, _<_}
 use native.Mathlib.Nat.{zero-add}
 use native.Mathlib.Omega.{arith}
 use borrow.Author.Tests.{eq-eqb, ne-eqb, lt-ltb, le-ltb, ltb-true}
-use lib.Dec.{ltb}
-use lib.ListN.{length, getD, take, drop, set, replicate, length-replicate, getD-replicate}
+use lib.Dec.{eqb, ltb}
+use lib.ListN.{length, getD, take, drop, set, replicate, length-map, length-replicate, getD-replicate}
 use lib.Seq.{drop-length}
 use Rattle.tree.specs.Form.{Form, pick, encode}
 use Rattle.tree.specs.Tag.{expr, pred, own}
 use Rattle.form.specs.Decode.{read, Got, got, no-form, decode}
 use Rattle.form.specs.Internal.Heads.{headAt}
 use Rattle.form.specs.declared.head.Head.{Head}
-use Rattle.form.specs.declared.head.Head.the-variants.{Kids, None as NoHead}
+use Rattle.form.specs.declared.head.Head.the-variants.{Kids, Noted, None as NoHead}
 use Rattle.form.specs.Answer.{finish}
 use Rattle.reader.specs.Internal.Reads.{mark, decodeIn}
 use Rattle.form.specs.declared.head.Step.{Step}
@@ -22,18 +22,21 @@ use Rattle.form.specs.declared.head.Step.the-variants.{End, Bad}
 use Rattle.form.proofs.DecodeLaws.{clash, Ok, decode-encode, decode-sound}
 use Rattle.shift.specs.Internal.Items.{items}
 use Rattle.shift.proofs.RowLaws.{itemsOf, marksOf, mark-front}
-use Rattle.replace.specs.Internal.Pieces.{part as part-of, declaredIn, Leaves, InRow, Ready, downPlan, depthLeft}
+use Rattle.replace.specs.Internal.Pieces.{part as part-of, declaredIn, areNames, Leaves, InRow, Ready, downPlan, depthLeft}
 use Rattle.rules.proofs.OkLaws.{ok-deep}
 use Rattle.replace.proofs.InsideLaws.{Small}
 use Rattle.replace.proofs.SmallLaws.{small-form, leaves}
 use Rattle.replace.specs.Internal.Partial.{partialRow}
-use Rattle.one_point.specs.Internal.Reduce.{quantifierIn, oneTable, placedForm, placedOutcome, Placing, Marking, Shallow, isGot, isSure, RestMarking}
+use Rattle.one_point.specs.Internal.Reduce.{isQuantifier, quantifierIn, operatorIn, declsIn, oneTable, placedForm, placedOutcome, Placing, Marking, Shallow, isGot, isSure, RestMarking, isSimple, targetOf, namedRow, restRow, Putting}
 use Rattle.one_point.specs.Internal.Marks.{raiseMark, CanRaise}
 use Rattle.one_point.proofs.RaiseLaws.{raised-are, marks-raise}
 use Rattle.places.specs.Internal.Positions.{endAt, Cleared}
 use Rattle.one_point.proofs.ScanLaws.{ends-at, ends-not}
 use Rattle.one_point.specs.declared.one_point_inference.Quantifier.the-variants.{Of, None}
-use Rattle.places.proofs.PlacesLaws.{place-from}
+use Rattle.places.proofs.PartsLaws.{some-words}
+use Rattle.one_point.proofs.HeadedLaws.{head-count, plain-operator, plain-decls, plain-count, plain-names, simple-plain, simple-bare}
+use Rattle.rules.specs.Fill.{unnoted}
+use Rattle.rules.specs.Replacement.{above}
 use Rattle.one_point.proofs.PartialLaws.{first-filled, part-items}
 use Rattle.one_point.proofs.InsidePoint.{Fitting, point-row}
 use Rattle.reader.specs.declared.lists.Table.{Table}
@@ -49,6 +52,10 @@ module _ (row : List ℕ) (n : ℕ) (is : n ≡ declaredIn row) where
     pub head-bad : h ≡ NoHead → None ≡ quantifierIn row
     unfolding quantifierIn
     head-bad q = rw (ne-eqb (declaredIn row) 0 (λ y. z (is ∙ y)), ← e, q)
+
+    pub head-noted : (p x y w : ℕ) → h ≡ Noted p x y w → None ≡ quantifierIn row
+    unfolding quantifierIn
+    head-noted p x y w q = rw (ne-eqb (declaredIn row) 0 (λ y. z (is ∙ y)), ← e, q)
 
     pub head-of : (p x y w : ℕ) → h ≡ Kids p x y w → Of (getD row 0 0) p ≡ quantifierIn row
     unfolding quantifierIn
@@ -72,10 +79,10 @@ module _ (row : List ℕ) (f : Form) where
   pub whole-pred : (d : ℕ) → decode d pred row ≡ got f [] → (row ≡ encode f) × Ok d pred f
   whole-pred d e = let s = decode-sound d pred row f [] e in (s .0 ∙ append-nil (encode f), s .1)
 
-  whole-expr : decode 63 expr row ≡ got f [] → (row ≡ encode f) × Ok 63 expr f
+  pub whole-expr : decode 63 expr row ≡ got f [] → (row ≡ encode f) × Ok 63 expr f
   whole-expr e = let s = decode-sound 63 expr row f [] e in (s .0 ∙ append-nil (encode f), s .1)
 
-row-all : (row ws : List ℕ) → row ≡ ws → row ≡ ws ++ drop (length row) row
+pub row-all : (row ws : List ℕ) → row ≡ ws → row ≡ ws ++ drop (length row) row
 row-all row ws e = e ∙ (sym (append-nil ws) ∙ ap (λ (z : List ℕ). ws ++ z) (sym (drop-length row)))
 
 -- a table of which the first place is filled by a whole row
@@ -84,7 +91,7 @@ module _ (n : ℕ) (few : n ≤ 32) (part pm : List ℕ) (marked : length part �
   unfolding InRow
   one-inside i h = rw (getD-replicate {A = ℕ} 32 i 0 0 (omega arith), getD-replicate {A = ℕ} 32 i (length part) 0 (omega arith)) (omega arith, omega arith)
 
-  one-ready : Ready (downPlan (oneTable n (length part)) n) part pm
+  pub one-ready : Ready (downPlan (oneTable n (length part)) n) part pm
   one-ready = record { tabled = record { few = few; words = refl; starts = refl; ends = refl }; in-row = one-inside; marked = marked }
 
 -- the declarations behind one, as a part of the names
@@ -174,48 +181,99 @@ module _ (d : ℕ) (part rest : List ℕ) (r : ℕ) (is : r ≡ depthLeft part) 
       pub sure-read : (p : ℕ) → s ≡ End p → true ≡ isSure d part rest
       sure-read p q = sure-by true (sym (ap isGot (ends-at rest (r - 1) pred 0 most s e p q .is)))
 
--- the target's place filled in the rest
-module _ (t : ℕ) (ns : List ℕ) (i : ℕ) (part rest : List ℕ) (h : Placing t ns i part rest) where
-  pub resting : (p : ℕ) → p ≡ length ns - 1 - i → (p < length ns) × (length ns ≤ 32)
-  resting p e = let a = h .target in (omega arith, h .few)
+-- the place p of names filled in the rest
+module _ (t : ℕ) (which : isQuantifier t ≡ true) (ns : List ℕ) (names : areNames ns ≡ true) (few : length ns ≤ 32) (i : ℕ) (low : i < length ns) (part rest : List ℕ) (by form : Form) (is-part : decode 63 expr part ≡ got by [])
+    (up : above i by ≡ true) (is-rest : decode 63 pred rest ≡ got form []) (pm : List ℕ) (k : Marking part pm) (marks : List ℕ) (is : marks ≡ mark form 0 (suc i) (replicate (length rest) 0))
+    (bare : eqb (getD rest 0 0) (t + 10) ≡ false) where
+  named-row : (sure : Bool) → (sure ≡ true → Fitting by form) → (p : ℕ) → p + suc i ≡ length ns → (room : ℕ) → namedRow sure t ns p part pm rest marks room ≡ finish pred room (placedForm t (map unnoted ns) i by form)
+  named-row sure inside p e room =
+      let w = whole-pred rest form 63 is-rest in
+      let v = whole-expr part by is-part in
+      let a : p ≡ length ns - suc i = omega arith in
+      let b : length ns - (length ns - suc i) ≡ suc i = omega arith in
+      let l : length rest ≡ length (encode form) = ap length (w .0) in
+      let m : marks ≡ marksOf (suc i) form ++ replicate (length rest - length (encode form)) 0 = is ∙ mark-front form (suc i) (length rest) (omega arith) in
+      let there : items (part-of 0 (length part) part) (part-of 0 (length part) pm) ≡ itemsOf 0 by
+      = part-items by part pm 0 (length part) (length pm) (ap length (v .0) ∙ sym (zero-add (length (encode by)))) (row-all part (encode by) (v .0)) (k .enough) (k .are by is-part) in
+      let c : eqb (getD (encode form) 0 0) (t + 10) ≡ false = rw (← w .0) bare in
+      rw (a, b, length-map ns unnoted)
+      (ap (λ (r : List ℕ). partialRow sure t (take (length ns - suc i) ns) (drop (length ns - suc i + 1) ns) (oneTable (suc i) (length part)) (suc i) part pm r marks room) (w .0)
+      ∙ point-row t which ns i by low few (oneTable (suc i) (length part)) part pm refl (first-filled 32 i (omega arith)) there (v .1) up form (w .1) marks (replicate (length rest - length (encode form)) 0) m names (one-ready (suc i) (omega arith) part pm (k .enough)) c sure inside room)
 
+-- the target's place filled in the rest
+module _ (head : List ℕ) (i : ℕ) (part rest : List ℕ) (h : Placing head i part rest) where
   -- the marks of the rest, raised
   rest-long : length (encode (h .form)) ≡ length rest
   rest-long = ap length (sym (whole-pred rest (h .form) 63 (h .is-rest) .0))
 
   module _ (ms : List ℕ) (m : RestMarking rest ms) where
     pub can-raise : CanRaise (i + 1) ms
-    can-raise = let l = h .long in let f = h .few in let q = h .target in marks-raise (h .form) (i + 1) (length ms) ms (rest-long ∙ sym (m .long)) (let k = m .long in omega arith) (omega arith) (m .are (h .form) (h .is-rest))
+    can-raise =
+        let l = h .long in
+        let f = h .heading .few in
+        let q = h .target in
+        marks-raise (h .form) (i + 1) (length ms) ms (rest-long ∙ sym (m .long)) (let k = m .long in omega arith) (omega arith) (m .are (h .form) (h .is-rest))
 
-    pub raised-rest : (ms′ : List ℕ) → ms′ ≡ map (raiseMark (i + 1)) ms → ms′ ≡ mark (h .form) 0 (i + 1) (replicate (length ms) 0)
-    raised-rest ms′ e = raised-are (h .form) (i + 1) (length ms) ms ms′ (rest-long ∙ sym (m .long)) (m .are (h .form) (h .is-rest)) e
+    pub raised-rest : (ms′ : List ℕ) → ms′ ≡ map (raiseMark (i + 1)) ms → ms′ ≡ mark (h .form) 0 (suc i) (replicate (length rest) 0)
+    raised-rest ms′ e =
+        let o : i + 1 ≡ suc i = omega arith in
+        rw (o, m .long) at (raised-are (h .form) (i + 1) (length ms) ms ms′ (rest-long ∙ sym (m .long)) (m .are (h .form) (h .is-rest)) e)
 
-    pub cleared-rest : Cleared rest (replicate (length ms) 0)
-    cleared-rest = let l = m .long in fresh-cleared rest (length ms) (omega arith)
-
-  outcome-is : (room : ℕ) → placedOutcome t ns i part rest room ≡ finish pred room (placedForm t ns i (h .by) (h .form))
+  outcome-is : (room : ℕ) → placedOutcome (operatorIn head) (declsIn head) i part rest room ≡ finish pred room (placedForm (operatorIn head) (declsIn head) i (h .by) (h .form))
   unfolding placedOutcome
   outcome-is room = rw (h .is-part, h .is-rest)
 
-  module _ (pm : List ℕ) (k : Marking part pm) (marks marks′ : List ℕ) (c : Cleared rest marks) (is : marks′ ≡ mark (h .form) 0 (i + 1) marks) where
-    pub placed-row : (sure : Bool) → (sure ≡ true → Fitting (h .by) (h .form)) → (p : ℕ) → p ≡ length ns - 1 - i → (room : ℕ)
-        → partialRow sure t (take p ns) (drop (p + 1) ns) (oneTable (length ns - p) (length part)) (length ns - p) part pm rest marks′ room ≡ placedOutcome t ns i part rest room
-    placed-row sure inside p e room =
-        let w = whole-pred rest (h .form) 63 (h .is-rest) in
-        let v = whole-expr part (h .by) (h .is-part) in
-        let a : p ≡ length ns - suc i = e ∙ sym (place-from (length ns) i) in
-        let b : length ns - (length ns - suc i) ≡ suc i = let q = h .target in omega arith in
-        let o : i + 1 ≡ suc i = omega arith in
-        let f = h .few in
-        let q = h .target in
-        let m : marks′ ≡ marksOf (suc i) (h .form) ++ replicate (length marks - length (encode (h .form))) 0
-        = is ∙ (ap (λ (l : List ℕ). mark (h .form) 0 (i + 1) l) (c .zeros) ∙ rw o (mark-front (h .form) (suc i) (length marks) (rw (← w .0) (c .enough)))) in
-        let there : items (part-of 0 (length part) part) (part-of 0 (length part) pm) ≡ itemsOf 0 (h .by)
-        = part-items (h .by) part pm 0 (length part) (length pm) (ap length (v .0) ∙ sym (zero-add (length (encode (h .by))))) (row-all part (encode (h .by)) (v .0)) (k .enough) (k .are (h .by) (h .is-part)) in
-        rw (a, b) (
-        ap (λ (r : List ℕ). partialRow sure t (take (length ns - suc i) ns) (drop (length ns - suc i + 1) ns) (oneTable (suc i) (length part)) (suc i) part pm r marks′ room) (w .0)
-        ∙ (
-        point-row t (h .which) ns i (h .by) (h .target) (h .few) (oneTable (suc i) (length part)) part pm refl (first-filled 32 i (omega arith)) there (v .1) (h .up) (h .form) (w .1) marks′ (replicate (length marks - length (encode (h .form))) 0) m (h .names) (one-ready (suc i) (omega arith) part pm (k .enough)) sure inside room
-        ∙ sym (outcome-is room)
-        )
-        )
+  -- the place that the code finds
+  pub place-low : i < getD head 1 0
+  place-low = let q = h .target in rw (head-count head (h .heading)) q
+
+  module _ (p : ℕ) (e : p ≡ getD head 1 0 - 1 - i) where
+    place-there : p + suc i ≡ length (declsIn head)
+    place-there = let q = h .target in let c = head-count head (h .heading) in omega arith
+
+    target-is : targetOf head p ≡ i
+    target-is = let q = h .target in let c = head-count head (h .heading) in omega arith
+
+    module _ (pm : List ℕ) (k : Marking part pm) (marks : List ℕ) (is : marks ≡ mark (h .form) 0 (suc i) (replicate (length rest) 0)) where
+      pub putting : Putting head p part pm rest marks
+      putting = record { index = i; place = place-there; placing = h; marking = k; marked = is }
+
+      pub placed-row : (sure : Bool) → (sure ≡ true → Fitting (h .by) (h .form)) → (room : ℕ) → restRow sure head p part pm rest marks room ≡ placedOutcome (operatorIn head) (declsIn head) i part rest room
+      unfolding restRow
+      placed-row sure inside room = go (isSimple head rest) refl
+        where
+          go : (b : Bool) → isSimple head rest ≡ b
+              → pick b (namedRow sure (getD head 0 0) (drop 2 head) p part pm rest marks room) (placedOutcome (operatorIn head) (declsIn head) (targetOf head p) part rest room) ≡ placedOutcome (operatorIn head) (declsIn head) i part rest room
+          go true s =
+              let f = simple-plain head rest s in
+              let o = plain-operator head (h .heading) f in
+              let d = plain-decls head (h .heading) f in
+              let n = plain-count head (h .heading) f in
+              let q = h .target in
+              let l = h .heading .few in
+              let t = place-there in
+              named-row (getD head 0 0) (rw (← o) (h .heading .which)) (drop 2 head) (plain-names head (h .heading) f) (omega arith) i (omega arith) part rest (h .by) (h .form) (h .is-part) (h .up) (h .is-rest) pm k marks is (simple-bare head rest s) sure inside p (omega arith) room
+              ∙ (rw (← o, ← d) (sym (outcome-is room)))
+          go false s = rw target-is
+
+-- the first word of a rest
+pub rest-word : (head : List ℕ) (p : ℕ) (part pm body marks : List ℕ) (h : Putting head p part pm body marks) → 0 < length body
+rest-word head p part pm body marks h = rw (whole-pred body (h .placing .form) 63 (h .placing .is-rest) .0) (some-words (h .placing .form))
+
+-- the place of a name
+pub named-place : (head : List ℕ) (p : ℕ) (part pm body marks : List ℕ) (h : Putting head p part pm body marks) → isSimple head body ≡ true → (p < length (take (length head - 2) (drop 2 head))) × (length (take (length head - 2) (drop 2 head)) ≤ 32)
+named-place head p part pm body marks h s =
+    let c = plain-count head (h .placing .heading) (simple-plain head body s) in
+    let f = h .placing .heading .few in
+    let q = h .place in
+    rw (rest-part head 2) (omega arith, omega arith)
+
+-- how the code goes on
+module _ (head : List ℕ) (p : ℕ) (part pm body marks : List ℕ) (sure : Bool) (room : ℕ) where
+  pub rest-named : isSimple head body ≡ true → namedRow sure (getD head 0 0) (take (length head - 2) (drop 2 head)) p part pm body marks room ≡ restRow sure head p part pm body marks room
+  unfolding restRow
+  rest-named e = rw (rest-part head 2, e)
+
+  pub rest-noted : isSimple head body ≡ false → placedOutcome (operatorIn head) (declsIn head) (targetOf head p) part body room ≡ restRow sure head p part pm body marks room
+  unfolding restRow
+  rest-noted e = rw e

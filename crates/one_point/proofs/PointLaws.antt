@@ -16,6 +16,7 @@ use Rattle.form.specs.declared.answer.Answer.{Answer}
 use Rattle.form.proofs.DecodeLaws.{clash, Ok, decode-encode}
 use Rattle.form.proofs.HeadLaws.{gone}
 use Rattle.reader.specs.Internal.Reads.{mark}
+use Rattle.rules.specs.Fill.{Decl}
 use Rattle.rules.specs.Replacement.{Taken, taken, nothing}
 use Rattle.rules.specs.Scan.{Scan, scanned, scan}
 use Rattle.rules.specs.Point.{polarity, restOf, reduce, ofResult}
@@ -24,7 +25,7 @@ use Rattle.places.specs.Internal.Positions.{Cleared}
 use Rattle.one_point.specs.Internal.Writes.{leftWords, isGone}
 use Rattle.one_point.specs.Internal.Parts.{TookIs}
 use Rattle.one_point.specs.Internal.Scans.{Left, Became, ScanTold}
-use Rattle.one_point.specs.Internal.Reduce.{placedOutcome, Placing, emptyWord, reducedIn, bodyOutcome, isBad, Reducing, Reading, Shallow, RestMarking}
+use Rattle.one_point.specs.Internal.Reduce.{operatorIn, declsIn, placedOutcome, Placing, emptyWord, reducedIn, bodyOutcome, isBad, Reducing, Reading, Shallow, RestMarking}
 use Rattle.one_point.specs.Internal.Marks.{markLeft, MarksTold, ScanMarks}
 use Rattle.places.specs.declared.sides.Replacement.{Replacement}
 use Rattle.places.specs.declared.sides.Replacement.the-variants.{Is, Not}
@@ -89,7 +90,14 @@ rest-deep : (d : ℕ) → 0 < d → (b : Bool) (g : Option Form) → OkLeft d g 
 rest-deep zero h b g o = absurd (omega arith)
 rest-deep (suc d) h b g o = rest-ok {d = d} b g o
 
-module _ (d : ℕ) (some-deep : 0 < d) (most : d ≤ 63) (t : ℕ) (ns body : List ℕ) (wl : ℕ) (h : Reducing t ns body wl) (work work′ : List ℕ) (s : Scanned) (scans : ScanTold (scan (length ns) (polarity t)) body d 0 0 work s work′) where
+module _ (d : ℕ) (some-deep : 0 < d) (most : d ≤ 63) (head body : List ℕ) (wl : ℕ) (h : Reducing head body wl) (work work′ : List ℕ) (s : Scanned)
+    (scans : ScanTold (scan (length (declsIn head)) (polarity (operatorIn head))) body d 0 0 work s work′) where
+  abbrev t : ℕ
+  t = operatorIn head
+
+  abbrev ns : List Decl
+  ns = declsIn head
+
   -- the body is no predicate
   pub body-lost : s .ok ≡ false → (room : ℕ) → bodyOutcome d t ns body room ≡ refusal 2
   unfolding bodyOutcome
@@ -253,7 +261,7 @@ module _ (d : ℕ) (some-deep : 0 < d) (most : d ≤ 63) (t : ℕ) (ns body : Li
                     let q : f ≡ restOf (polarity t) (k .left) = cc in
                     rw (q, marks-long) marks-are
 
-          pub placing : Placing t ns i (take (b - a) (drop a body)) (take stop work″)
+          pub placing : Placing head i (take (b - a) (drop a body)) (take stop work″)
           placing =
               let l = length-take (b - a) (drop a body) in
               let m = length-take stop work″ in
@@ -261,10 +269,8 @@ module _ (d : ℕ) (some-deep : 0 < d) (most : d ≤ 63) (t : ℕ) (ns body : Li
               let y = h .short in
               let z = stop-low in
               record {
-                which = h .which;
+                heading = h .heading;
                 target = took-ok .0 .1;
-                few = h .few;
-                names = h .names;
                 by = k .by;
                 is-part = part-is;
                 up = took-ok .0 .2;
@@ -279,7 +285,7 @@ module _ (d : ℕ) (some-deep : 0 < d) (most : d ≤ 63) (t : ℕ) (ns body : Li
           placed-is room = rw (part-is, rest-is) (sym (outcome-is room (scanned (taken i (k .by)) (k .left)) (k .is)))
 
 -- a body that is a predicate as deep as it was read is the same read deeper
-module _ (d : ℕ) (most : d ≤ 63) (t : ℕ) (ns body : List ℕ) (room : ℕ) where
+module _ (d : ℕ) (most : d ≤ 63) (t : ℕ) (ns : List Decl) (body : List ℕ) (room : ℕ) where
   pub same-deeper : isBad (told (bodyOutcome d t ns body room)) ≡ false → bodyOutcome d t ns body room ≡ bodyOutcome 63 t ns body room
   unfolding bodyOutcome
   same-deeper e = go (decode d pred body) refl
@@ -308,8 +314,20 @@ part-cleared body a b ms c h =
     let e = c .enough in
     record { zeros = c .zeros; enough = omega arith }
 
-pub still-reducing : (t : ℕ) (ns body : List ℕ) (wl wl′ : ℕ) → wl′ ≡ wl → Reducing t ns body wl → Reducing t ns body wl′
-still-reducing t ns body wl wl′ e h = rw e h
+pub still-reducing : (head body : List ℕ) (wl wl′ : ℕ) → wl′ ≡ wl → Reducing head body wl → Reducing head body wl′
+still-reducing head body wl wl′ e h = rw e h
+
+-- the scan, by the number and the operator that the code finds
+module _ (head body : List ℕ) (d n : ℕ) (p : Bool) (x : n ≡ length (declsIn head)) (y : p ≡ polarity (operatorIn head)) where
+  pub scan-there : (out out′ : List ℕ) (s : Scanned) → ScanTold (scan n p) body d 0 0 out s out′ → ScanTold (scan (length (declsIn head)) (polarity (operatorIn head))) body d 0 0 out s out′
+  scan-there out out′ s h = rw (x, y) at h
+
+  pub marks-there : (ms ms′ : List ℕ) → ScanMarks (scan n p) body d 0 0 ms ms′ → ScanMarks (scan (length (declsIn head)) (polarity (operatorIn head))) body d 0 0 ms ms′
+  marks-there ms ms′ h = rw (x, y) at h
 
 pub fresh-reading : (d : ℕ) (body : List ℕ) (n : ℕ) → 0 < d → d ≤ 63 → 2 * length body ≤ n → Reading d body (replicate n 0)
 fresh-reading d body n deep most room = record { some = deep; most = most; zeros = ap (λ (k : ℕ). replicate k 0) (sym (length-replicate n 0)); room = rw (length-replicate {A = ℕ} n 0) room }
+
+-- the word of an emptied body, by the operator that the code finds
+pub empty-there : (head : List ℕ) (t : ℕ) (g : Bool) (ws vs : List ℕ) → t ≡ operatorIn head → ws ≡ pick g (emptyWord t ∷ []) vs → ws ≡ pick g (emptyWord (operatorIn head) ∷ []) vs
+empty-there head t g ws vs e h = rw e at h

@@ -8,11 +8,10 @@ use native.Mathlib.Omega.{arith}
 use borrow.Author.Tests.{ne-eqb}
 use lib.ListN.{length, getD, take, drop, set, replicate, length-append}
 use lib.Seq.{take-all, take-suc, getD-at, length-take-le, set-at}
-use Rattle.tree.specs.Form.{Form, leaf, node, Forms, none, more, encode, encodeAll}
+use Rattle.tree.specs.Form.{Form, leaf, node, noted, Decls, undeclared, bare, typed, namesOf, Forms, none, more, encode, encodeDecls, encodeAll}
 use Rattle.reader.specs.Internal.Reads.{mark}
 use Rattle.form.proofs.HeadLaws.{here, gone}
-use Rattle.shift.proofs.RowLaws.{zeros, marksOf, marksAll, mark-front}
-use Rattle.rules.specs.Replacement.{nothing}
+use Rattle.shift.proofs.RowLaws.{zeros, marksOf, marksDecls, marksAll, mark-front}
 use Rattle.one_point.specs.Internal.Marks.{raiseMark, CanRaise}
 
 -- marks under more declarations
@@ -33,6 +32,13 @@ module _ (k : ℕ) where
     raise-marks u (leaf x) = let e : suc u + k ≡ suc (u + k) = omega arith in rw (ne-eqb (suc u) 0 (λ z. omega arith), e) refl
     raise-marks u (node t o ds ks) =
         rw (map-append (raiseMark k) (zeros o), map-append (raiseMark k) (zeros ds), raise-zeros k o, raise-zeros k ds, raise-marksAll (length ds + u) ks, add-assoc (length ds) u k) refl
+    raise-marks u (noted t o ds ks) =
+        rw (map-append (raiseMark k) (zeros o), map-append (raiseMark k) (marksDecls u ds), raise-zeros k o, raise-marksDecls u ds, raise-marksAll (length (namesOf ds) + u) ks, add-assoc (length (namesOf ds)) u k) refl
+
+    pub raise-marksDecls : (u : ℕ) (ds : Decls) → map (raiseMark k) (marksDecls u ds) ≡ marksDecls (u + k) ds
+    raise-marksDecls u undeclared = refl
+    raise-marksDecls u (bare n ds) = ap (λ z. 0 ∷ 0 ∷ z) (raise-marksDecls u ds)
+    raise-marksDecls u (typed n f ds) = ap (λ z. 0 ∷ 0 ∷ z) (rw (map-append (raiseMark k) (marksOf u f), raise-marks u f, raise-marksDecls u ds) refl)
 
     raise-marksAll : (u : ℕ) (fs : Forms) → map (raiseMark k) (marksAll u fs) ≡ marksAll (u + k) fs
     raise-marksAll u none = refl
@@ -74,7 +80,7 @@ pub raise-all : (k i : ℕ) (l₀ l : List ℕ) → length l₀ ≤ i → l ≡ 
 raise-all k i l₀ l h e = e ∙ rw (take-all i l₀ h, gone l₀ i h, append-nil)
 
 -- marks are no larger than the words are many
-abbrev Low : ℕ → List ℕ → Type 0
+abbrev pub Low : ℕ → List ℕ → Type 0
 Low m l = (i : ℕ) → getD l i 0 ≤ m
 
 low-append : (m : ℕ) (a b : List ℕ) → Low m a → Low m b → Low m (a ++ b)
@@ -86,6 +92,12 @@ low-zeros : (m : ℕ) (l : List ℕ) → Low m (zeros l)
 low-zeros m [] i = omega arith
 low-zeros m (x ∷ l) zero = omega arith
 low-zeros m (x ∷ l) (suc i) = low-zeros m l i
+
+names-short : (ds : Decls) → length (namesOf ds) ≤ length (encodeDecls ds)
+unfolding encode
+names-short undeclared = omega arith
+names-short (bare n ds) = let h = names-short ds in omega arith
+names-short (typed n f ds) = let h = names-short ds in let a = length-append (encode f) (encodeDecls ds) in omega arith
 
 mutual
   unfolding marksOf encode
@@ -99,6 +111,23 @@ mutual
       let a = length-append o (ds ++ encodeAll ks) in
       let b = length-append ds (encodeAll ks) in
       low-append m (zeros o) (zeros ds ++ marksAll (length ds + u) ks) (low-zeros m o) (low-append m (zeros ds) (marksAll (length ds + u) ks) (low-zeros m ds) (λ j. low-marksAll m (length ds + u) ks (omega arith) j)) i
+  low-marks m u (noted t o ds ks) h zero = omega arith
+  low-marks m u (noted t o ds ks) h (suc i) =
+      let a = length-append o (encodeDecls ds ++ encodeAll ks) in
+      let b = length-append (encodeDecls ds) (encodeAll ks) in
+      let c = names-short ds in
+      low-append m (zeros o) (marksDecls u ds ++ marksAll (length (namesOf ds) + u) ks) (low-zeros m o) (low-append m (marksDecls u ds) (marksAll (length (namesOf ds) + u) ks) (λ j. low-marksDecls m u ds (omega arith) j) (λ j. low-marksAll m (length (namesOf ds) + u) ks (omega arith) j)) i
+
+  pub low-marksDecls : (m u : ℕ) (ds : Decls) → suc u + length (encodeDecls ds) ≤ m → Low m (marksDecls u ds)
+  low-marksDecls m u undeclared h i = omega arith
+  low-marksDecls m u (bare n ds) h zero = omega arith
+  low-marksDecls m u (bare n ds) h (suc zero) = omega arith
+  low-marksDecls m u (bare n ds) h (suc (suc i)) = low-marksDecls m u ds (omega arith) i
+  low-marksDecls m u (typed n f ds) h zero = omega arith
+  low-marksDecls m u (typed n f ds) h (suc zero) = omega arith
+  low-marksDecls m u (typed n f ds) h (suc (suc i)) =
+      let a = length-append (encode f) (encodeDecls ds) in
+      low-append m (marksOf u f) (marksDecls u ds) (λ j. low-marks m u f (omega arith) j) (λ j. low-marksDecls m u ds (omega arith) j) i
 
   low-marksAll : (m u : ℕ) (fs : Forms) → suc u + length (encodeAll fs) ≤ m → Low m (marksAll u fs)
   low-marksAll m u none h i = omega arith

@@ -8,23 +8,23 @@ use native.Mathlib.Omega.{arith}
 use borrow.Author.Tests.{eqb-true, eqb-false}
 use lib.Dec.{eqb}
 use lib.ListN.{length, take, drop}
-use Rattle.tree.specs.Form.{Form, node, Forms, none, more, encode, encodeAll}
+use Rattle.tree.specs.Form.{Form, node, noted, Decls, Forms, none, more, encode, encodeAll}
 use Rattle.tree.specs.Tag.{Sort, expr, pred, shapeOf, predTags}
 use Rattle.form.specs.Decode.{Got, got, no-form, gots, decode}
 use Rattle.form.specs.declared.head.Step.{Step}
 use Rattle.form.specs.declared.head.Step.the-variants.{End, Bad}
-use Rattle.form.proofs.DecodeLaws.{clash, Ok, ok-node, OkAll, ok-none, ok-more, decodeAll-encode, decode-sound, decode-at}
+use Rattle.form.proofs.DecodeLaws.{clash, Ok, ok-node, ok-noted, OkAll, ok-none, ok-more, decodeAll-encode, decode-sound, decode-at}
 use Rattle.reader.specs.Internal.Reads.{decodeIn}
 use Rattle.rules.specs.Replacement.{nothing, accept}
 use Rattle.rules.specs.Split.{parts, equal}
 use Rattle.rules.specs.Scan.{scanned}
 use Rattle.places.specs.Internal.Positions.{endAt, readAll, Beside, Within, bothPairs, partsAt}
 use Rattle.places.specs.Internal.Wrote.{Wrote}
-use Rattle.one_point.specs.Internal.Writes.{Neat, neat-not, neat-other}
+use Rattle.one_point.specs.Internal.Writes.{Neat, neat-not, neat-other, neat-noted}
 use Rattle.one_point.specs.Internal.Parts.{acceptWords, TookIs}
 use Rattle.one_point.specs.Internal.Scans.{Left, Became, Sided}
 use Rattle.places.specs.declared.sides.Replacement.the-variants.{Not}
-use Rattle.places.proofs.ViewLaws.{plain-node}
+use Rattle.places.proofs.ViewLaws.{plain-node, plain-noted}
 use Rattle.places.proofs.SidesLaws.{skip-is, part-words}
 use Rattle.places.proofs.WroteLaws.{wrote-end}
 use Rattle.places.proofs.PartsLaws.{tag-at, some-words, in-row, parts-single}
@@ -47,8 +47,13 @@ neat-tag {d} {t} {o} {ds} {ks} w ih true e =
     rw q (not-made g a b m (ih g h))
 neat-tag {t = t} w ih false e = neat-other (eqb-false t 8 e)
 
+not-noted : {d : ℕ} {o : List ℕ} {ds : Decls} {ks : Forms} → Ok (suc d) pred (noted 8 o ds ks) → ⊥
+unfolding shapeOf predTags
+not-noted w = plain-noted w 1 0 refl
+
 pub pred-neat : (d : ℕ) (f : Form) → Ok d pred f → Neat f
 pred-neat (suc d) f (ok-node {t = t} a b k) = neat-tag (ok-node a b k) (λ g h. pred-neat d g h) (eqb t 8) refl
+pred-neat (suc d) f (ok-noted {t = t} a b v k) = neat-noted {t = t} (λ q. not-noted {d = d} (rw q at (ok-noted a b v k)))
 
 -- a predicate that is copied
 module _ (row : List ℕ) (d at : ℕ) (f : Form) (is : decode d pred (drop at row) ≡ got f (drop (at + length (encode f)) row)) where

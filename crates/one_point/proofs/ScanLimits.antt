@@ -9,11 +9,11 @@ use native.Mathlib.Omega.{arith}
 use borrow.Author.Tests.{eqb-true, eqb-false, ltb-true}
 use lib.Dec.{eqb, ltb}
 use lib.ListN.{length, getD, replicate, length-append}
-use Rattle.tree.specs.Form.{Form, leaf, node, Forms, none, more, pick, count, encode, encodeAll}
+use Rattle.tree.specs.Form.{Form, leaf, node, noted, Forms, none, more, pick, count, encode, encodeAll}
 use Rattle.tree.specs.Tag.{expr, pred, own, ownOf, shapeOf, predTags}
 use Rattle.form.specs.Decode.{read, isLeaf}
 use Rattle.tree.specs.declared.tag.Shape.the-variants.{Preds}
-use Rattle.form.proofs.DecodeLaws.{clash, Ok, ok-node, OkAll, ok-none, ok-more}
+use Rattle.form.proofs.DecodeLaws.{clash, Ok, ok-node, ok-noted, OkAll, ok-none, ok-more}
 use Rattle.rules.proofs.WalkLaws.{and-left}
 use Rattle.rules.proofs.OkLaws.{ok-deep}
 use Rattle.rules.specs.Replacement.{left, right, Offer, offer, no-offer, offered, Taken, taken, nothing, above, allowed, ofOffer, accept}
@@ -101,6 +101,7 @@ negate-tag {t = t} {o = o} {ds = ds} {ks = ks} w false e = rw (negate-other t o 
 
 negate-ok : {d : ℕ} {f : Form} → Ok d pred f → Ok (suc d) pred (negate f)
 negate-ok (ok-node {t = t} a b k) = negate-tag (ok-node a b k) (eqb t 8) refl
+negate-ok (ok-noted a b v k) = not-ok (ok-noted a b v k)
 
 negated-ok : (d : ℕ) (g : Option Form) → OkLeft d g → OkLeft (suc d) (Option·map negate g)
 negated-ok d absent h = tt
@@ -179,6 +180,8 @@ split-ok : (n : ℕ) {d : ℕ} (l r : Form) → Ok d expr l → Ok d expr r → 
 unfolding parts
 split-ok n (leaf x) r h k s = one-part n (leaf x) r h k
 split-ok n (node t o ds ks) (leaf y) h k s = one-part n (node t o ds ks) (leaf y) h k
+split-ok n (node t o ds ks) (noted u p es js) h k s = one-part n (node t o ds ks) (noted u p es js) h k
+split-ok n (noted t o ds ks) r h k s = one-part n (noted t o ds ks) r h k
 split-ok n (node t o ds ks) (node u p es js) (ok-node {d = d} a b c) (ok-node a′ b′ c′) s = go (isPair t ds ks && isPair u es js) refl
   where
     few : length (partsAll ks js) ≤ 4294967295
@@ -289,6 +292,7 @@ module _ (n : ℕ) where
     unfolding scan encode
 
     scan-form : (f : Form) {d : ℕ} → Ok d pred f → length (encode f) ≤ 4294967295 → (b : Bool) → OkScan n d (scan n b f)
+    scan-form (noted t o ds ks) w short b = (tt, w)
     scan-form (node t o ds ks) (ok-node {d = d} x y z) short b =
         let few = kids-few t o ds ks in
         rebuild-ok n d t o ds ks (ok-node x y z) short (scanAll n (firstPolarity (role t ds ks b) b) b ks) (λ c k. scan-forms ks d c k (omega arith) (firstPolarity (role t ds ks b) b) b) (role t ds ks b) (role-tagged t ds ks b)

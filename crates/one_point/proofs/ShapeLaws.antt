@@ -1,43 +1,66 @@
 -- Forms of the right shape, whatever their depth, names and numbers of declarations: where the row of one decodes at all, it decodes to it.
 -- What one point makes of a well-formed form has that shape. Assumes nothing.
 use mathlib.Core.Path.{_≡_, refl, ap, sym, _∙_}
-use mathlib.Core.Bool.{Bool, true, false, _||_}
-use mathlib.Core.Option.{some}
+use mathlib.Core.Bool.{Bool, true, false, _&&_, _||_}
+use mathlib.Core.Option.{Option, none as absent, some}
 use mathlib.Core.List.{List, [], _∷_, _++_, append-assoc, map, reverse, reverse-cons}
 use Prim.Native.Nat.{ℕ, zero, suc, _+_, _-_, _≤_}
 use native.Mathlib.Omega.{arith}
 use borrow.Author.Tests.{eqb-true}
 use lib.Dec.{eqb}
-use lib.ListN.{length, take, drop, set, replicate, length-append, length-drop}
-use Rattle.tree.specs.Form.{Leaf, free, bound, Form, leaf, node, Forms, none, more, pick, between, encode, encodeAll}
-use Rattle.tree.specs.Tag.{Sort, expr, pred, own, sorts}
-use Rattle.form.specs.Decode.{Head, head, bad, only, read, Got, got, no-form, Gots, gots, no-forms, isLeaf, close, chain, addForm, branch, decode, decodeAll}
+use lib.ListN.{length, take, drop, set, replicate, length-append, length-map}
+use Rattle.tree.specs.Form.{Leaf, free, bound, Form, leaf, node, noted, Decls, undeclared, bare, typed, namesOf, anyTyped, Forms, none, more, pick, between, encode, encodeDecls, encodeAll}
+use Rattle.tree.specs.Tag.{Sort, expr, pred, ask, flags, own, ownOf, shapeOf, predTags, sorts}
+use Rattle.form.specs.Decode.{Head, head, flagged, bad, only, read, Got, got, no-form, Gots, gots, no-forms, gotBare, no-decl, noteOf, declAt, GotDecls, declared, no-decls, addBare, addTyped, addDecl, decls, isLeaf, close, closeNoted, withDecls, chain, addForm, branch, decode, decodeAll}
 use Rattle.form.specs.Lists.{Place, kept, filled}
-use Rattle.form.proofs.DecodeLaws.{clash, Ok, ok-free, ok-bound, ok-node, OkAll, ok-none, ok-more, read-exact, read-free, read-bound}
-use Rattle.rules.specs.Walk.{Binding, inside, outside, binding, Outer, named, dangling, walkIndex, walkLeaf, walk, walkAll, up, lift, put, subst}
+use Rattle.form.proofs.DecodeLaws.{clash, Ok, ok-free, ok-bound, ok-node, ok-noted, OkDecls, ok-end, ok-bare, ok-typed, OkAll, ok-none, ok-more, read-exact, read-free, read-bound}
+use Rattle.rules.specs.Walk.{Binding, inside, outside, binding, Outer, named, dangling, walkIndex, walkLeaf, walk, walkDecls, walkAll, up, lift, put, subst}
 use Rattle.rules.specs.Shift.{fall, lower}
-use Rattle.rules.specs.Fill.{Quantified, quantifier, other, quantified, quantify, keptCount, keptNames, fillIndex, fillFor, fill}
-use Rattle.replace.specs.Internal.Pieces.{declaredIn}
-use Rattle.replace.proofs.QuantLaws.{Heading, tag-heading, Quant, is-quant, not-quant, quant-names}
+use Rattle.rules.specs.Fill.{Decl, unnoted, nameOf, listed, unlisted, anyNoted, Quantified, quantifier, other, quantified, quantify, keptCount, keptDecls, fillIndex, fillFor, fill}
+use Rattle.rules.proofs.WalkLaws.{walk-names, walk-typed}
+use Rattle.shift.proofs.AroundLaws.{Quant, quant-of, headOf, encode-around, names-unlisted}
+use Rattle.replace.proofs.QuantLaws.{Heading, tag-heading, tag-flagged}
 use Rattle.rules.specs.Replacement.{taken, nothing}
 use Rattle.rules.specs.Scan.{Scan, scanned, scan}
-use Rattle.rules.specs.Partial.{noPlaces, setPlace, front, lowerPlace, joinWith, putRound, instantiatePartial}
+use Rattle.rules.specs.Partial.{noPlaces, setPlace, front, lowerPlace, onNote, clear, joinWith, putRound, instantiatePartial}
 use Rattle.rules.specs.Point.{polarity, restOf, reduce, reduceQuantified, onePoint}
 use Rattle.one_point.proofs.ScanLimits.{OkScan, rest-ok, scan-ok}
 
--- if the head of a node is read at all, it is read as it stands
+-- if the head of a node is read at all, it is read as it stands, with names or with flags
+abbrev pub ReadAs : Head → List ℕ → List ℕ → ℕ → ℕ → List ℕ → Type 0
+ReadAs (head o′ ds′ p′ e′ x′) o ds p e x = (o′ ≡ o) × (ds′ ≡ ds) × (p′ ≡ p) × (e′ ≡ e) × (x′ ≡ x)
+ReadAs (flagged o′ n′ p′ e′ x′) o ds p e x = ⊥
+ReadAs bad o ds p e x = Unit {0}
+
+abbrev pub FlaggedAs : Head → List ℕ → ℕ → ℕ → ℕ → List ℕ → Type 0
+FlaggedAs (head o′ ds′ p′ e′ x′) o n p e x = ⊥
+FlaggedAs (flagged o′ n′ p′ e′ x′) o n p e x = (o′ ≡ o) × (n′ ≡ n) × (p′ ≡ p) × (e′ ≡ e) × (x′ ≡ x)
+FlaggedAs bad o n p e x = Unit {0}
+
 abbrev pub Reads : Sort → ℕ → List ℕ → List ℕ → ℕ → ℕ → Type 0
-Reads s t o ds p e =
-    (x o′ ds′ : List ℕ) (p′ e′ : ℕ) (x′ : List ℕ) → read (own s t) (o ++ (ds ++ x)) ≡ head o′ ds′ p′ e′ x′ → (o′ ≡ o) × (ds′ ≡ ds) × (p′ ≡ p) × (e′ ≡ e) × (x′ ≡ x)
+Reads s t o ds p e = (x : List ℕ) → ReadAs (read (own s t) (o ++ (ds ++ x))) o ds p e x
+
+abbrev pub ReadsFlags : Sort → ℕ → List ℕ → ℕ → ℕ → ℕ → Type 0
+ReadsFlags s t o n p e = (x : List ℕ) → FlaggedAs (read (own s t) (o ++ x)) o n p e x
 
 -- a quantifier has one child
 abbrev pub OneKid : Sort → ℕ → ℕ → ℕ → Type 0
 OneKid s t p e = s ≡ pred → (eqb t 851 || eqb t 852) ≡ true → sorts p e ≡ pred ∷ []
 
+abbrev pub NotedKid : Sort → ℕ → ℕ → ℕ → Type 0
+NotedKid s t p e = s ≡ pred → (eqb t 861 || eqb t 862) ≡ true → sorts p e ≡ pred ∷ []
+
 mutual
   pub data Shaped : Sort → Form → Type 0 where
     shaped-leaf : (x : Leaf) → Shaped expr (leaf x)
-    shaped-node : {s : Sort} {t : ℕ} {o ds : List ℕ} {p e : ℕ} {ks : Forms} → isLeaf t ≡ false → Reads s t o ds p e → OneKid s t p e → ShapedAll (sorts p e) ks → Shaped s (node t o ds ks)
+    shaped-node : {s : Sort} {t : ℕ} {o ds : List ℕ} (p e : ℕ) {ks : Forms} → isLeaf t ≡ false → Reads s t o ds p e → OneKid s t p e → ShapedAll (sorts p e) ks → Shaped s (node t o ds ks)
+    shaped-noted : {s : Sort} {t : ℕ} {o : List ℕ} {ds : Decls} (p e : ℕ) {ks : Forms} → anyTyped ds ≡ true → ReadsFlags s t o (length (namesOf ds)) p e → NotedKid s t p e → ShapedDecls ds → ShapedAll (sorts p e) ks
+        → Shaped s (noted t o ds ks)
+
+  pub data ShapedDecls : Decls → Type 0 where
+    shaped-end : ShapedDecls undeclared
+    shaped-bare : {n : ℕ} {ds : Decls} → ShapedDecls ds → ShapedDecls (bare n ds)
+    shaped-typed : {n : ℕ} {f : Form} {ds : Decls} → Shaped expr f → ShapedDecls ds → ShapedDecls (typed n f ds)
 
   pub data ShapedAll : List Sort → Forms → Type 0 where
     shaped-none : ShapedAll [] none
@@ -67,9 +90,39 @@ node-decode : (d : ℕ) (s : Sort) (t : ℕ) (o ds : List ℕ) (p m : ℕ) (ks :
     → (z : Head) → read (own s t) (o ++ (ds ++ (encodeAll ks ++ r))) ≡ z → branch (λ s′ w. decode d s′ w) t z ≡ got g x
     → ((fs : Forms) (y : List ℕ) → decodeAll (λ s′ w. decode d s′ w) (sorts p m) (encodeAll ks ++ r) ≡ gots fs y → (fs ≡ ks) × (y ≡ r)) → (g ≡ node t o ds ks) × (x ≡ r)
 node-decode d s t o ds p m ks l h r g x (head o′ ds′ p′ m′ x′) q e k =
-    let (a, b, c, u, v) = h (encodeAll ks ++ r) o′ ds′ p′ m′ x′ q in
+    let (a, b, c, u, v) = rw q at (h (encodeAll ks ++ r)) in
     close-is t o ds ks r l (decodeAll (λ s′ w. decode d s′ w) (sorts p m) (encodeAll ks ++ r)) k g x (rw (a, b, c, u, v) at e)
+node-decode d s t o ds p m ks l h r g x (flagged o′ n′ p′ m′ x′) q e k = absurd (rw q at (h (encodeAll ks ++ r)))
 node-decode d s t o ds p m ks l h r g x bad q e k = absurd (clash cc)
+
+-- the same with flags
+close-noted : (t : ℕ) (o : List ℕ) (ds : Decls) (ks : Forms) (r : List ℕ) → anyTyped ds ≡ true → (z : Gots) → ((fs : Forms) (y : List ℕ) → z ≡ gots fs y → (fs ≡ ks) × (y ≡ r)) → (g : Form) (x : List ℕ) → closeNoted t o ds z ≡ got g x
+    → (g ≡ noted t o ds ks) × (x ≡ r)
+close-noted t o ds ks r l (gots fs y) h g x e =
+    let (a, b) = h fs y refl in
+    let q : got (noted t o ds fs) y ≡ got g x = rw l at e in
+    let c : g ≡ noted t o ds fs = cc in
+    let d : x ≡ y = cc in
+    (c ∙ ap (λ (k : Forms). noted t o ds k) a, d ∙ b)
+close-noted t o ds ks r l no-forms h g x e = absurd (clash cc)
+
+decls-decode : (d t : ℕ) (o : List ℕ) (ds : Decls) (p m : ℕ) (ks : Forms) → anyTyped ds ≡ true → (r : List ℕ) (g : Form) (x : List ℕ) → (z : GotDecls)
+    → ((es : Decls) (y : List ℕ) → z ≡ declared es y → (es ≡ ds) × (y ≡ encodeAll ks ++ r)) → withDecls (λ s′ w. decode d s′ w) t o p m z ≡ got g x
+    → ((fs : Forms) (y : List ℕ) → decodeAll (λ s′ w. decode d s′ w) (sorts p m) (encodeAll ks ++ r) ≡ gots fs y → (fs ≡ ks) × (y ≡ r)) → (g ≡ noted t o ds ks) × (x ≡ r)
+decls-decode d t o ds p m ks l r g x (declared es y) h e k =
+    let (a, b) = h es y refl in
+    close-noted t o ds ks r l (decodeAll (λ s′ w. decode d s′ w) (sorts p m) (encodeAll ks ++ r)) k g x (rw (a, b) at e)
+decls-decode d t o ds p m ks l r g x no-decls h e k = absurd (clash cc)
+
+noted-decode : (d : ℕ) (s : Sort) (t : ℕ) (o : List ℕ) (ds : Decls) (p m : ℕ) (ks : Forms) → anyTyped ds ≡ true → ReadsFlags s t o (length (namesOf ds)) p m → (r : List ℕ) (g : Form) (x : List ℕ)
+    → (z : Head) → read (own s t) (o ++ (encodeDecls ds ++ (encodeAll ks ++ r))) ≡ z → branch (λ s′ w. decode d s′ w) t z ≡ got g x
+    → ((es : Decls) (y : List ℕ) → decls (λ s′ w. decode d s′ w) (length (namesOf ds)) (encodeDecls ds ++ (encodeAll ks ++ r)) ≡ declared es y → (es ≡ ds) × (y ≡ encodeAll ks ++ r))
+    → ((fs : Forms) (y : List ℕ) → decodeAll (λ s′ w. decode d s′ w) (sorts p m) (encodeAll ks ++ r) ≡ gots fs y → (fs ≡ ks) × (y ≡ r)) → (g ≡ noted t o ds ks) × (x ≡ r)
+noted-decode d s t o ds p m ks l h r g x (head o′ ds′ p′ m′ x′) q e w k = absurd (rw q at (h (encodeDecls ds ++ (encodeAll ks ++ r))))
+noted-decode d s t o ds p m ks l h r g x (flagged o′ n′ p′ m′ x′) q e w k =
+    let (a, b, c, u, v) = rw q at (h (encodeDecls ds ++ (encodeAll ks ++ r))) in
+    decls-decode d t o ds p m ks l r g x (decls (λ s′ w. decode d s′ w) (length (namesOf ds)) (encodeDecls ds ++ (encodeAll ks ++ r))) w (rw (a, b, c, u, v) at e) k
+noted-decode d s t o ds p m ks l h r g x bad q e w k = absurd (clash cc)
 
 add-is : (f : Form) (fs : Forms) (r : List ℕ) → (z : Gots) → ((hs : Forms) (y : List ℕ) → z ≡ gots hs y → (hs ≡ fs) × (y ≡ r)) → (gs : Forms) (x : List ℕ) → addForm f z ≡ gots gs x → (gs ≡ more f fs) × (x ≡ r)
 add-is f fs r (gots hs y) h gs x e =
@@ -87,6 +140,37 @@ more-decode d s ss f fs r gs x (got g y) q e h k =
     add-is f fs r (decodeAll (λ s′ v. decode d s′ v) ss (encodeAll fs ++ r)) k gs x (rw (a, b) at e)
 more-decode d s ss f fs r gs x no-form q e h k = absurd (clash cc)
 
+-- declarations with flags, once the first is read
+bare-is : (n : ℕ) (ds : Decls) (r : List ℕ) (b : Bool) (ws : List ℕ) (k : List ℕ → GotDecls) → ((es : Decls) (y : List ℕ) → k ws ≡ declared es y → (es ≡ ds) × (y ≡ r)) → (es : Decls) (y : List ℕ)
+    → addDecl (pick b (gotBare n ws) no-decl) k ≡ declared es y → (es ≡ bare n ds) × (y ≡ r)
+bare-is n ds r false ws k h es y e = absurd (clash cc)
+bare-is n ds r true ws k h es y e = go (k ws) refl e
+  where
+    go : (z : GotDecls) → k ws ≡ z → addBare n z ≡ declared es y → (es ≡ bare n ds) × (y ≡ r)
+    go (declared fs v) q e =
+        let (a, b) = h fs v q in
+        let c : es ≡ bare n fs = cc in
+        let d : y ≡ v = cc in
+        (c ∙ ap (λ (i : Decls). bare n i) a, d ∙ b)
+    go no-decls q e = absurd (clash cc)
+
+typed-is : (n : ℕ) (f : Form) (ds : Decls) (r : List ℕ) (b : Bool) (z : Got) (ws : List ℕ) (k : List ℕ → GotDecls) → ((g : Form) (y : List ℕ) → z ≡ got g y → (g ≡ f) × (y ≡ ws))
+    → ((es : Decls) (y : List ℕ) → k ws ≡ declared es y → (es ≡ ds) × (y ≡ r)) → (es : Decls) (y : List ℕ) → addDecl (pick b (noteOf n z) no-decl) k ≡ declared es y → (es ≡ typed n f ds) × (y ≡ r)
+typed-is n f ds r false z ws k u h es y e = absurd (clash cc)
+typed-is n f ds r true no-form ws k u h es y e = absurd (clash cc)
+typed-is n f ds r true (got g x) ws k u h es y e =
+    let (a, b) = u g x refl in
+    go (k ws) refl (rw (a, b) at e)
+  where
+    go : (z : GotDecls) → k ws ≡ z → addTyped n f (k ws) ≡ declared es y → (es ≡ typed n f ds) × (y ≡ r)
+    go (declared fs v) q e =
+        let (a, b) = h fs v q in
+        let m : declared (typed n f fs) v ≡ declared es y = rw q at e in
+        let c : es ≡ typed n f fs = cc in
+        let d : y ≡ v = cc in
+        (c ∙ ap (λ (i : Decls). typed n f i) a, d ∙ b)
+    go no-decls q e = let m : no-decls ≡ declared es y = rw q at e in absurd (clash cc)
+
 leaf-decode : (d : ℕ) (l : Leaf) (r : List ℕ) (g : Form) (x : List ℕ) → decode d expr (encode (leaf l) ++ r) ≡ got g x → (g ≡ leaf l) × (x ≡ r)
 unfolding decode encode
 leaf-decode zero l r g x e = absurd (clash cc)
@@ -99,13 +183,33 @@ unfolding decode encode
 node-at zero s t o ds p m ks l h r g x e k = absurd (clash cc)
 node-at (suc d) s t o ds p m ks l h r g x e k = node-decode d s t o ds p m ks l h r g x (read (own s t) (o ++ (ds ++ (encodeAll ks ++ r)))) refl (rw (append-assoc o, append-assoc ds) at e) (k d)
 
+noted-at : (d : ℕ) (s : Sort) (t : ℕ) (o : List ℕ) (ds : Decls) (p m : ℕ) (ks : Forms) → anyTyped ds ≡ true → ReadsFlags s t o (length (namesOf ds)) p m → (r : List ℕ) (g : Form) (x : List ℕ) → decode d s (encode (noted t o ds ks) ++ r) ≡ got g x
+    → ((d : ℕ) (es : Decls) (y : List ℕ) → decls (λ s′ w. decode d s′ w) (length (namesOf ds)) (encodeDecls ds ++ (encodeAll ks ++ r)) ≡ declared es y → (es ≡ ds) × (y ≡ encodeAll ks ++ r))
+    → ((d : ℕ) (fs : Forms) (y : List ℕ) → decodeAll (λ s′ w. decode d s′ w) (sorts p m) (encodeAll ks ++ r) ≡ gots fs y → (fs ≡ ks) × (y ≡ r)) → (g ≡ noted t o ds ks) × (x ≡ r)
+unfolding decode encode
+noted-at zero s t o ds p m ks l h r g x e w k = absurd (clash cc)
+noted-at (suc d) s t o ds p m ks l h r g x e w k =
+    noted-decode d s t o ds p m ks l h r g x (read (own s t) (o ++ (encodeDecls ds ++ (encodeAll ks ++ r)))) refl (rw (append-assoc o, append-assoc (encodeDecls ds)) at e) (w d) (k d)
+
 mutual
-  unfolding decodeAll encode
+  unfolding decodeAll decls declAt encode
 
   pub shaped-decode : {s : Sort} {f : Form} → Shaped s f → (d : ℕ) (r : List ℕ) (g : Form) (x : List ℕ) → decode d s (encode f ++ r) ≡ got g x → (g ≡ f) × (x ≡ r)
   shaped-decode (shaped-leaf l) d r g x e = leaf-decode d l r g x e
-  shaped-decode (shaped-node {s = s} {t = t} {o = o} {ds = ds} {p = p} {e = m} {ks = ks} l h k w) d r g x e =
+  shaped-decode (shaped-node {s = s} {t = t} {o = o} {ds = ds} p m {ks = ks} l h k w) d r g x e =
       node-at d s t o ds p m ks l h r g x e (λ n fs y q. shaped-all w n r fs y q)
+  shaped-decode (shaped-noted {s = s} {t = t} {o = o} {ds = ds} p m {ks = ks} l h k v w) d r g x e =
+      noted-at d s t o ds p m ks l h r g x e (λ n es y q. shaped-decls v n (encodeAll ks ++ r) es y q) (λ n fs y q. shaped-all w n r fs y q)
+
+  shaped-decls : {ds : Decls} → ShapedDecls ds → (d : ℕ) (r : List ℕ) (es : Decls) (x : List ℕ) → decls (λ s w. decode d s w) (length (namesOf ds)) (encodeDecls ds ++ r) ≡ declared es x → (es ≡ ds) × (x ≡ r)
+  shaped-decls shaped-end d r es x e =
+      let q : declared es x ≡ declared undeclared r = sym e in
+      (cc, cc)
+  shaped-decls (shaped-bare {n = n} {ds = ds} h) d r es x e =
+      bare-is n ds r (between 0 65535 n) (encodeDecls ds ++ r) (λ w. decls (λ s v. decode d s v) (length (namesOf ds)) w) (λ fs y q. shaped-decls h d r fs y q) es x e
+  shaped-decls (shaped-typed {n = n} {f = f} {ds = ds} k h) d r es x e =
+      typed-is n f ds r (between 0 65535 n) (decode d expr (encode f ++ (encodeDecls ds ++ r))) (encodeDecls ds ++ r) (λ w. decls (λ s v. decode d s v) (length (namesOf ds)) w)
+      (λ g y q. shaped-decode k d (encodeDecls ds ++ r) g y q) (λ fs y q. shaped-decls h d r fs y q) es x (rw (append-assoc (encode f)) at e)
 
   shaped-all : {ss : List Sort} {fs : Forms} → ShapedAll ss fs → (d : ℕ) (r : List ℕ) (gs : Forms) (x : List ℕ) → decodeAll (λ s w. decode d s w) ss (encodeAll fs ++ r) ≡ gots gs x → (gs ≡ fs) × (x ≡ r)
   shaped-all shaped-none d r gs x e =
@@ -116,9 +220,10 @@ mutual
 
 -- a well-formed form
 read-same : (s : Sort) (t : ℕ) (o ds : List ℕ) (p e : ℕ) → ((x : List ℕ) → read (own s t) (o ++ (ds ++ x)) ≡ head o ds p e x) → Reads s t o ds p e
-read-same s t o ds p e h x o′ ds′ p′ e′ x′ q =
-    let k : head o′ ds′ p′ e′ x′ ≡ head o ds p e x = sym q ∙ h x in
-    (cc, cc, cc, cc, cc)
+read-same s t o ds p e h x = rw (h x) (refl, refl, refl, refl, refl)
+
+flags-same : (s : Sort) (t : ℕ) (o : List ℕ) (n p e : ℕ) → ((x : List ℕ) → read (own s t) (o ++ x) ≡ flagged o n p e x) → ReadsFlags s t o n p e
+flags-same s t o n p e h x = rw (h x) (refl, refl, refl, refl, refl)
 
 heading-one : (o ds : List ℕ) (p e : ℕ) → Heading o ds p e → sorts p e ≡ pred ∷ []
 heading-one o ds p e h = rw (h .preds, h .exprs) refl
@@ -126,11 +231,43 @@ heading-one o ds p e h = rw (h .preds, h .exprs) refl
 one-kid : (s : Sort) (t : ℕ) (o ds : List ℕ) (p e : ℕ) → ((x : List ℕ) → read (own s t) (o ++ (ds ++ x)) ≡ head o ds p e x) → OneKid s t p e
 one-kid s t o ds p e h k w = heading-one o ds p e (tag-heading t (o ++ (ds ++ [])) o ds p e [] w (rw k at (h [])))
 
+-- a quantifier whose declarations have flags
+own-flags : (t : ℕ) → (eqb t 861 || eqb t 862) ≡ true → own pred t ≡ ask 1 32 (λ n. flags n 1 0)
+unfolding own ownOf shapeOf predTags
+own-flags t h = go (eqb t 861) (eqb t 862) refl refl h
+  where
+    go : (a b : Bool) → eqb t 861 ≡ a → eqb t 862 ≡ b → (a || b) ≡ true → own pred t ≡ ask 1 32 (λ n. flags n 1 0)
+    go true b x y z = rw (eqb-true t 861 x)
+    go false true x y z = rw (eqb-true t 862 y)
+    go false false x y z = absurd (clash cc)
+
+flags-one : (ws o : List ℕ) (n p e : ℕ) (r : List ℕ) → read (ask 1 32 (λ n. flags n 1 0)) ws ≡ flagged o n p e r → sorts p e ≡ pred ∷ []
+unfolding read
+flags-one [] o n p e r q = absurd (clash cc)
+flags-one (w ∷ ws) o n p e r q = go (between 1 32 w) q
+  where
+    go : (b : Bool) → only b (flagged (w ∷ []) w 1 0 ws) ≡ flagged o n p e r → sorts p e ≡ pred ∷ []
+    go true q =
+        let d : 1 ≡ p = cc in
+        let z : 0 ≡ e = cc in
+        rw (← d, ← z) refl
+    go false q = absurd (clash cc)
+
+noted-kid : (s : Sort) (t : ℕ) (o : List ℕ) (n p e : ℕ) → ((x : List ℕ) → read (own s t) (o ++ x) ≡ flagged o n p e x) → NotedKid s t p e
+noted-kid s t o n p e h k w = flags-one (o ++ []) o n p e [] (rw (k, own-flags t w) at (h []))
+
 mutual
-  ok-shaped : {d : ℕ} {s : Sort} {f : Form} → Ok d s f → Shaped s f
+  pub ok-shaped : {d : ℕ} {s : Sort} {f : Form} → Ok d s f → Shaped s f
   ok-shaped (ok-free {n = n} e) = shaped-leaf (free n)
   ok-shaped (ok-bound {n = n} e) = shaped-leaf (bound n)
-  ok-shaped (ok-node {s = s} {t = t} {o = o} {ds = ds} {p = p} {e = e} l h k) = shaped-node l (read-same s t o ds p e h) (one-kid s t o ds p e h) (all-shaped k)
+  ok-shaped (ok-node {s = s} {t = t} {o = o} {ds = ds} {p = p} {e = e} l h k) = shaped-node p e l (read-same s t o ds p e h) (one-kid s t o ds p e h) (all-shaped k)
+  ok-shaped (ok-noted {s = s} {t = t} {o = o} {ds = ds} {p = p} {e = e} a h v k) =
+      shaped-noted p e a (flags-same s t o (length (namesOf ds)) p e h) (noted-kid s t o (length (namesOf ds)) p e h) (decls-shaped v) (all-shaped k)
+
+  decls-shaped : {d : ℕ} {ds : Decls} → OkDecls d ds → ShapedDecls ds
+  decls-shaped ok-end = shaped-end
+  decls-shaped (ok-bare h k) = shaped-bare (decls-shaped k)
+  decls-shaped (ok-typed h g k) = shaped-typed (ok-shaped g) (decls-shaped k)
 
   all-shaped : {d : ℕ} {ss : List Sort} {fs : Forms} → OkAll d ss fs → ShapedAll ss fs
   all-shaped ok-none = shaped-none
@@ -151,7 +288,14 @@ module _ (act : ℕ → Outer → Form) (h : (k : ℕ) (x : Outer) → Shaped ex
 
     walk-shaped : {s : Sort} {f : Form} → Shaped s f → (k : ℕ) → Shaped s (walk act k f)
     walk-shaped (shaped-leaf x) k = leaf-shaped k x
-    walk-shaped (shaped-node {ds = ds} l r o w) k = shaped-node l r o (walks-shaped w (length ds + k))
+    walk-shaped (shaped-node {ds = ds} p e l r o w) k = shaped-node p e l r o (walks-shaped w (length ds + k))
+    walk-shaped (shaped-noted {s = s} {t = t} {o = o} {ds = ds} p e l r n v w) k =
+        shaped-noted {s = s} {t = t} {o = o} {ds = walkDecls act k ds} p e (walk-typed act k ds ∙ l) (rw (walk-names act k ds) r) n (walk-shapedDecls v k) (walks-shaped w (length (namesOf ds) + k))
+
+    walk-shapedDecls : {ds : Decls} → ShapedDecls ds → (k : ℕ) → ShapedDecls (walkDecls act k ds)
+    walk-shapedDecls shaped-end k = shaped-end
+    walk-shapedDecls (shaped-bare h) k = shaped-bare (walk-shapedDecls h k)
+    walk-shapedDecls (shaped-typed f h) k = shaped-typed (walk-shaped f k) (walk-shapedDecls h k)
 
     walks-shaped : {ss : List Sort} {fs : Forms} → ShapedAll ss fs → (k : ℕ) → ShapedAll ss (walkAll act k fs)
     walks-shaped shaped-none k = shaped-none
@@ -208,6 +352,96 @@ split-same (v ∷ a) (w ∷ b) x y l e =
     let (r, s) = split-same a b x y (omega arith) q in
     (rw (p, r), s)
 
+-- annotations of the right shape
+abbrev ShapedNote : Option Form → Type 0
+ShapedNote absent = Unit {0}
+ShapedNote (some f) = Shaped expr f
+
+abbrev ShapedNotes : List Decl → Type 0
+ShapedNotes [] = Unit {0}
+ShapedNotes (d ∷ ds) = ShapedNote (d .1) × ShapedNotes ds
+
+notes-decls : (ds : List Decl) → ShapedNotes ds → ShapedDecls (unlisted ds)
+notes-decls [] w = shaped-end
+notes-decls ((n, absent) ∷ ds) w = shaped-bare (notes-decls ds (w .1))
+notes-decls ((n, some f) ∷ ds) w = shaped-typed (w .0) (notes-decls ds (w .1))
+
+decls-notes : {ds : Decls} → ShapedDecls ds → ShapedNotes (listed ds)
+decls-notes shaped-end = tt
+decls-notes (shaped-bare w) = (tt, decls-notes w)
+decls-notes (shaped-typed f w) = (f, decls-notes w)
+
+plain-shaped : (ns : List ℕ) → ShapedNotes (map unnoted ns)
+plain-shaped [] = tt
+plain-shaped (n ∷ ns) = (tt, plain-shaped ns)
+
+kept-notes : (ps : List Place) (ds : List Decl) → ShapedNotes ds → ShapedNotes (keptDecls ps ds)
+kept-notes [] ds w = tt
+kept-notes (kept ∷ ps) [] w = tt
+kept-notes (filled x ∷ ps) [] w = tt
+kept-notes (kept ∷ ps) (d ∷ ds) w = (w .0, kept-notes ps ds (w .1))
+kept-notes (filled x ∷ ps) (d ∷ ds) w = kept-notes ps ds (w .1)
+
+append-notes : (ds es : List Decl) → ShapedNotes ds → ShapedNotes es → ShapedNotes (ds ++ es)
+append-notes [] es w v = v
+append-notes (d ∷ ds) es w v = (w .0, append-notes ds es (w .1) v)
+
+take-notes : (j : ℕ) (ds : List Decl) → ShapedNotes ds → ShapedNotes (take j ds)
+take-notes zero ds w = tt
+take-notes (suc j) [] w = tt
+take-notes (suc j) (d ∷ ds) w = (w .0, take-notes j ds (w .1))
+
+drop-notes : (j : ℕ) (ds : List Decl) → ShapedNotes ds → ShapedNotes (drop j ds)
+drop-notes zero ds w = w
+drop-notes (suc j) [] w = tt
+drop-notes (suc j) (d ∷ ds) w = drop-notes j ds (w .1)
+
+map-notes : (h : Form → Form) → ((f : Form) → Shaped expr f → Shaped expr (h f)) → (ds : List Decl) → ShapedNotes ds → ShapedNotes (map (onNote h) ds)
+map-notes h k [] w = tt
+map-notes h k ((n, absent) ∷ ds) w = (tt, map-notes h k ds (w .1))
+map-notes h k ((n, some f) ∷ ds) w = (k f (w .0), map-notes h k ds (w .1))
+
+any-unlisted : (ds : List Decl) → anyTyped (unlisted ds) ≡ anyNoted ds
+any-unlisted [] = refl
+any-unlisted ((n, absent) ∷ ds) = any-unlisted ds
+any-unlisted ((n, some f) ∷ ds) = refl
+
+-- the declarations and the body of a quantifier
+first-kid : {h : Form} → ShapedAll (pred ∷ []) (more h none) → Shaped pred h
+first-kid (shaped-more a b) = a
+
+kid-of : (u : ℕ) (o ds : List ℕ) (ks : Forms) (ss : List Sort) → ShapedAll ss ks → ((eqb u 851 || eqb u 852) ≡ true → ss ≡ pred ∷ []) → (v : ℕ) (es : List Decl) (f : Form) → quantified (node u o ds ks) ≡ quantifier v es f
+    → ShapedNotes es × Shaped pred f
+unfolding quantified
+kid-of u o ds none ss w k v es f q = absurd (clash cc)
+kid-of u o ds (more h none) ss w k v es f q = go (eqb u 851 || eqb u 852) refl q
+  where
+    go : (z : Bool) → (eqb u 851 || eqb u 852) ≡ z → pick z (quantifier u (map unnoted ds) h) other ≡ quantifier v es f → ShapedNotes es × Shaped pred f
+    go true e r =
+        let b : h ≡ f = cc in
+        let c : map unnoted ds ≡ es = cc in
+        (rw (← c) (plain-shaped ds), rw (← b) (first-kid (rw (k e) at w)))
+    go false e r = absurd (clash cc)
+kid-of u o ds (more h (more i is)) ss w k v es f q = absurd (clash cc)
+
+noted-of : (u : ℕ) (o : List ℕ) (ds : Decls) (ks : Forms) (ss : List Sort) → ShapedDecls ds → ShapedAll ss ks → ((eqb u 861 || eqb u 862) ≡ true → ss ≡ pred ∷ []) → (v : ℕ) (es : List Decl) (f : Form)
+    → quantified (noted u o ds ks) ≡ quantifier v es f → ShapedNotes es × Shaped pred f
+unfolding quantified
+noted-of u o ds none ss n w k v es f q = absurd (clash cc)
+noted-of u o ds (more h none) ss n w k v es f q = go (eqb u 861 || eqb u 862) refl q
+  where
+    go : (z : Bool) → (eqb u 861 || eqb u 862) ≡ z → pick z (quantifier (u - 10) (listed ds) h) other ≡ quantifier v es f → ShapedNotes es × Shaped pred f
+    go true e r =
+        let b : h ≡ f = cc in
+        let c : listed ds ≡ es = cc in
+        (rw (← c) (decls-notes n), rw (← b) (first-kid (rw (k e) at w)))
+    go false e r = absurd (clash cc)
+noted-of u o ds (more h (more i is)) ss n w k v es f q = absurd (clash cc)
+
+body-shaped : {g : Form} → Shaped pred g → (u : ℕ) (ds : List Decl) (f : Form) → quantified g ≡ quantifier u ds f → ShapedNotes ds × Shaped pred f
+body-shaped (shaped-node {t = v} {o = o} {ds = es} p e {ks = ks} l r k w) u ds f q = kid-of v o es ks (sorts p e) w (k refl) u ds f q
+body-shaped (shaped-noted {t = v} {o = o} {ds = es} p e {ks = ks} l r k n w) u ds f q = noted-of v o es ks (sorts p e) n w (k refl) u ds f q
+
 module _ (t : ℕ) (which : (eqb t 851 || eqb t 852) ≡ true) where
   not-leaf : isLeaf t ≡ false
   not-leaf = go (eqb t 851) (eqb t 852) refl refl which
@@ -218,56 +452,72 @@ module _ (t : ℕ) (which : (eqb t 851 || eqb t 852) ≡ true) where
       go false false x y z = absurd (clash cc)
 
   quant-reads : (ns : List ℕ) → Reads pred t (length ns ∷ []) ns 1 0
-  quant-reads ns x o ds p e y q =
-      let h = tag-heading t (length ns ∷ (ns ++ x)) o ds p e y which q in
-      let w : length ns ∷ (ns ++ x) ≡ o ++ (ds ++ y) = read-exact (own pred t) (length ns ∷ (ns ++ x)) o ds p e y q .0 in
-      let v : length ns ∷ (ns ++ x) ≡ length ds ∷ (ds ++ y) = w ∙ ap (λ (z : List ℕ). z ++ (ds ++ y)) (h .words) in
-      let l : length ds ≡ length ns = cc in
-      let u : ds ++ y ≡ ns ++ x = cc in
-      let (a, b) = split-same ds ns y x l u in
-      (h .words ∙ ap (λ (n : ℕ). n ∷ []) l, a, h .preds, h .exprs, b)
+  quant-reads ns x = go (read (own pred t) (length ns ∷ (ns ++ x))) refl
+    where
+      go : (z : Head) → read (own pred t) (length ns ∷ (ns ++ x)) ≡ z → ReadAs z (length ns ∷ []) ns 1 0 x
+      go (head o ds p e y) q =
+          let h = tag-heading t (length ns ∷ (ns ++ x)) o ds p e y which q in
+          let w : length ns ∷ (ns ++ x) ≡ o ++ (ds ++ y) = read-exact (own pred t) (length ns ∷ (ns ++ x)) o ds p e y q .0 in
+          let v : length ns ∷ (ns ++ x) ≡ length ds ∷ (ds ++ y) = w ∙ ap (λ (z : List ℕ). z ++ (ds ++ y)) (h .words) in
+          let l : length ds ≡ length ns = cc in
+          let u : ds ++ y ≡ ns ++ x = cc in
+          let (a, b) = split-same ds ns y x l u in
+          (h .words ∙ ap (λ (n : ℕ). n ∷ []) l, a, h .preds, h .exprs, b)
+      go (flagged o n p e y) q = tag-flagged t (length ns ∷ (ns ++ x)) o n p e y which q
+      go bad q = tt
 
-  quantify-shaped : (ns : List ℕ) {f : Form} → Shaped pred f → Shaped pred (quantify t ns f)
-  quantify-shaped [] h = h
-  quantify-shaped (n ∷ ns) h = shaped-node {p = 1} {e = 0} not-leaf (quant-reads (n ∷ ns)) (λ a b. refl) (shaped-more h shaped-none)
+  up-tag : (eqb (t + 10) 861 || eqb (t + 10) 862) ≡ true
+  up-tag = go (eqb t 851) (eqb t 852) refl refl which
+    where
+      go : (a b : Bool) → eqb t 851 ≡ a → eqb t 852 ≡ b → (a || b) ≡ true → (eqb (t + 10) 861 || eqb (t + 10) 862) ≡ true
+      go true b x y z = rw (eqb-true t 851 x)
+      go false true x y z = rw (eqb-true t 852 y)
+      go false false x y z = absurd (clash cc)
 
-  fill-whole : (ns : List ℕ) (ps : List Place) {f : Form} → ShapedPlaces ps → Shaped pred f → Shaped pred (fill t ns ps f)
+  flags-reads : (n : ℕ) → ReadsFlags pred (t + 10) (n ∷ []) n 1 0
+  unfolding read
+  flags-reads n x = rw (own-flags (t + 10) up-tag) (go (between 1 32 n))
+    where
+      go : (b : Bool) → FlaggedAs (only b (flagged (n ∷ []) n 1 0 x)) (n ∷ []) n 1 0 x
+      go true = (refl, refl, refl, refl, refl)
+      go false = tt
+
+  quantify-shaped : (ns : List Decl) {f : Form} → ShapedNotes ns → Shaped pred f → Shaped pred (quantify t ns f)
+  quantify-shaped [] w h = h
+  quantify-shaped (n ∷ ns) {f} w h = go (anyNoted (n ∷ ns)) refl
+    where
+      go : (z : Bool) → anyNoted (n ∷ ns) ≡ z
+          → Shaped pred (pick z (noted (t + 10) (length (n ∷ ns) ∷ []) (unlisted (n ∷ ns)) (more f none)) (node t (length (n ∷ ns) ∷ []) (map nameOf (n ∷ ns)) (more f none)))
+      go true e =
+          let l : length (namesOf (unlisted (n ∷ ns))) ≡ length (n ∷ ns) = ap length (names-unlisted (n ∷ ns)) ∙ length-map (n ∷ ns) nameOf in
+          shaped-noted {s = pred} {t = t + 10} {o = length (n ∷ ns) ∷ []} {ds = unlisted (n ∷ ns)} 1 0 (any-unlisted (n ∷ ns) ∙ e) (rw l (flags-reads (length (n ∷ ns)))) (λ a b. refl) (notes-decls (n ∷ ns) w)
+          (shaped-more h shaped-none)
+      go false e =
+          let l : length (n ∷ ns) ≡ length (map nameOf (n ∷ ns)) = sym (length-map (n ∷ ns) nameOf) in
+          rw l (shaped-node {s = pred} {t = t} {o = length (map nameOf (n ∷ ns)) ∷ []} {ds = map nameOf (n ∷ ns)} 1 0 not-leaf (quant-reads (map nameOf (n ∷ ns))) (λ a b. refl) (shaped-more h shaped-none))
+
+  fill-whole : (ns : List Decl) (ps : List Place) {f : Form} → ShapedNotes ns → ShapedPlaces ps → Shaped pred f → Shaped pred (fill t ns ps f)
   unfolding fill
-  fill-whole ns ps h w = quantify-shaped (keptNames ps ns) (subst-shaped (fillFor ps) (λ x. of-outer x) w)
+  fill-whole ns ps n h w = quantify-shaped (keptDecls ps ns) (kept-notes ps ns n) (subst-shaped (fillFor ps) (λ x. of-outer x) w)
     where
       of-outer : (x : Outer) → Shaped expr (fillFor ps x)
       of-outer (named n) = shaped-leaf (free n)
       of-outer (dangling j) = fill-shaped (keptCount ps) 0 (reverse ps) j (places-reverse ps h)
 
-  -- declarations put round a predicate, joined with its own
-  first-kid : {h : Form} → ShapedAll (pred ∷ []) (more h none) → Shaped pred h
-  first-kid (shaped-more a b) = a
-
-  kid-of : (u : ℕ) (o ds : List ℕ) (ks : Forms) (ss : List Sort) → ShapedAll ss ks → ((eqb u 851 || eqb u 852) ≡ true → ss ≡ pred ∷ []) → (v : ℕ) (es : List ℕ) (f : Form) → quantified (node u o ds ks) ≡ quantifier v es f → Shaped pred f
-  unfolding quantified
-  kid-of u o ds none ss w k v es f q = absurd (clash cc)
-  kid-of u o ds (more h none) ss w k v es f q = go (eqb u 851 || eqb u 852) refl q
+  join-shaped : (ns : List Decl) (g : Form) → ShapedNotes ns → Shaped pred g → (q : Quantified) → quantified g ≡ q → Shaped pred (joinWith t ns g q)
+  join-shaped ns g n h other e = quantify-shaped ns n h
+  join-shaped ns g n h (quantifier u ds f) e = go (eqb u t && clear (length ns) ds)
     where
-      go : (z : Bool) → (eqb u 851 || eqb u 852) ≡ z → pick z (quantifier u ds h) other ≡ quantifier v es f → Shaped pred f
-      go true e r = let b : h ≡ f = cc in rw (← b) (first-kid (rw (k e) at w))
-      go false e r = absurd (clash cc)
-  kid-of u o ds (more h (more i is)) ss w k v es f q = absurd (clash cc)
+      go : (b : Bool) → Shaped pred (pick b (quantify t (ns ++ map (onNote (lower (length ns))) ds) f) (quantify t ns g))
+      go true =
+          let (k, b) = body-shaped h u ds f e in
+          quantify-shaped (ns ++ map (onNote (lower (length ns))) ds) (append-notes ns (map (onNote (lower (length ns))) ds) n (map-notes (lower (length ns)) (λ x y. lower-shaped (length ns) y) ds k)) b
+      go false = quantify-shaped ns n h
 
-  body-shaped : {g : Form} → Shaped pred g → (u : ℕ) (ds : List ℕ) (f : Form) → quantified g ≡ quantifier u ds f → Shaped pred f
-  body-shaped (shaped-node {t = v} {o = o} {ds = es} {p = p} {e = e} {ks = ks} l r k w) u ds f q = kid-of v o es ks (sorts p e) w (k refl) u ds f q
-
-  join-shaped : (ns : List ℕ) (g : Form) → Shaped pred g → (q : Quantified) → quantified g ≡ q → Shaped pred (joinWith t ns g q)
-  join-shaped ns g h other e = quantify-shaped ns h
-  join-shaped ns g h (quantifier u ds f) e = go (eqb u t)
-    where
-      go : (b : Bool) → Shaped pred (pick b (quantify t (ns ++ ds) f) (quantify t ns g))
-      go true = quantify-shaped (ns ++ ds) (body-shaped h u ds f e)
-      go false = quantify-shaped ns h
-
-  round-shaped : (ns : List ℕ) (g : Form) → Shaped pred g → Shaped pred (putRound t ns g)
+  round-shaped : (ns : List Decl) (g : Form) → ShapedNotes ns → Shaped pred g → Shaped pred (putRound t ns g)
   unfolding putRound
-  round-shaped [] g h = h
-  round-shaped (n ∷ ns) g h = join-shaped (n ∷ ns) g h (quantified g) refl
+  round-shaped [] g n h = h
+  round-shaped (x ∷ ns) g n h = join-shaped (x ∷ ns) g n h (quantified g) refl
 
   -- the whole of one point
   places-drop : (j : ℕ) (ps : List Place) → ShapedPlaces ps → ShapedPlaces (drop j ps)
@@ -281,12 +531,13 @@ module _ (t : ℕ) (which : (eqb t 851 || eqb t 852) ≡ true) where
   places-lower n (kept ∷ ps) h = places-lower n ps h
   places-lower n (filled e ∷ ps) h = (lower-shaped n (h .0), places-lower n ps (h .1))
 
-  partial-shaped : (ns : List ℕ) (ps : List Place) (f : Form) → ShapedPlaces ps → Shaped pred f → Shaped pred (instantiatePartial t ns ps f)
+  partial-shaped : (ns : List Decl) (ps : List Place) (f : Form) → ShapedNotes ns → ShapedPlaces ps → Shaped pred f → Shaped pred (instantiatePartial t ns ps f)
   unfolding instantiatePartial
-  partial-shaped ns ps f h w =
+  partial-shaped ns ps f n h w =
       let j = front ps in
-      round-shaped (take j ns) (fill t (drop j ns) (map (lowerPlace (length (drop j ns))) (drop j ps)) f)
-      (fill-whole (drop j ns) (map (lowerPlace (length (drop j ns))) (drop j ps)) (places-lower (length (drop j ns)) (drop j ps) (places-drop j ps h)) w)
+      round-shaped (take j ns) (fill t (map (onNote (lift j)) (drop j ns)) (map (lowerPlace (length (drop j ns))) (drop j ps)) f) (take-notes j ns n)
+      (fill-whole (map (onNote (lift j)) (drop j ns)) (map (lowerPlace (length (drop j ns))) (drop j ps)) (map-notes (lift j) (λ x y. lift-shaped j y) (drop j ns) (drop-notes j ns n))
+      (places-lower (length (drop j ns)) (drop j ps) (places-drop j ps h)) w)
 
   places-kept : (n : ℕ) → ShapedPlaces (replicate n kept)
   places-kept zero = tt
@@ -299,35 +550,32 @@ module _ (t : ℕ) (which : (eqb t 851 || eqb t 852) ≡ true) where
   places-set (kept ∷ ps) (suc k) e h w = places-set ps k e h w
   places-set (filled x ∷ ps) (suc k) e h w = (w .0, places-set ps k e h (w .1))
 
-  reduce-shaped : (ns : List ℕ) (n d : ℕ) (s : Scan) → OkScan n (suc d) s → (g : Form) → reduce t ns s ≡ some g → Shaped pred g
-  reduce-shaped ns n d (scanned nothing x) h g r = absurd (clash cc)
-  reduce-shaped ns n d (scanned (taken i e) x) h g r =
+  reduce-shaped : (ns : List Decl) → ShapedNotes ns → (n d : ℕ) (s : Scan) → OkScan n (suc d) s → (g : Form) → reduce t ns s ≡ some g → Shaped pred g
+  reduce-shaped ns v n d (scanned nothing x) h g r = absurd (clash cc)
+  reduce-shaped ns v n d (scanned (taken i e) x) h g r =
       let k : instantiatePartial t ns (setPlace (length ns) i e (noPlaces (length ns))) (restOf (polarity t) x) ≡ g = cc in
       rw (← k)
-      (partial-shaped ns (setPlace (length ns) i e (noPlaces (length ns))) (restOf (polarity t) x) (places-set (noPlaces (length ns)) (length ns - suc i) e (ok-shaped (h .0 .0)) (places-kept (length ns)))
+      (partial-shaped ns (setPlace (length ns) i e (noPlaces (length ns))) (restOf (polarity t) x) v (places-set (noPlaces (length ns)) (length ns - suc i) e (ok-shaped (h .0 .0)) (places-kept (length ns)))
       (ok-shaped (rest-ok {d = d} (polarity t) x (h .1))))
 
 -- what one point makes of a well-formed form
-quant-short : (f : Form) (y : Quant f) → length (encode (y .body)) ≤ length (encode f)
+quant-short : (f : Form) (y : Quant 63 f) → length (encode (y .body)) ≤ length (encode f)
 quant-short f y =
-    let a = ap length (quant-names f y) ∙ length-append (y .decls) (encode (y .body)) in
-    let b = length-drop 2 (encode f) in
+    let a = ap length (ap encode (y .form) ∙ encode-around (y .op) 0 (y .decls) (y .body)) ∙ length-append (headOf (y .op) (y .decls)) (encode (y .body)) in
     omega arith
 
-quant-shaped : (f g : Form) (y : Quant f) → length (encode f) ≤ 8192 → onePoint f ≡ some g → Shaped pred g
+quant-shaped : (f g : Form) (y : Quant 63 f) → Ok 64 pred f → length (encode f) ≤ 8192 → onePoint f ≡ some g → Shaped pred g
 unfolding onePoint
-quant-shaped f g y l r =
-    let q : reduce (y .tag) (y .decls) (scan (length (y .decls)) (polarity (y .tag)) (y .body)) ≡ some g = rw (y .is) at r in
+quant-shaped f g y ok l r =
+    let q : reduce (y .op) (y .decls) (scan (length (y .decls)) (polarity (y .op)) (y .body)) ≡ some g = rw (y .is) at r in
     let m = quant-short f y in
-    reduce-shaped (y .tag) (y .which) (y .decls) (length (y .decls)) 62 (scan (length (y .decls)) (polarity (y .tag)) (y .body)) (scan-ok (y .ok) (omega arith) (length (y .decls)) (polarity (y .tag))) g q
+    let n = body-shaped (ok-shaped ok) (y .op) (y .decls) (y .body) (y .is) .0 in
+    reduce-shaped (y .op) (y .which) (y .decls) n (length (y .decls)) 62 (scan (length (y .decls)) (polarity (y .op)) (y .body)) (scan-ok (y .ok) (omega arith) (length (y .decls)) (polarity (y .op))) g q
 
 pub point-shaped : (f g : Form) → Ok 64 pred f → length (encode f) ≤ 8192 → onePoint f ≡ some g → Shaped pred g
 unfolding onePoint
-point-shaped f g ok l r = go (declaredIn (encode f)) refl
+point-shaped f g ok l r = go (quantified f) refl
   where
-    none-made : quantified f ≡ other → ⊥
-    none-made e = let z : reduceQuantified other ≡ some g = rw e at r in clash cc
-
-    go : (n : ℕ) → declaredIn (encode f) ≡ n → Shaped pred g
-    go zero e = absurd (none-made (not-quant ok e))
-    go (suc n) e = quant-shaped f g (is-quant ok (omega arith)) l r
+    go : (q : Quantified) → quantified f ≡ q → Shaped pred g
+    go (quantifier op ds b) e = quant-shaped f g (quant-of {d = 63} ok op ds b e) ok l r
+    go other e = let z : reduceQuantified other ≡ some g = rw e at r in absurd (clash cc)

@@ -9,10 +9,10 @@ use native.Mathlib.Omega.{arith}
 use borrow.Author.Tests.{ne-eqb}
 use lib.ListN.{length, getD, take, drop, set, length-drop}
 use lib.Seq.{take-suc, take-suc-set, take-set-lt, drop-set-lt, drop-drop, take-add, getD-at, getD-drop, getD-take, set-at, length-take-le}
-use Rattle.tree.specs.Form.{Form, node, Forms, none, more, count, encode, encodeAll}
+use Rattle.tree.specs.Form.{Form, node, noted, Forms, none, more, count, encode, encodeDecls, encodeAll}
 use Rattle.rules.specs.Scan.{negate, joined}
 use Rattle.places.specs.Internal.Wrote.{Wrote}
-use Rattle.one_point.specs.Internal.Writes.{leftWords, isGone, Neat, neat-not, neat-other}
+use Rattle.one_point.specs.Internal.Writes.{leftWords, isGone, Neat, neat-not, neat-other, neat-noted}
 use Rattle.places.proofs.WroteLaws.{headed, nothing-written}
 
 -- a loop that writes the words s from pos on
@@ -130,9 +130,11 @@ module _ (pos end : ℕ) (out : List ℕ) (room : pos + 2 ≤ length out) where
       let e : pos + 1 + 1 ≡ pos + 2 = omega arith in
       moved pos end r out (encode g) out′ room (rw (append-nil, e) at (after-word (pos + 1) end 8 out (encode g ++ []) (omega arith) w)) m
   unsay h r out′ m f (neat-other {t = t} {o = o} {ds = ds} {ks = ks} ne) w = absurd (ne (sym (first-word (pos + 1) end t out (o ++ (ds ++ encodeAll ks)) (omega arith) w) ∙ h))
+  unsay h r out′ m f (neat-noted {t = t} {o = o} {ds = ds} {ks = ks} ne) w = absurd (ne (sym (first-word (pos + 1) end t out (o ++ (encodeDecls ds ++ encodeAll ks)) (omega arith) w) ∙ h))
 
   pub say : (getD out (pos + 1) 0 ≡ 8 → ⊥) → (f : Form) → Neat f → Wrote (pos + 1) out (encode f) end out → Wrote pos out (encode (negate f)) end (set out pos 8)
   unfolding encode
   say h f (neat-not {f = g} n) w = absurd (h (first-word (pos + 1) end 8 out (encode g ++ []) (omega arith) w))
   say h f (neat-other {t = t} {o = o} {ds = ds} {ks = ks} ne) w =
       rw (negate-other t o ds ks ne, append-nil) (behind pos end 8 out (encode (node t o ds ks)) (omega arith) w)
+  say h f (neat-noted {t = t} {o = o} {ds = ds} {ks = ks} ne) w = rw append-nil (behind pos end 8 out (encode (noted t o ds ks)) (omega arith) w)

@@ -4,13 +4,13 @@ use mathlib.Core.List.{List, [], _∷_, _++_, append-nil}
 use Prim.Native.Nat.{ℕ, _+_, _-_, _≤_, _<_}
 use native.Mathlib.Omega.{arith}
 use lib.ListN.{length, getD, take, drop, length-append}
-use Rattle.tree.specs.Form.{Form, node, Forms, none, more, count, encode, encodeAll}
+use Rattle.tree.specs.Form.{Form, node, Forms, none, more, count, encode, encodeDecls, encodeAll}
 use Rattle.reader.specs.Internal.Reads.{mark, markAll}
 use Rattle.rules.specs.Scan.{negate, joined}
 use Rattle.places.specs.Internal.Wrote.{Wrote}
 use Rattle.places.proofs.WroteLaws.{wrote-end}
 use Rattle.places.proofs.PartsLaws.{some-words}
-use Rattle.one_point.specs.Internal.Writes.{Neat, neat-not, neat-other}
+use Rattle.one_point.specs.Internal.Writes.{Neat, neat-not, neat-other, neat-noted}
 use Rattle.one_point.specs.Internal.Marks.{markLeft, ClearFrom}
 use Rattle.one_point.proofs.WriteLaws.{first-word, after-word, moved, negate-other}
 
@@ -29,11 +29,13 @@ module _ (pos end : ℕ) (out : List ℕ) (room : pos + 2 ≤ length out) (m : L
       let two : pos + 1 + 1 ≡ pos + 2 = omega arith in
       down g ms c (omega arith) (rw two at e)
   unsay-marks h m′ down f ms (neat-other {t = t} {o = o} {ds = ds} {ks = ks} ne) w c e = absurd (ne (sym (first-word (pos + 1) end t out (o ++ (ds ++ encodeAll ks)) (omega arith) w) ∙ h))
+  unsay-marks h m′ down f ms (neat-noted {t = t} {o = o} {ds = ds} {ks = ks} ne) w c e = absurd (ne (sym (first-word (pos + 1) end t out (o ++ (encodeDecls ds ++ encodeAll ks)) (omega arith) w) ∙ h))
 
   pub say-marks : (getD out (pos + 1) 0 ≡ 8 → ⊥) → (f : Form) (ms : List ℕ) → Neat f → Wrote (pos + 1) out (encode f) end out → ClearFrom pos ms → m ≡ mark f (pos + 1) 0 ms → m ≡ mark (negate f) pos 0 ms
   unfolding mark encode
   say-marks h f ms (neat-not {f = g} n) w c e = absurd (h (first-word (pos + 1) end 8 out (encode g ++ []) (omega arith) w))
   say-marks h f ms (neat-other {t = t} {o = o} {ds = ds} {ks = ks} ne) w c e = rw (negate-other t o ds ks ne) e
+  say-marks h f ms (neat-noted {t = t} {o = o} {ds = ds} {ks = ks} ne) w c e = e
 
 -- an associative node
 module _ (pos end k : ℕ) (m : List ℕ) where
@@ -56,6 +58,7 @@ module _ (pos end : ℕ) (out : List ℕ) (room : pos < length out) where
   unfolding encode
   second-not (neat-not {f = g} n) h w = (g, refl, n, rw append-nil at (after-word pos end 8 out (encode g ++ []) room w))
   second-not (neat-other {t = t} {o = o} {ds = ds} {ks = ks} ne) h w = absurd (ne (sym (first-word pos end t out (o ++ (ds ++ encodeAll ks)) room w) ∙ h))
+  second-not (neat-noted {t = t} {o = o} {ds = ds} {ks = ks} ne) h w = absurd (ne (sym (first-word pos end t out (o ++ (encodeDecls ds ++ encodeAll ks)) room w) ∙ h))
 
   pub two-words : {f : Form} → Neat f → Wrote pos out (encode f) end out → getD out pos 0 ≡ 8 → pos + 2 ≤ end
   two-words n w h =
@@ -68,6 +71,7 @@ module _ (pos end : ℕ) (out : List ℕ) (room : pos < length out) where
   unfolding encode
   no-not (neat-not {f = g} n) h w = absurd (h (first-word pos end 8 out (encode g ++ []) room w))
   no-not (neat-other {t = t} {o = o} {ds = ds} {ks = ks} ne) h w = rw (negate-other t o ds ks ne) refl
+  no-not (neat-noted {t = t} {o = o} {ds = ds} {ks = ks} ne) h w = refl
 
   pub twice-other : (getD out pos 0 ≡ 8 → ⊥) → (f : Form) → Neat f → Wrote pos out (encode f) end out → Wrote pos out (encode (negate (negate f))) end out
   twice-other h f n w = rw (no-not n h w) w
@@ -85,6 +89,7 @@ module _ (pos end : ℕ) (out : List ℕ) (room : pos < length out) where
         go : (g : Form) → Neat g → Wrote (pos + 1) out (encode g) end out → negate g ≡ node 8 [] [] (more g none)
         go g (neat-not {f = k} n) v = absurd (h (first-word (pos + 1) end 8 out (encode k ++ []) (omega arith) v))
         go g (neat-other {t = t} {o = o} {ds = ds} {ks = ks} ne) v = negate-other t o ds ks ne
+        go g (neat-noted {t = t} {o = o} {ds = ds} {ks = ks} ne) v = refl
 
     pub twice-one : (getD out (pos + 1) 0 ≡ 8 → ⊥) → (f : Form) → Neat f → Wrote pos out (encode f) end out → Wrote pos out (encode (negate (negate f))) end out
     twice-one h f n w = rw (one-not n h w) w
@@ -105,6 +110,7 @@ module _ (pos end : ℕ) (out : List ℕ) (room : pos < length out) where
         go : {g : Form} → Neat g → Wrote (pos + 1) out (encode g) end out → (k : Form) × (g ≡ node 8 [] [] (more k none)) × Neat k × Wrote (pos + 1 + 1) out (encode k) end out
         go (neat-not {f = k} n) v = (k, refl, n, rw append-nil at (after-word (pos + 1) end 8 out (encode k ++ []) (omega arith) v))
         go (neat-other {t = t} {o = o} {ds = ds} {ks = ks} ne) v = absurd (ne (sym (first-word (pos + 1) end t out (o ++ (ds ++ encodeAll ks)) (omega arith) v) ∙ h))
+        go (neat-noted {t = t} {o = o} {ds = ds} {ks = ks} ne) v = absurd (ne (sym (first-word (pos + 1) end t out (o ++ (encodeDecls ds ++ encodeAll ks)) (omega arith) v) ∙ h))
 
     pub twice-two : getD out (pos + 1) 0 ≡ 8 → (r : ℕ) (out′ : List ℕ) → Wrote pos out (take (end - (pos + 2)) (drop (pos + 2) out)) r out′ → (f : Form) → Neat f → Wrote pos out (encode f) end out
         → Wrote pos out (encode (negate (negate f))) r out′

@@ -4,3 +4,4 @@ pub mod Parts
 pub mod Scans
 pub mod Marks
 pub mod Reduce
+pub mod Noted

@@ -1,7 +1,9 @@
 // The one-point rule: a quantified predicate is reduced by the first equality that its body offers.
 mod children;
 mod equality;
+mod heads;
 mod marks;
+mod noted;
 pub mod one_point_inference;
 mod parts;
 mod reduce;

@@ -2,17 +2,20 @@
 use crate::reduce::is_bad;
 use crate::reduce::reduce;
 use broken::position::broken_at;
+use decls::ends::body_start;
 use form::answer::Answer;
 use form::answer::Kind;
 use form::answer::Limit;
 use form::head::Head;
 use form::head::pred_head;
 use replace::heads::declared;
+use tree::tag::Tag;
 ghost use mathlib.Core.Path.{_≡_};
+ghost use mathlib.Core.Bool.{true};
 ghost use lib.ListN.{length};
 ghost use Rattle.form.specs.Answer.{told, written};
 ghost use Rattle.rules.specs.Point.{pointOutcome};
-ghost use Rattle.one_point.specs.Internal.Reduce.{quantifierIn};
+ghost use Rattle.one_point.specs.Internal.Reduce.{quantifierIn, notedRow, CheckedRow};
 
 // The head of a quantified predicate: its tag, and where its body begins.
 pub enum Quantifier {
@@ -28,10 +31,35 @@ fn quantifier_of(row: &[u32]) -> Quantifier
         return Quantifier::None;
     }
     let tag = row[0];
-    let Head::Kids(start, preds, exprs, n) = pred_head(row, 1, tag) else {
-        return Quantifier::None;
-    };
-    Quantifier::Of(tag, start)
+    let head = pred_head(row, 1, tag);
+    match head {
+        Head::Kids(start, preds, exprs, n) => Quantifier::Of(tag, start),
+        Head::Noted(start, preds, exprs, n) => Quantifier::None,
+        Head::None => Quantifier::None,
+    }
+}
+
+// Whether a row begins with the tag of a quantifier whose declarations have flags.
+fn begins_noted(row: &[u32]) -> bool
+    ensures { λ r. ⌜ r ≡ notedRow (now (row .entry)) ⌝ }
+{
+    if row.len() == 0 {
+        return false;
+    }
+    if row[0] == Tag::NOTED_FOR_ALL {
+        return true;
+    }
+    row[0] == Tag::NOTED_EXISTS
+}
+
+// A quantified predicate with annotations, reduced.
+fn reduce_noted(row: &[u32], work: &mut [u32], out: &mut [u32]) -> Answer
+    requires { ⌜ CheckedRow (now row) (length (now work)) × (notedRow (now row) ≡ true) ⌝ }
+    ensures { λ r. ⌜ r ≡ told (pointOutcome (now (row .entry)) (length (now (work .entry))) (length (now (out .entry)))) ⌝ }
+    ensures { λ _. ⌜ now (out .exit) ≡ written (pointOutcome (now (row .entry)) (length (now (work .entry))) (length (now (out .entry)))) (now (out .entry)) ⌝ }
+{
+    let start = body_start(row, row[1]);
+    reduce(&row[..start], &row[start..], work, out)
 }
 
 // The quantified predicate in the row, reduced.
@@ -50,9 +78,12 @@ pub fn one_point_inference(row: &[u32], work: &mut [u32], out: &mut [u32]) -> An
         let Answer::Done(k) = checked else {
             return checked;
         };
+        if begins_noted(row) {
+            return reduce_noted(row, work, out);
+        }
         return Answer::No(9, 0);
     };
-    let r = reduce(tag, &row[2..start], &row[start..], work, out);
+    let r = reduce(&row[..start], &row[start..], work, out);
     if is_bad(r) {
         return Answer::No(2, broken_at(row, Kind::Predicate));
     }

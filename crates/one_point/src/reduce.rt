@@ -1,4 +1,5 @@
 // A body reduced by the equality that its scan takes.
+use crate::heads::operator_of;
 use crate::marks::raise;
 use crate::rest::put_rest;
 use crate::scan::scan_pred;
@@ -15,7 +16,7 @@ ghost use Prim.Native.Nat.{_≤_, _<_};
 ghost use lib.ListN.{length, take};
 ghost use Rattle.tree.specs.Form.{pick};
 ghost use Rattle.form.specs.Answer.{told, written};
-ghost use Rattle.one_point.specs.Internal.Reduce.{Placing, Shallow, isSure, RestMarking, placedOutcome, emptyWord, Reducing, Reading, bodyOutcome, isBad};
+ghost use Rattle.one_point.specs.Internal.Reduce.{Placing, Shallow, isSure, RestMarking, operatorIn, declsIn, placedOutcome, emptyWord, Reducing, Reading, bodyOutcome, isBad};
 ghost use Rattle.places.specs.Internal.Positions.{Cleared};
 
 // How deep a body is read first, so that what is left of it is sure to stay within the limits with a replacement up to 3 deep.
@@ -50,8 +51,7 @@ fn is_sure(part: &[u32], rest: &[u32], depth: u32) -> bool
 // The target's place filled in the rest of a body, with its marks; those of the part have a row. The result is checked as a form where it is not sure
 // to be one.
 fn place(
-    tag: u32,
-    names: &[u32],
+    head: &[u32],
     target: u32,
     part: &[u32],
     part_marks: &mut [u32],
@@ -60,17 +60,17 @@ fn place(
     marks: &mut [u32],
     out: &mut [u32],
 ) -> Answer
-    requires { ⌜ Placing tag (now names) target (now part) (now rest) × Cleared (now part) (now «part_marks») × RestMarking (now rest) (now marks) × Shallow depth (now rest) ⌝ }
-    ensures { λ r. ⌜ r ≡ told (placedOutcome tag (now (names .entry)) target (now (part .entry)) (now (rest .entry)) (length (now (out .entry)))) ⌝ }
-    ensures { λ _. ⌜ now (out .exit) ≡ written (placedOutcome tag (now (names .entry)) target (now (part .entry)) (now (rest .entry)) (length (now (out .entry)))) (now (out .entry)) ⌝ }
+    requires { ⌜ Placing (now head) target (now part) (now rest) × Cleared (now part) (now «part_marks») × RestMarking (now rest) (now marks) × Shallow depth (now rest) ⌝ }
+    ensures { λ r. ⌜ r ≡ told (placedOutcome (operatorIn (now (head .entry))) (declsIn (now (head .entry))) target (now (part .entry)) (now (rest .entry)) (length (now (out .entry)))) ⌝ }
+    ensures { λ _. ⌜ now (out .exit) ≡ written (placedOutcome (operatorIn (now (head .entry))) (declsIn (now (head .entry))) target (now (part .entry)) (now (rest .entry)) (length (now (out .entry)))) (now (out .entry)) ⌝ }
 {
     let Step::End(end) = expr_at(part, part_marks, 0, Depth::MOST, 0) else {
         return Answer::No(2, 0);
     };
     let sure = is_sure(part, rest, depth);
     raise(marks, target + 1);
-    let p = names.len() - 1 - (target as usize);
-    put_rest(tag, names, p, sure, part, part_marks, rest, marks, out)
+    let p = (head[1] - 1 - target) as usize;
+    put_rest(head, p, sure, part, part_marks, rest, marks, out)
 }
 
 // Where what is left of a body ends; an emptied body becomes true under 852 and false under 851.
@@ -90,11 +90,10 @@ fn rest_end(tag: u32, gone: bool, end: usize, work: &mut [u32]) -> usize
     1
 }
 
-// The body of a quantifier with these names, read so deep and reduced by the first equality that its scan takes. The marks of what is left of it, and
+// The body of a quantifier with this head, read so deep and reduced by the first equality that its scan takes. The marks of what is left of it, and
 // those of the replacement, have rows.
 fn reduce_in(
-    tag: u32,
-    names: &[u32],
+    head: &[u32],
     body: &[u32],
     depth: u32,
     work: &mut [u32],
@@ -102,15 +101,16 @@ fn reduce_in(
     part_marks: &mut [u32],
     out: &mut [u32],
 ) -> Answer
-    requires { ⌜ Reducing tag (now names) (now body) (length (now work)) × Reading depth (now body) (now marks) × Cleared (now body) (now «part_marks») ⌝ }
-    ensures { λ r. ⌜ r ≡ told (bodyOutcome depth tag (now (names .entry)) (now (body .entry)) (length (now (out .entry)))) ⌝ }
-    ensures { λ _. ⌜ now (out .exit) ≡ written (bodyOutcome depth tag (now (names .entry)) (now (body .entry)) (length (now (out .entry)))) (now (out .entry)) ⌝ }
+    requires { ⌜ Reducing (now head) (now body) (length (now work)) × Reading depth (now body) (now marks) × Cleared (now body) (now «part_marks») ⌝ }
+    ensures { λ r. ⌜ r ≡ told (bodyOutcome depth (operatorIn (now (head .entry))) (declsIn (now (head .entry))) (now (body .entry)) (length (now (out .entry)))) ⌝ }
+    ensures { λ _. ⌜ now (out .exit) ≡ written (bodyOutcome depth (operatorIn (now (head .entry))) (declsIn (now (head .entry))) (now (body .entry)) (length (now (out .entry)))) (now (out .entry)) ⌝ }
 {
+    let tag = operator_of(head);
     let s = scan_pred(
         body,
         0,
         depth,
-        names.len(),
+        head[1] as usize,
         tag == Tag::EXISTS,
         work,
         marks,
@@ -128,8 +128,7 @@ fn reduce_in(
     };
     let stop = rest_end(tag, s.gone, s.end, work);
     place(
-        tag,
-        names,
+        head,
         target,
         &body[start..end],
         part_marks,
@@ -141,58 +140,24 @@ fn reduce_in(
 }
 
 // The same, with rows for any body.
-fn reduce_at(
-    tag: u32,
-    names: &[u32],
-    body: &[u32],
-    depth: u32,
-    work: &mut [u32],
-    out: &mut [u32],
-) -> Answer
-    requires { ⌜ Reducing tag (now names) (now body) (length (now work)) × (0 < depth) × (depth ≤ 63) ⌝ }
-    ensures { λ r. ⌜ r ≡ told (bodyOutcome depth tag (now (names .entry)) (now (body .entry)) (length (now (out .entry)))) ⌝ }
-    ensures { λ _. ⌜ now (out .exit) ≡ written (bodyOutcome depth tag (now (names .entry)) (now (body .entry)) (length (now (out .entry)))) (now (out .entry)) ⌝ }
+fn reduce_at(head: &[u32], body: &[u32], depth: u32, work: &mut [u32], out: &mut [u32]) -> Answer
+    requires { ⌜ Reducing (now head) (now body) (length (now work)) × (0 < depth) × (depth ≤ 63) ⌝ }
+    ensures { λ r. ⌜ r ≡ told (bodyOutcome depth (operatorIn (now (head .entry))) (declsIn (now (head .entry))) (now (body .entry)) (length (now (out .entry)))) ⌝ }
+    ensures { λ _. ⌜ now (out .exit) ≡ written (bodyOutcome depth (operatorIn (now (head .entry))) (declsIn (now (head .entry))) (now (body .entry)) (length (now (out .entry)))) (now (out .entry)) ⌝ }
 {
     if body.len() <= 1024 {
         let mut marks = [0u32; 2048];
         let mut part_marks = [0u32; 1024];
-        return reduce_in(
-            tag,
-            names,
-            body,
-            depth,
-            work,
-            &mut marks,
-            &mut part_marks,
-            out,
-        );
+        return reduce_in(head, body, depth, work, &mut marks, &mut part_marks, out);
     }
     if body.len() <= 4096 {
         let mut marks = [0u32; 8192];
         let mut part_marks = [0u32; 4096];
-        return reduce_in(
-            tag,
-            names,
-            body,
-            depth,
-            work,
-            &mut marks,
-            &mut part_marks,
-            out,
-        );
+        return reduce_in(head, body, depth, work, &mut marks, &mut part_marks, out);
     }
     let mut marks = [0u32; 16384];
     let mut part_marks = [0u32; 8192];
-    reduce_in(
-        tag,
-        names,
-        body,
-        depth,
-        work,
-        &mut marks,
-        &mut part_marks,
-        out,
-    )
+    reduce_in(head, body, depth, work, &mut marks, &mut part_marks, out)
 }
 
 // Whether the body was no predicate as deep as it was read.
@@ -206,37 +171,30 @@ pub(crate) fn is_bad(r: Answer) -> bool
 }
 
 // The same, read again where it is deeper than the first time.
-fn reduce_long(tag: u32, names: &[u32], body: &[u32], work: &mut [u32], out: &mut [u32]) -> Answer
-    requires { ⌜ Reducing tag (now names) (now body) (length (now work)) ⌝ }
-    ensures { λ r. ⌜ r ≡ told (bodyOutcome 63 tag (now (names .entry)) (now (body .entry)) (length (now (out .entry)))) ⌝ }
-    ensures { λ _. ⌜ now (out .exit) ≡ written (bodyOutcome 63 tag (now (names .entry)) (now (body .entry)) (length (now (out .entry)))) (now (out .entry)) ⌝ }
+fn reduce_long(head: &[u32], body: &[u32], work: &mut [u32], out: &mut [u32]) -> Answer
+    requires { ⌜ Reducing (now head) (now body) (length (now work)) ⌝ }
+    ensures { λ r. ⌜ r ≡ told (bodyOutcome 63 (operatorIn (now (head .entry))) (declsIn (now (head .entry))) (now (body .entry)) (length (now (out .entry)))) ⌝ }
+    ensures { λ _. ⌜ now (out .exit) ≡ written (bodyOutcome 63 (operatorIn (now (head .entry))) (declsIn (now (head .entry))) (now (body .entry)) (length (now (out .entry)))) (now (out .entry)) ⌝ }
 {
-    let r = reduce_at(tag, names, body, Depth::FIRST, work, out);
+    let r = reduce_at(head, body, Depth::FIRST, work, out);
     if is_bad(r) {
-        return reduce_at(tag, names, body, Depth::MOST, work, out);
+        return reduce_at(head, body, Depth::MOST, work, out);
     }
     r
 }
 
-// The body of a quantifier with these names, reduced by the first equality that its scan takes. Short bodies stand apart, so that their call lays
+// The body of a quantifier with this head, reduced by the first equality that its scan takes. Short bodies stand apart, so that their call lays
 // out no row for long ones.
-pub(crate) fn reduce(
-    tag: u32,
-    names: &[u32],
-    body: &[u32],
-    work: &mut [u32],
-    out: &mut [u32],
-) -> Answer
-    requires { ⌜ Reducing tag (now names) (now body) (length (now work)) ⌝ }
-    ensures { λ r. ⌜ r ≡ told (bodyOutcome 63 tag (now (names .entry)) (now (body .entry)) (length (now (out .entry)))) ⌝ }
-    ensures { λ _. ⌜ now (out .exit) ≡ written (bodyOutcome 63 tag (now (names .entry)) (now (body .entry)) (length (now (out .entry)))) (now (out .entry)) ⌝ }
+pub(crate) fn reduce(head: &[u32], body: &[u32], work: &mut [u32], out: &mut [u32]) -> Answer
+    requires { ⌜ Reducing (now head) (now body) (length (now work)) ⌝ }
+    ensures { λ r. ⌜ r ≡ told (bodyOutcome 63 (operatorIn (now (head .entry))) (declsIn (now (head .entry))) (now (body .entry)) (length (now (out .entry)))) ⌝ }
+    ensures { λ _. ⌜ now (out .exit) ≡ written (bodyOutcome 63 (operatorIn (now (head .entry))) (declsIn (now (head .entry))) (now (body .entry)) (length (now (out .entry)))) (now (out .entry)) ⌝ }
 {
     if body.len() <= 64 {
         let mut marks = [0u32; 128];
         let mut part_marks = [0u32; 64];
         let r = reduce_in(
-            tag,
-            names,
+            head,
             body,
             Depth::FIRST,
             work,
@@ -245,7 +203,7 @@ pub(crate) fn reduce(
             out,
         );
         if is_bad(r) {
-            return reduce_long(tag, names, body, work, out);
+            return reduce_long(head, body, work, out);
         }
         return r;
     }
@@ -253,8 +211,7 @@ pub(crate) fn reduce(
         let mut marks = [0u32; 512];
         let mut part_marks = [0u32; 256];
         let r = reduce_in(
-            tag,
-            names,
+            head,
             body,
             Depth::FIRST,
             work,
@@ -263,9 +220,9 @@ pub(crate) fn reduce(
             out,
         );
         if is_bad(r) {
-            return reduce_long(tag, names, body, work, out);
+            return reduce_long(head, body, work, out);
         }
         return r;
     }
-    reduce_long(tag, names, body, work, out)
+    reduce_long(head, body, work, out)
 }

@@ -10,27 +10,29 @@ use borrow.Author.Tests.{eqb-true}
 use lib.Dec.{eqb}
 use lib.ListN.{length, getD, drop, replicate, length-append, length-drop, length-replicate}
 use lib.Seq.{drop-drop, drop-append-seam, drop-at, getD-drop}
-use Rattle.tree.specs.Form.{free, bound, Form, leaf, node, Forms, none, more, encode, encodeAll}
+use Rattle.tree.specs.Form.{free, bound, Form, leaf, node, noted, Decls, Forms, none, more, encode, encodeAll}
 use Rattle.tree.specs.Tag.{Sort, expr, shapeOf, exprTags}
 use Rattle.form.specs.Decode.{got, Gots, gots, decode}
-use Rattle.form.proofs.DecodeLaws.{clash, Ok, ok-free, ok-bound, ok-node, OkAll, ok-none, ok-more, decode-encode, decodeAll-encode, all-sound}
+use Rattle.form.proofs.DecodeLaws.{clash, Ok, ok-free, ok-bound, ok-node, ok-noted, OkAll, ok-none, ok-more, decode-encode, decodeAll-encode, all-sound}
 use Rattle.shift.proofs.RowLaws.{marksOf, marks-length, only-mark}
 use Rattle.rules.proofs.OkLaws.{ok-deep}
 use Rattle.rules.specs.Split.{isTwo, isNil, parts, partsAll}
 use Rattle.places.specs.Internal.Positions.{readAll, Beside, partsOf, partsAt, bothPairs, formMarks, MarksAre, MarkedAt}
-use Rattle.places.proofs.ViewLaws.{plain-node, two-more}
+use Rattle.places.proofs.ViewLaws.{plain-node, plain-noted, two-more}
 
 -- the first word of a form
 abbrev pub tagOf : Form → ℕ
 tagOf (leaf (free n)) = 1
 tagOf (leaf (bound i)) = 2
 tagOf (node t o ds ks) = t
+tagOf (noted t o ds ks) = t
 
 tag-first : (f : Form) (x : List ℕ) → getD (encode f ++ x) 0 0 ≡ tagOf f
 unfolding encode
 tag-first (leaf (free n)) x = refl
 tag-first (leaf (bound i)) x = refl
 tag-first (node t o ds ks) x = refl
+tag-first (noted t o ds ks) x = refl
 
 pub tag-at : (row : List ℕ) (p : ℕ) (f : Form) (x : List ℕ) → drop p row ≡ encode f ++ x → getD row p 0 ≡ tagOf f
 tag-at row p f x e =
@@ -42,6 +44,7 @@ unfolding encode
 some-words (leaf (free n)) = omega arith
 some-words (leaf (bound i)) = omega arith
 some-words (node t o ds ks) = omega arith
+some-words (noted t o ds ks) = omega arith
 
 pub in-row : (row ws x : List ℕ) (p : ℕ) → drop p row ≡ ws ++ x → 0 < length ws → p + length ws ≤ length row
 in-row row ws x p e h = let n = ap length e ∙ length-append ws x in omega (arith, length-drop p row)
@@ -64,10 +67,15 @@ pair-node h w =
     let (l, r, e, x, y) = two-more k in
     pair-made h a b l r e x y
 
+pair-noted : {d : ℕ} {o : List ℕ} {ds : Decls} {ks : Forms} → Ok (suc d) expr (noted 201 o ds ks) → ⊥
+unfolding shapeOf exprTags
+pair-noted w = plain-noted w 0 2 refl
+
 pair-view : {d : ℕ} {f : Form} → Ok d expr f → d ≤ 64 → tagOf f ≡ 201 → PairIs f
 pair-view (ok-free h) l e = absurd (omega arith)
 pair-view (ok-bound h) l e = absurd (omega arith)
 pair-view (ok-node {t = t} {o = o} {ds = ds} {ks = ks} a b k) l e = rw e (pair-node (omega arith) (rw e at (ok-node a b k)))
+pair-view (ok-noted {t = t} {o = o} {ds = ds} {ks = ks} a b v k) l e = absurd (pair-noted (rw e at (ok-noted a b v k)))
 
 -- the first of several expressions at a position
 record First (row : List ℕ) (m p : ℕ) (fs : Forms) (x : List ℕ) : Type 0 where
@@ -116,6 +124,8 @@ pub parts-single : (l r : Form) → (eqb (tagOf l) 201 && eqb (tagOf r) 201) ≡
 unfolding parts
 parts-single (leaf x) r e = refl
 parts-single (node t o ds ks) (leaf y) e = refl
+parts-single (node t o ds ks) (noted u p es js) e = refl
+parts-single (noted t o ds ks) r e = refl
 parts-single (node t o ds ks) (node u p es js) e = rw (and-no (eqb t 201) (isNil ds && isTwo ks) (eqb u 201) (isNil es && isTwo js) e)
 
 and-yes : (p q : Bool) → (p && q) ≡ true → (p ≡ true) × (q ≡ true)

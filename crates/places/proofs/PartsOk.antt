@@ -7,7 +7,7 @@ use native.Mathlib.Omega.{arith}
 use borrow.Author.Tests.{eqb-true}
 use lib.Dec.{eqb}
 use lib.ListN.{length, replicate, length-append}
-use Rattle.tree.specs.Form.{Form, leaf, node, Forms, none, more, pick, count, encode, encodeAll}
+use Rattle.tree.specs.Form.{Form, leaf, node, noted, Forms, none, more, pick, count, encode, encodeAll}
 use Rattle.tree.specs.Tag.{expr, pred, own, ownOf, shapeOf, exprTags, predTags, sorts}
 use Rattle.form.specs.Decode.{head, read, isLeaf}
 use Rattle.tree.specs.declared.tag.Shape.the-variants.{Preds}
@@ -72,6 +72,8 @@ mutual
   pub parts-ok : {d : ℕ} (l r : Form) → Ok d expr l → Ok d expr r → OkParts d (parts l r)
   parts-ok (leaf x) r h k = ((h, k), tt)
   parts-ok (node t o ds ks) (leaf y) h k = ((h, k), tt)
+  parts-ok (node t o ds ks) (noted u p es js) h k = ((h, k), tt)
+  parts-ok (noted t o ds ks) r h k = ((h, k), tt)
   parts-ok (node t o ds ks) (node u p es js) (ok-node {d = d} a b c) (ok-node a′ b′ c′) =
       pair-or-one t o ds ks u p es js (ok-node a b c) (ok-node a′ b′ c′) (λ x y. partsAll-ok d ks js x y) (isPair t ds ks && isPair u es js) refl
 
@@ -95,6 +97,8 @@ mutual
   pub parts-few : (l r : Form) → length (parts l r) ≤ length (encode l)
   parts-few (leaf x) r = some-words (leaf x)
   parts-few (node t o ds ks) (leaf y) = some-words (node t o ds ks)
+  parts-few (node t o ds ks) (noted u p es js) = some-words (node t o ds ks)
+  parts-few (noted t o ds ks) r = some-words (noted t o ds ks)
   parts-few (node t o ds ks) (node u p es js) =
       let h = partsAll-few ks js in
       let k = kids-few t o ds ks in

@@ -8,15 +8,15 @@ use borrow.Author.Tests.{le-leb, lt-leb, eqb-true}
 use lib.Dec.{eqb}
 use lib.ListN.{length, take, drop, length-append}
 use lib.Seq.{drop-append-seam}
-use Rattle.tree.specs.Form.{Form, node, Forms, none, more, encode}
-use Rattle.tree.specs.Tag.{expr, pred}
+use Rattle.tree.specs.Form.{Form, node, noted, Decls, Forms, none, more, encode}
+use Rattle.tree.specs.Tag.{expr, pred, shapeOf, predTags}
 use Rattle.form.specs.Break.{breakAt}
 use Rattle.form.specs.Decode.{Whole, one, not-one, rowForm, Found, found, missing, asSort, formOf}
 use Rattle.form.specs.Answer.{answer, told, ofFound, checkOutcome}
 use Rattle.form.specs.declared.answer.Kind.the-variants.{Predicate}
 use Rattle.form.specs.declared.answer.Answer.{Answer}
 use Rattle.form.specs.declared.answer.Answer.the-variants.{Done}
-use Rattle.form.proofs.DecodeLaws.{clash, Ok, decode-encode}
+use Rattle.form.proofs.DecodeLaws.{clash, Ok, ok-node, ok-noted, decode-encode}
 use Rattle.reader.specs.Internal.Reads.{isFound}
 use Rattle.shift.proofs.CheckedLaws.{not-found}
 use Rattle.form.proofs.RowLaws.{row-one}
@@ -30,7 +30,7 @@ use Rattle.places.specs.declared.sides.Sides.{Sides}
 use Rattle.places.specs.declared.sides.Equality.the-variants.{Of, None}
 use Rattle.places.specs.declared.sides.Replacement.the-variants.{Is, Not}
 use Rattle.places.specs.declared.replacements.Replacements.{Replacements}
-use Rattle.places.proofs.ViewLaws.{Equal, equal-node, pred-node}
+use Rattle.places.proofs.ViewLaws.{Equal, equal-node, plain-noted}
 use Rattle.places.proofs.SidesLaws.{placed, rule-words, above-words, part-words}
 
 -- what is no equality offers nothing
@@ -108,13 +108,18 @@ view-tag p t o ds ks h true e =
     rw q (sides (equal-node {d = 63} (rw q at h)))
 view-tag p t o ds ks h false e = neither {f = node t o ds ks} (rw e) (no-equality p t o ds ks e)
 
+equal-noted : {o : List ℕ} {ds : Decls} {ks : Forms} → Ok 64 pred (noted 101 o ds ks) → ⊥
+unfolding shapeOf predTags
+equal-noted w = plain-noted {d = 63} w 0 2 refl
+
+view-noted : (p : Replacements) (t : ℕ) (o : List ℕ) (ds : Decls) (ks : Forms) → Ok 64 pred (noted t o ds ks) → (b : Bool) → eqb t 101 ≡ b → View p (noted t o ds ks)
+unfolding equalityWords encode
+view-noted p t o ds ks h true e = let q : t ≡ 101 = eqb-true t 101 e in absurd (equal-noted (rw q at h))
+view-noted p t o ds ks h false e = neither {f = noted t o ds ks} (rw e) refl
+
 view-of : (p : Replacements) {f : Form} → Ok 64 pred f → View p f
-view-of p {f} h =
-    let (t, o, ds, ks, e) = pred-node h in
-    view-node t o ds ks e
-  where
-    view-node : (t : ℕ) (o ds : List ℕ) (ks : Forms) → f ≡ node t o ds ks → View p f
-    view-node t o ds ks e = rw e (view-tag p t o ds ks (rw e at h) (eqb t 101) refl)
+view-of p (ok-node {t = t} {o = o} {ds = ds} {ks = ks} l h k) = view-tag p t o ds ks (ok-node l h k) (eqb t 101) refl
+view-of p (ok-noted {t = t} {o = o} {ds = ds} {ks = ks} a h v k) = view-noted p t o ds ks (ok-noted a h v k) (eqb t 101) refl
 
 module _ (p : Replacements) {f : Form} (short : length (encode f) ≤ 8192) where
   none-view : View p f → equalityWords (encode f) ≡ None → offerForm p f ≡ says p 10

@@ -10,13 +10,13 @@ use borrow.Author.Tests.{ne-eqb, eq-eqb, lt-ltb, le-ltb, lt-leb}
 use lib.Dec.{ltb}
 use lib.ListN.{length, getD, take, drop, replicate}
 use lib.Seq.{take-append-seam}
-use Rattle.tree.specs.Form.{Form, pick, encode, encodeAll}
+use Rattle.tree.specs.Form.{Form, pick, encode, encodeDecls, encodeAll}
 use Rattle.tree.specs.Tag.{Sort, expr}
 use Rattle.form.specs.Decode.{Got, got, no-form, isLeaf, decode, Whole, one, not-one, rowForm, found, missing, asSort, formOf}
 use Rattle.reader.specs.Internal.Reads.{mark, Told, decodeIn}
 use Rattle.form.specs.declared.head.Step.{Step}
 use Rattle.form.specs.declared.answer.Kind.the-variants.{Expression}
-use Rattle.form.proofs.DecodeLaws.{clash, Ok, ok-free, ok-bound, ok-node}
+use Rattle.form.proofs.DecodeLaws.{clash, Ok, ok-free, ok-bound, ok-node, ok-noted, flags-node}
 use Rattle.form.proofs.RowLaws.{row-encode}
 use Rattle.reader.proofs.ReaderLaws.{in-decode}
 use Rattle.rules.specs.Shift.{reaches}
@@ -87,6 +87,7 @@ unfolding indexWords encode
 index-is (ok-free e) x = refl
 index-is (ok-bound e) x = refl
 index-is (ok-node {t = t} {o = o} {ds = ds} {ks = ks} l h k) x = not-index t ((o ++ (ds ++ encodeAll ks)) ++ x) l
+index-is (ok-noted {t = t} {o = o} {ds = ds} {ks = ks} a h v k) x = not-index t ((o ++ (encodeDecls ds ++ encodeAll ks)) ++ x) (flags-node expr t (o ++ []) o _ _ _ [] (h []))
 
 abbrev pub placed : Sides → Offer → Replacement
 placed s (offer i left) = Is i (s .left) (s .middle)

@@ -3,7 +3,7 @@ use mathlib.Core.List.{List}
 use Prim.Native.Nat.{ℕ, suc, _+_, _-_}
 use lib.Dec.{leb, ltb, eqb}
 use lib.ListN.{length, getD, set, replicate}
-use Rattle.tree.specs.Form.{Form, leaf, node, pick, encode}
+use Rattle.tree.specs.Form.{Form, leaf, node, noted, pick, encode}
 use Rattle.form.specs.Break.{breakAt}
 use Rattle.form.specs.Decode.{Found, found, missing, formOf}
 use Rattle.form.specs.declared.answer.Kind.the-variants.{Predicate}
@@ -49,6 +49,7 @@ abbrev pub offerForm : Replacements → Form → Offered
 offerForm p (leaf x) = says p 10
 offerForm p (node t o ds ks) =
     ofTwo (says p 10) (λ l r. pick (eqb t 101) (offerSides p l r (offered l r)) (says p 10)) ks
+offerForm p (noted t o ds ks) = says p 10
 
 abbrev pub offerFound : Replacements → ℕ → Found → Offered
 offerFound p q = elim [ found s f ↦ pick (leb (p .n) 32) (offerForm p f) (says p 5) | missing ↦ breaks p q ]

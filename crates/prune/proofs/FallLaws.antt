@@ -16,9 +16,10 @@ use Rattle.shift.specs.Internal.Items.{items, sizeOf, wordsOf, rewritten, wordw
 use Rattle.shift.specs.declared.items.Item.{Item}
 use Rattle.shift.specs.declared.items.Item.the-variants.{Plain, Ident}
 use Rattle.shift.proofs.ItemLaws.{store-append, stored, rewritten-length}
-use Rattle.shift.proofs.WordwiseLaws.{wordwise-items}
-use Rattle.shift.specs.Internal.Items.{slotOf}
-use Rattle.replace.specs.Internal.Pieces.{filledWords, keptWords, headWords}
+use Rattle.shift.proofs.WordwiseLaws.{wordwise-items, mark-over, apart-on}
+use Rattle.shift.specs.Internal.Items.{slotOf, slotFor}
+use Rattle.shift.proofs.SlotLaws.{slot-is}
+use Rattle.replace.specs.Internal.Pieces.{filledWords}
 use Rattle.prune.specs.Internal.Dropped.{fallsAt, Falls, fallAt, fallItem, fallenWords, droppedRow, droppedOutcome}
 use Rattle.replace.proofs.PieceLaws.{falls-none}
 
@@ -38,6 +39,12 @@ table-made ws fs s h known i l = known i (omega arith) l
 pub falls-all : (ws fs : List ℕ) → Falls ws fs → getD fs 0 0 ≡ filledWords (drop 0 ws)
 unfolding Falls
 falls-all ws fs h = h 0 (omega arith)
+
+-- the slot of a word of the body, as that of an item
+pub slot-here : (n o : ℕ) (row marks : List ℕ) (start i s : ℕ) → apart n (drop start row) (drop start marks) ≡ true → start + 1 ≤ i → i < length row → length row ≤ length marks
+    → s ≡ slotFor n o (getD marks (i - 1) 0) (getD row (i - 1) 0) (getD row i 0) → s ≡ slotOf n o (wordItem (getD marks (i - 1) 0) (getD row (i - 1) 0) (getD row i 0))
+slot-here n o row marks start i s a on low long e =
+    slot-is n o (getD marks (i - 1) 0) (getD row (i - 1) 0) (getD row i 0) s (mark-over n (i - 1) row marks (apart-on n row marks start (i - 1) (omega arith) a) (omega arith) (omega arith)) e
 
 -- the word behind a tag, by the code's table
 fallen-ident : (ws fs : List ℕ) → Falls ws fs → (k t v : ℕ) (a b : Bool) → eqb t 2 ≡ a → ltb v (k - length ws) ≡ b → v - getD fs (pick a (pick b (length ws) (length ws - (v - (k - length ws)))) (length ws)) 0
@@ -85,36 +92,35 @@ same-fits f l = omega arith
 pub table-fits : {w f g : ℕ} → w ≤ 32 → f ≡ g → g ≡ 33 → w < f
 table-fits l e q = omega arith
 
-module _ (ws row marks : List ℕ) where
-  pub dropped-none : (room g : ℕ) → g ≡ filledWords (drop 0 ws) → g ≡ 0 → droppedOutcome ws row marks room ≡ refusal 9
+module _ (hd ws row marks : List ℕ) (start : ℕ) where
+  pub dropped-none : (room g : ℕ) → g ≡ filledWords (drop 0 ws) → g ≡ 0 → droppedOutcome hd ws row marks start room ≡ refusal 9
   unfolding droppedOutcome
   dropped-none room g e z = rw (eq-eqb (filledWords ws) 0 (sym e ∙ z))
 
-  module _ (g : ℕ) (e : g ≡ filledWords (drop 0 ws)) (some : g ≡ 0 → ⊥) (hd : List ℕ) (h n : ℕ) (is : hd ≡ headWords (getD row 0 0) (keptWords ws (drop 2 row))) (l : length hd ≡ h)
-      (count : n ≡ h + (length row - (2 + length ws))) where
+  module _ (g : ℕ) (e : g ≡ filledWords (drop 0 ws)) (some : g ≡ 0 → ⊥) (n : ℕ) (count : n ≡ length hd + (length row - start)) where
     abbrev body : List ℕ
-    body = rewritten (fallenWords ws) (items (drop (2 + length ws) row) (drop (2 + length ws) marks))
+    body = rewritten (fallenWords ws) (items (drop start row) (drop start marks))
 
-    body-length : length body ≡ length row - (2 + length ws)
-    body-length = rewritten-length (fallenWords ws) (falls-keep ws) (drop (2 + length ws) row) (drop (2 + length ws) marks) ∙ length-drop (2 + length ws) row
+    body-length : length body ≡ length row - start
+    body-length = rewritten-length (fallenWords ws) (falls-keep ws) (drop start row) (drop start marks) ∙ length-drop start row
 
-    row-is : droppedRow ws row marks ≡ hd ++ body
+    row-is : droppedRow hd ws row marks start ≡ hd ++ body
     unfolding droppedRow
-    row-is = rw is
+    row-is = refl
 
-    row-length : length (droppedRow ws row marks) ≡ n
+    row-length : length (droppedRow hd ws row marks start) ≡ n
     row-length = let b = body-length in rw (row-is, length-append) (omega arith)
 
-    pub dropped-room : (room : ℕ) → room < n → droppedOutcome ws row marks room ≡ refusal 14
+    pub dropped-room : (room : ℕ) → room < n → droppedOutcome hd ws row marks start room ≡ refusal 14
     unfolding droppedOutcome
     dropped-room room o = rw (ne-eqb (filledWords ws) 0 (λ z. some (e ∙ z)), row-length, lt-leb n room o)
 
-    row-done : (room : ℕ) → n ≤ room → droppedOutcome ws row marks room ≡ answer (droppedRow ws row marks)
+    row-done : (room : ℕ) → n ≤ room → droppedOutcome hd ws row marks start room ≡ answer (droppedRow hd ws row marks start)
     unfolding droppedOutcome
     row-done room o = rw (ne-eqb (filledWords ws) 0 (λ z. some (e ∙ z)), row-length, le-leb n room o)
 
-    pub dropped-done : (out out′ out″ : List ℕ) → out′ ≡ store out 0 hd → out″ ≡ store out′ h body → n ≤ length out
-        → (Done n ≡ told (droppedOutcome ws row marks (length out))) × (out″ ≡ written (droppedOutcome ws row marks (length out)) out)
+    pub dropped-done : (out out′ out″ : List ℕ) → out′ ≡ store out 0 hd → out″ ≡ store out′ (length hd) body → n ≤ length out
+        → (Done n ≡ told (droppedOutcome hd ws row marks start (length out))) × (out″ ≡ written (droppedOutcome hd ws row marks start (length out)) out)
     dropped-done out out′ out″ a b o =
-        let s : out″ ≡ store out 0 (droppedRow ws row marks) = rw (row-is, store-append out 0 hd body, zero-add, ← a, l) b in
-        rw (row-done (length out) o) (ap Done (sym row-length), s ∙ stored out (droppedRow ws row marks) (rw row-length o))
+        let s : out″ ≡ store out 0 (droppedRow hd ws row marks start) = rw (row-is, store-append out 0 hd body, zero-add, ← a) b in
+        rw (row-done (length out) o) (ap Done (sym row-length), s ∙ stored out (droppedRow hd ws row marks start) (rw row-length o))

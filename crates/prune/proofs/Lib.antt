@@ -1,4 +1,3 @@
-pub mod ClearLaws
 pub mod FallLaws
 pub mod PruneTree
 pub mod FallTree

@@ -1,13 +1,13 @@
 -- Prune on trees: what stands at unused places does not matter, and the result is within the limits. Assumes nothing.
 use mathlib.Core.Path.{_≡_, refl, ap, sym, _∙_}
 use mathlib.Core.Bool.{Bool, true, false, not, _&&_}
-use mathlib.Core.List.{List, [], _∷_, _++_, map, append-nil, reverse, reverse-cons}
+use mathlib.Core.List.{List, [], _∷_, _++_, map, reverse, reverse-cons}
 use Prim.Native.Nat.{ℕ, zero, suc, _+_, _≤_}
 use native.Mathlib.Omega.{arith}
 use borrow.Author.Tests.{eq-eqb, le-leb, leb-true}
 use lib.Dec.{eqb, leb}
 use lib.ListN.{length, length-append, length-reverse}
-use Rattle.tree.specs.Form.{Leaf, free, bound, Form, leaf, none, more, pick, encode}
+use Rattle.tree.specs.Form.{Leaf, free, bound, Form, leaf, pick, encode}
 use Rattle.tree.specs.Tag.{pred}
 use Rattle.form.specs.Break.{breakAt}
 use Rattle.form.specs.Decode.{Whole, one, not-one, rowForm, asSort, formOf}
@@ -19,15 +19,14 @@ use Rattle.form.proofs.RowLaws.{row-exact, row-encode}
 use Rattle.rules.specs.Walk.{Outer, named, dangling, walk, put, subst, each}
 use Rattle.rules.proofs.WalkLaws.{and-left, and-right, always, each-agree, each-always, each-same, each-all, walk-agree}
 use Rattle.rules.proofs.LimitLaws.{small, ok-small, fineLeaf, walk-length}
-use Rattle.rules.specs.Fill.{keptCount, keptNames, fillIndex, fillFor, fill, quantify, ofQuantified, quantified}
+use Rattle.rules.specs.Fill.{Decl, keptCount, keptDecls, fillIndex, fillFor, fill, quantify, Quantified, quantifier, other, ofQuantified, quantified}
 use Rattle.rules.specs.Prune.{isNot, unused, usedPlaces, prune, pruneOutcome}
-use Rattle.replace.specs.Internal.Pieces.{declaredIn}
 use Rattle.rules.proofs.OkLaws.{ok-walk}
-use Rattle.replace.proofs.OkLaws.{few-names, names-kept, node-names, quantify-ok}
 use Rattle.replace.proofs.FillTree.{kept-reverse}
-use Rattle.replace.proofs.QuantLaws.{Quant, is-quant, not-quant}
+use Rattle.shift.proofs.AroundLaws.{headOf, encode-around, Quant, quant-of}
+use Rattle.decls.proofs.DeclLaws.{GoodDecls, good-kept, few-kept, decls-ok, around-good, head-long, decls-words}
 
-pub used-length : (ns : List ℕ) (f : Form) → length (usedPlaces ns f) ≡ length ns
+pub used-length : (ns : List Decl) (f : Form) → length (usedPlaces ns f) ≡ length ns
 used-length [] f = refl
 used-length (n ∷ ns) f = ap suc (used-length ns f)
 
@@ -111,7 +110,7 @@ stays-more qs f true h g =
 stays-more qs f false h g = each-all (staysIn qs) (staysIn (qs ++ (kept ∷ []))) (stays-kept qs) 0 f g
 
 -- the body names no place that prune fills
-used-stays : (ns : List ℕ) (f : Form) → each (staysIn (reverse (usedPlaces ns f))) 0 f ≡ true
+used-stays : (ns : List Decl) (f : Form) → each (staysIn (reverse (usedPlaces ns f))) 0 f ≡ true
 used-stays [] f = each-same (staysIn []) always stays-none 0 f ∙ each-always 0 f
 used-stays (n ∷ ns) f =
     let long : length (reverse (usedPlaces ns f)) ≡ length ns = length-reverse (usedPlaces ns f) ∙ used-length ns f in
@@ -163,7 +162,7 @@ emptied-count [] = refl
 emptied-count (kept ∷ ps) = ap suc (emptied-count ps)
 emptied-count (filled x ∷ ps) = emptied-count ps
 
-emptied-names : (ps : List Place) (ns : List ℕ) → keptNames (map emptied ps) ns ≡ keptNames ps ns
+emptied-names : (ps : List Place) (ns : List Decl) → keptDecls (map emptied ps) ns ≡ keptDecls ps ns
 emptied-names [] ns = refl
 emptied-names (kept ∷ ps) [] = refl
 emptied-names (filled x ∷ ps) [] = refl
@@ -179,7 +178,7 @@ emptied-ranked ps k (named m) = refl
 emptied-ranked ps k (dangling j) = rw (emptied-reverse ps, emptied-count ps, emptied-rank (keptCount ps) 0 (reverse ps) j)
 
 -- prune is a fill of the unused places, with whatever expressions
-pub prune-any : (t : ℕ) (ns : List ℕ) (f : Form) (ps : List Place) → map emptied ps ≡ usedPlaces ns f → fill t ns ps f ≡ prune t ns f
+pub prune-any : (t : ℕ) (ns : List Decl) (f : Form) (ps : List Place) → map emptied ps ≡ usedPlaces ns f → fill t ns ps f ≡ prune t ns f
 unfolding fill prune
 prune-any t ns f ps e =
     let stays : each (staysIn (reverse (map emptied ps))) 0 f ≡ true = rw (sym e) at (used-stays ns f) in
@@ -188,7 +187,7 @@ prune-any t ns f ps e =
     let b = subst-ranked (map emptied ps) f stays in
     let c : walk (λ k x. leaf (ranked ps k x)) 0 f ≡ walk (λ k x. leaf (ranked (map emptied ps) k x)) 0 f
     = walk-agree always (λ k x. leaf (ranked ps k x)) (λ k x. leaf (ranked (map emptied ps) k x)) (λ k x h. ap leaf (sym (emptied-ranked ps k x))) 0 f (each-always 0 f) in
-    rw (sym e) (ap (λ z. quantify t z (subst (fillFor ps) f)) (sym (emptied-names ps ns)) ∙ ap (λ z. quantify t (keptNames (map emptied ps) ns) z) (a ∙ (c ∙ sym b)))
+    rw (sym e) (ap (λ z. quantify t z (subst (fillFor ps) f)) (sym (emptied-names ps ns)) ∙ ap (λ z. quantify t (keptDecls (map emptied ps) ns) z) (a ∙ (c ∙ sym b)))
 
 -- the numbers of the renumbered body are small
 ranked-small : (ps : List Place) (k : ℕ) (x : Outer) → small k x ≡ true → fineLeaf (ranked ps k x) ≡ true
@@ -198,13 +197,8 @@ ranked-small ps k (dangling j) h =
     let b = leb-true (k + j) 65535 (and-right (leb 0 (k + j)) (leb (k + j) 65535) h) in
     rw (le-leb 0 (k + rank (keptCount ps) 0 (reverse ps) j) (omega arith), le-leb (k + rank (keptCount ps) 0 (reverse ps) j) 65535 (omega arith))
 
-quantify-long : (t : ℕ) (ns : List ℕ) (b : Form) → length (encode (quantify t ns b)) ≤ 2 + length ns + length (encode b)
-unfolding encode
-quantify-long t [] b = omega arith
-quantify-long t (n ∷ ns) b = let l = length-append ns (encode b) in rw append-nil (omega arith)
-
 -- the result of prune is within the limits, so 7 cannot arise
-module _ (f : Form) (ok : Ok 64 pred f) (short : length (encode f) ≤ 8192) (q : Quant f) where
+module _ (f : Form) (ok : Ok 64 pred f) (short : length (encode f) ≤ 8192) (q : Quant 63 f) where
   abbrev ps : List Place
   ps = usedPlaces (q .decls) (q .body)
 
@@ -219,27 +213,27 @@ module _ (f : Form) (ok : Ok 64 pred f) (short : length (encode f) ≤ 8192) (q 
   body-long : length (encode (walk (λ k x. leaf (ranked ps k x)) 0 (q .body))) ≡ length (encode (q .body))
   body-long = walk-length (λ k x. leaf (ranked ps k x)) (ranked ps) (λ k x. refl) 0 (q .body)
 
-  form-long : length (encode f) ≡ 2 + length (q .decls) + length (encode (q .body))
-  unfolding encode
-  form-long = let l = length-append (q .decls) (encode (q .body)) in rw (q .form, append-nil) (omega arith)
+  form-long : length (encode f) ≡ length (headOf (q .op) (q .decls)) + length (encode (q .body))
+  form-long = ap (λ z. length (encode z)) (q .form) ∙ (ap length (encode-around (q .op) 0 (q .decls) (q .body)) ∙ length-append (headOf (q .op) (q .decls)) (encode (q .body)))
 
-  pub prune-ok : Ok 64 pred (prune (q .tag) (q .decls) (q .body))
+  pub prune-ok : Ok 64 pred (prune (q .op) (q .decls) (q .body))
   unfolding prune fill
   prune-ok =
-      let l = few-names ps (q .decls) in
+      let l = few-kept ps (q .decls) in
       let m = q .most in
-      rw body-is (quantify-ok (q .tag) (keptNames ps (q .decls)) _ (q .which) (names-kept ps (q .decls) (node-names (q .tag) (q .decls) (more (q .body) none) (q .which) (rw (q .form) at ok))) (omega arith) body-ok)
+      let g : GoodDecls (q .decls) = around-good (q .op) (q .which) (q .body) (q .decls) (rw (q .form) at ok) in
+      rw body-is (decls-ok (q .op) (q .which) _ (keptDecls ps (q .decls)) (good-kept ps (q .decls) g) (omega arith) body-ok)
 
-  pub prune-long : length (encode (prune (q .tag) (q .decls) (q .body))) ≤ 8192
+  pub prune-long : length (encode (prune (q .op) (q .decls) (q .body))) ≤ 8192
   unfolding prune fill
   prune-long =
-      let l = few-names ps (q .decls) in
-      let a = quantify-long (q .tag) (keptNames ps (q .decls)) (walk (λ k x. leaf (ranked ps k x)) 0 (q .body)) in
+      let l = head-long (q .op) ps (q .decls) in
+      let a = decls-words (q .op) (keptDecls ps (q .decls)) (walk (λ k x. leaf (ranked ps k x)) 0 (q .body)) in
       let b = body-long in
       let c = form-long in
       rw body-is (omega arith)
 
-  pub prune-inside : isOne (rowForm pred (encode (prune (q .tag) (q .decls) (q .body)))) ≡ true
+  pub prune-inside : isOne (rowForm pred (encode (prune (q .op) (q .decls) (q .body)))) ≡ true
   prune-inside = ap isOne (row-encode prune-ok prune-long)
 
 -- no row and no output row make prune refuse by 7
@@ -260,13 +254,13 @@ abbrev pruned : ℕ → Form → Outcome
 pruned room f = ofQuantified (λ t ns b. needs 9 (not (eqb (keptCount (usedPlaces ns b)) (length ns))) (finish pred room (prune t ns b))) 3 (quantified f)
 
 code-form : (room : ℕ) (f : Form) → Ok 64 pred f → length (encode f) ≤ 8192 → code (pruned room f) ≡ 7 → ⊥
-code-form room f ok short h = go (declaredIn (encode f)) refl
+code-form room f ok short h = go (quantified f) refl
   where
-    go : (n : ℕ) → declaredIn (encode f) ≡ n → ⊥
-    go zero e = let z : code (refusal 3) ≡ 7 = rw (not-quant ok e) at h in omega arith
-    go (suc n) e =
-        let q = is-quant ok (omega arith) in
-        code-finish (not (eqb (keptCount (usedPlaces (q .decls) (q .body))) (length (q .decls)))) room (prune (q .tag) (q .decls) (q .body)) (prune-inside f ok short q) (rw (q .is) at h)
+    go : (z : Quantified) → quantified f ≡ z → ⊥
+    go other e = let z : code (refusal 3) ≡ 7 = rw e at h in omega arith
+    go (quantifier t ds b) e =
+        let q = quant-of ok t ds b e in
+        code-finish (not (eqb (keptCount (usedPlaces (q .decls) (q .body))) (length (q .decls)))) room (prune (q .op) (q .decls) (q .body)) (prune-inside f ok short q) (rw (q .is) at h)
 
 code-row : (row : List ℕ) (room : ℕ) (w : Whole) → rowForm pred row ≡ w → length row ≤ 8192 → code (ofFound (breakAt Predicate row) (λ s f. pruned room f) (asSort pred w)) ≡ 7 → ⊥
 code-row row room not-one e short h = omega arith

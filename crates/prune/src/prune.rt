@@ -1,8 +1,11 @@
 // Prune: the declarations whose index the body never uses are dropped.
+use decls::ends::body_start;
+use decls::ends::declared;
+use decls::heads::write_noted;
+use decls::used::clear_used;
 use form::answer::Answer;
 use form::answer::Kind;
 use form::answer::Limit;
-use replace::heads::declared;
 use replace::heads::write_head;
 use replace::pieces::less;
 use replace::pieces::one_if;
@@ -11,27 +14,15 @@ use shift::slots::slot_of;
 ghost use mathlib.Core.Path.{_≡_};
 ghost use mathlib.Core.Bool.{true};
 ghost use Prim.Native.Nat.{_+_, _-_, _≤_, _<_};
-ghost use lib.ListN.{length, take, drop, replicate};
+ghost use lib.ListN.{length, getD, take, drop, replicate};
 ghost use Rattle.form.specs.Decode.{formOf};
 ghost use Rattle.form.specs.Answer.{told, written, checkOutcome};
 ghost use Rattle.reader.specs.Internal.Reads.{Marked};
 ghost use Rattle.shift.specs.Internal.Items.{Fresh, items, rewritten, apart, store};
 ghost use Rattle.rules.specs.Prune.{pruneOutcome};
-ghost use Rattle.prune.specs.Internal.Dropped.{cleared, Falls, fallenWords, droppedOutcome};
-
-// A word for each of n declarations, the outermost first, behind one that is passed over: sets the word of each declaration that the items
-// from `from` on use to 0.
-fn clear_used(row: &[u32], marks: &[u32], from: usize, n: u32, words: &mut [u32])
-    requires { ⌜ (n ≤ 32) × (length (now words) ≡ n + 1) × (length (now row) ≤ length (now marks)) × (from < length (now row)) × (apart n (drop from (now row)) (drop from (now marks)) ≡ true) ⌝ }
-    ensures { λ _. ⌜ drop 1 (now (words .exit)) ≡ cleared n (drop 1 (now (words .entry))) (items (drop from (now (row .entry))) (drop from (now (marks .entry)))) ⌝ }
-{
-    let mut i = from + 1;
-    while i < row.len() {
-        let slot = slot_of(marks[i - 1], row[i - 1], row[i], n, 0);
-        words[slot] = 0;
-        i += 1;
-    }
-}
+ghost use Rattle.replace.specs.Internal.Pieces.{keptHead};
+ghost use Rattle.decls.specs.Internal.Noted.{notedHead};
+ghost use Rattle.prune.specs.Internal.Dropped.{Falls, fallenWords, droppedOutcome, Pruning};
 
 // For each slot, how many declarations inside it are dropped.
 fn count_falls(words: &[u32], falls: &mut [u32])
@@ -76,29 +67,32 @@ fn write_fallen(
     }
 }
 
-// The row without the declarations whose word is not 0: 9 where no word is, 14 where the output row is shorter.
-fn drop_decls(words: &[u32], row: &[u32], marks: &[u32], out: &mut [u32]) -> Answer
-    requires { ⌜ length (now words) ≤ 32 ⌝ }
-    requires { ⌜ 2 + length (now words) < length (now row) ⌝ }
-    requires { ⌜ length (now row) ≤ length (now marks) ⌝ }
-    requires { ⌜ apart (length (now words)) (drop (2 + length (now words)) (now row)) (drop (2 + length (now words)) (now marks)) ≡ true ⌝ }
-    ensures { λ r. ⌜ r ≡ told (droppedOutcome (now (words .entry)) (now (row .entry)) (now (marks .entry)) (length (now (out .entry)))) ⌝ }
-    ensures { λ _. ⌜ now (out .exit) ≡ written (droppedOutcome (now (words .entry)) (now (row .entry)) (now (marks .entry)) (length (now (out .entry)))) (now (out .entry)) ⌝ }
+// The head of what is left, and the row from `from` on without the declarations whose word is not 0: 9 where no word is, 14 where the output
+// row is shorter.
+fn drop_decls(
+    words: &[u32],
+    head: &[u32],
+    row: &[u32],
+    marks: &[u32],
+    from: usize,
+    out: &mut [u32],
+) -> Answer
+    requires { ⌜ (length (now words) ≤ 32) × (length (now head) ≤ 8192) × (length (now row) ≤ 8192) ⌝ }
+    requires { ⌜ (length (now row) ≤ length (now marks)) × (from < length (now row)) × (apart (length (now words)) (drop from (now row)) (drop from (now marks)) ≡ true) ⌝ }
+    ensures { λ r. ⌜ r ≡ told (droppedOutcome (now (head .entry)) (now (words .entry)) (now (row .entry)) (now (marks .entry)) from (length (now (out .entry)))) ⌝ }
+    ensures { λ _. ⌜ now (out .exit) ≡ written (droppedOutcome (now (head .entry)) (now (words .entry)) (now (row .entry)) (now (marks .entry)) from (length (now (out .entry)))) (now (out .entry)) ⌝ }
 {
     let mut falls = [0u32; 33];
     count_falls(words, &mut falls);
     if falls[0] == 0 {
         return Answer::No(9, 0);
     }
-    let mut head = [0u32; 34];
-    let h = write_head(words, row, &mut head);
-    let from = 2 + words.len();
-    let n = h + (row.len() - from);
+    let n = head.len() + (row.len() - from);
     if out.len() < n {
         return Answer::No(14, 0);
     }
-    put_words(&head[..h], out, 0);
-    write_fallen(words, &falls, row, marks, from, out, h);
+    put_words(head, out, 0);
+    write_fallen(words, &falls, row, marks, from, out, head.len());
     Answer::Done(n)
 }
 
@@ -111,7 +105,47 @@ fn mark_fresh(row: &[u32], kind: Kind, marks: &mut [u32]) -> Answer
     reader::check::mark(row, kind, marks)
 }
 
-// Prune with marks of its own. What is left is within the limits whenever the row is, so it is not checked.
+// The same for a row without annotations, whose head is short.
+fn drop_plain(words: &[u32], row: &[u32], marks: &[u32], from: usize, out: &mut [u32]) -> Answer
+    requires { ⌜ (length (now words) ≤ 32) × (length (now row) ≤ 8192) ⌝ }
+    requires { ⌜ (length (now row) ≤ length (now marks)) × (from < length (now row)) × (apart (length (now words)) (drop from (now row)) (drop from (now marks)) ≡ true) ⌝ }
+    ensures { λ r. ⌜ r ≡ told (droppedOutcome (keptHead (now (words .entry)) (now (row .entry)) 34) (now (words .entry)) (now (row .entry)) (now (marks .entry)) from (length (now (out .entry)))) ⌝ }
+    ensures { λ _. ⌜ now (out .exit) ≡ written (droppedOutcome (keptHead (now (words .entry)) (now (row .entry)) 34) (now (words .entry)) (now (row .entry)) (now (marks .entry)) from (length (now (out .entry)))) (now (out .entry)) ⌝ }
+{
+    let mut head = [0u32; 34];
+    let h = write_head(words, row, &mut head);
+    drop_decls(words, &head[..h], row, marks, from, out)
+}
+
+// The same for a row with annotations, whose head may be as long as the row.
+fn drop_noted(words: &[u32], row: &[u32], marks: &[u32], from: usize, out: &mut [u32]) -> Answer
+    requires { ⌜ (length (now words) ≤ 32) × (length (now row) ≤ 8192) × (860 ≤ getD (now row) 0 0) ⌝ }
+    requires { ⌜ (length (now row) ≤ length (now marks)) × (from < length (now row)) × (apart (length (now words)) (drop from (now row)) (drop from (now marks)) ≡ true) ⌝ }
+    ensures { λ r. ⌜ r ≡ told (droppedOutcome (notedHead (getD (now (row .entry)) 0 0 - 10) (now (words .entry)) (now (row .entry)) 8192) (now (words .entry)) (now (row .entry)) (now (marks .entry)) from (length (now (out .entry)))) ⌝ }
+    ensures { λ _. ⌜ now (out .exit) ≡ written (droppedOutcome (notedHead (getD (now (row .entry)) 0 0 - 10) (now (words .entry)) (now (row .entry)) 8192) (now (words .entry)) (now (row .entry)) (now (marks .entry)) from (length (now (out .entry)))) (now (out .entry)) ⌝ }
+{
+    let mut head = [0u32; 8192];
+    let h = write_noted(row[0] - 10, words, row, &mut head);
+    drop_decls(words, &head[..h], row, marks, from, out)
+}
+
+// The row without the declarations that the body, which starts at `from`, never uses. What is left is within the limits whenever the row is, so
+// it is not checked.
+fn drop_unused(row: &[u32], marks: &[u32], n: u32, from: usize, out: &mut [u32]) -> Answer
+    requires { ⌜ Pruning (now row) (now marks) n from ⌝ }
+    ensures { λ r. ⌜ r ≡ told (pruneOutcome (now (row .entry)) (length (now (out .entry)))) ⌝ }
+    ensures { λ _. ⌜ now (out .exit) ≡ written (pruneOutcome (now (row .entry)) (length (now (out .entry)))) (now (out .entry)) ⌝ }
+{
+    let m = n as usize;
+    let mut words = [1u32; 33];
+    clear_used(row, marks, from, row.len(), n, &mut words[..m + 1]);
+    if row[0] < 860 {
+        return drop_plain(&words[1..m + 1], row, marks, from, out);
+    }
+    drop_noted(&words[1..m + 1], row, marks, from, out)
+}
+
+// Prune with marks of its own.
 fn prune_in(row: &[u32], marks: &mut [u32], out: &mut [u32]) -> Answer
     requires { ⌜ Fresh (now row) (now marks) ⌝ }
     ensures { λ r. ⌜ r ≡ told (pruneOutcome (now (row .entry)) (length (now (out .entry)))) ⌝ }
@@ -125,10 +159,8 @@ fn prune_in(row: &[u32], marks: &mut [u32], out: &mut [u32]) -> Answer
     if n == 0 {
         return Answer::No(3, 0);
     }
-    let m = n as usize;
-    let mut words = [1u32; 33];
-    clear_used(row, marks, 2 + m, n, &mut words[..m + 1]);
-    drop_decls(&words[1..m + 1], row, marks, out)
+    let from = body_start(row, n);
+    drop_unused(row, marks, n, from, out)
 }
 
 // Drops the declarations that the body never uses.

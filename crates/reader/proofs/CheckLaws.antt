@@ -16,7 +16,7 @@ use Rattle.form.specs.declared.answer.Kind.{Kind}
 use Rattle.form.specs.declared.answer.Kind.the-variants.{Expression, Predicate, Either}
 use Rattle.form.specs.declared.answer.Answer.the-variants.{Done, No}
 use Rattle.tree.specs.declared.tag.Shape.{Shape}
-use Rattle.tree.specs.declared.tag.Shape.the-variants.{Unknown, Plain, Name, Value, Exprs, Preds, Apply, Compr, Quant}
+use Rattle.tree.specs.declared.tag.Shape.the-variants.{Unknown, Plain, Name, Value, Exprs, Preds, Apply, Compr, Quant, NotedCompr, NotedQuant}
 use Rattle.form.specs.declared.head.Step.{Step}
 use Rattle.form.specs.declared.head.Step.the-variants.{End, Bad}
 use Rattle.form.proofs.DecodeLaws.{clash, decode-sound}
@@ -34,6 +34,8 @@ known-not (Preds m) e = absurd (clash cc)
 known-not Apply e = absurd (clash cc)
 known-not Compr e = absurd (clash cc)
 known-not Quant e = absurd (clash cc)
+known-not NotedCompr e = absurd (clash cc)
+known-not NotedQuant e = absurd (clash cc)
 
 known-is : (x : Shape) → known x ≡ true → x ≡ Unknown → ⊥
 known-is x e q = let z : _≡_ {A = ℕ} 0 1 = cc in omega arith

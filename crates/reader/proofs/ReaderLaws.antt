@@ -2,23 +2,25 @@
 use mathlib.Core.Path.{_≡_, refl, ap, sym, _∙_}
 use mathlib.Core.Bool.{Bool, true, false, _&&_}
 use mathlib.Core.List.{List, [], _∷_, _++_}
-use Prim.Native.Nat.{ℕ, zero, suc, _+_, _-_, _≤_, _<_}
+use Prim.Native.Nat.{ℕ, zero, suc, _+_, _*_, _-_, _≤_, _<_}
 use native.Mathlib.Numerals.{add-one, sub-one}
 use native.Mathlib.Omega.{arith}
 use borrow.Author.Tests.{le-leb, lt-leb}
 use lib.Dec.{leb}
 use lib.ListN.{length, getD, drop, set, replicate, length-append}
-use Rattle.tree.specs.Form.{Leaf, Form, leaf, node, Forms, none, pick, encode, encodeAll}
+use Rattle.tree.specs.Form.{Leaf, free, bound, Form, leaf, node, noted, Decls, undeclared, bare, typed, namesOf, anyTyped, Forms, none, pick, between, encode, encodeDecls, encodeAll}
 use Rattle.tree.specs.Tag.{Sort, expr, own, ownOf, shapeOf, exprTags, sorts}
-use Rattle.form.specs.Decode.{Head, head, bad, read, Got, got, no-form, Gots, gots, no-forms, leafAt, isLeaf, make, addForm, close, chain, decodeAll, branch, decode}
+use Rattle.form.specs.Decode.{Head, head, flagged, bad, read, Got, got, no-form, Gots, gots, no-forms, leafAt, isLeaf, make, addForm, close, chain, decodeAll, GotDecl, gotBare, gotTyped, no-decl, noteOf, byFlag, declAt, GotDecls, declared, no-decls, addBare, addTyped, addDecl, decls, closeNoted, withDecls, branch, decode}
 use Rattle.form.specs.Internal.Heads.{headAt, startsLeaf}
-use Rattle.reader.specs.Internal.Reads.{mark, markAll, markTag, Told, ToldAll, decodeIn}
+use Rattle.reader.specs.Internal.Reads.{mark, markDecls, markAll, markTag, Told, ToldAll, ToldDecl, ToldDecls, ToldNoted, decodeIn}
 use Rattle.form.specs.declared.head.Step.{Step}
 use Rattle.form.specs.declared.head.Step.the-variants.{End, Bad}
 use Rattle.form.specs.declared.head.Head as code
-use Rattle.form.specs.declared.head.Head.the-variants.{Kids, None}
-use Rattle.form.proofs.DecodeLaws.{clash, high-tag, read-exact, read-at, all-sound, decode-at, made}
-use Rattle.form.proofs.HeadLaws.{gone, here, head-rises}
+use Rattle.form.specs.declared.head.Head.the-variants.{Kids, Noted, None}
+use Rattle.form.specs.Internal.Heads.{wordAt}
+use Rattle.form.specs.declared.head.Word.the-variants.{Is, Not}
+use Rattle.form.proofs.DecodeLaws.{clash, high-tag, read-exact, read-at, all-sound, decode-at, made, flags-at, decls-at, decls-sound, bare-at, typed-at}
+use Rattle.form.proofs.HeadLaws.{gone, here, head-rises, flags-rise, word-is, next-drop}
 
 -- what is read at a position: nothing past the end, else the node that begins there
 pub no-word : (d : ℕ) (s : Sort) → decode d s [] ≡ no-form
@@ -188,11 +190,48 @@ module _ (s : Sort) (row : List ℕ) (at u : ℕ) where
         let el : l ≡ drop p row = read-at (own s t) row (at + 1) o ds x′ y′ l q ∙ ap (λ n. drop n row) (sym ep) in
         let h′ : (l : List ℕ) → read (own s t) (o ++ (ds ++ l)) ≡ head o ds x y l = λ l. h l ∙ cc in
         rw (ex, ey, el) (close-told o ds x y p m m₁ m₂ r _ refl h′ ep m₁e (rw ew at k))
+    branch-told (flagged o n x′ y′ l) x y w p m m₁ m₂ r q e m₁e k = absurd (clash cc)
     branch-told bad x y w p m m₁ m₂ r q e m₁e k = absurd (clash cc)
+
+    -- a node whose declarations have flags
+    close-noted : (o : List ℕ) (ds : Decls) (p : ℕ) (m m₂ : List ℕ) (r : Step) (g : Gots) (b : Bool) → anyTyped ds ≡ b → p ≡ at + 1 + length o
+        → pick b (ToldAll (p + length (encodeDecls ds)) (u + length (namesOf ds)) g (markDecls ds p u m) m₂ r) (r ≡ Bad) → Told at u (closeNoted t o ds g) m m₂ r
+    unfolding Told ToldAll encode mark
+    close-noted o ds p m m₂ r (gots ks l) true q e k =
+        let a : at + suc (length o + length (encodeDecls ds)) ≡ p + length (encodeDecls ds) = omega arith in
+        let b : at + suc (length o) ≡ p = omega arith in
+        let c : length (namesOf ds) + u ≡ u + length (namesOf ds) = omega arith in
+        rw q (k .0 ∙ ap End (rw (length-append, length-append) (omega arith)), rw (a, b, c) (k .1))
+    close-noted o ds p m m₂ r no-forms true q e k = k
+    close-noted o ds p m m₂ r (gots ks l) false q e k = rw q k
+    close-noted o ds p m m₂ r no-forms false q e k = k
+
+    decls-told : (o : List ℕ) (g : GotDecls) (x y p : ℕ) (m m₂ : List ℕ) (r : Step) → p ≡ at + 1 + length o
+        → ToldNoted p u g (λ l. decodeAll (λ s l. decode d s l) (sorts x y) l) m m₂ r → Told at u (withDecls (λ s l. decode d s l) t o x y g) m m₂ r
+    unfolding ToldNoted
+    decls-told o (declared ds l) x y p m m₂ r e k = close-noted o ds p m m₂ r (decodeAll (λ s l. decode d s l) (sorts x y) l) (anyTyped ds) refl e k
+    decls-told o no-decls x y p m m₂ r e k = bad-is k
+      where
+        bad-is : r ≡ Bad → Told at u no-form m m₂ r
+        bad-is q = rw q (bad-told at u no-form m m₂ refl)
+
+    branch-noted : (z : Head) (x y w p : ℕ) (m m₂ : List ℕ) (r : Step) → read (own s t) (drop (at + 1) row) ≡ z → headAt (at + 1) z ≡ Noted p x y w
+        → ToldNoted p u (decls (λ s l. decode d s l) w (drop p row)) (λ l. decodeAll (λ s l. decode d s l) (sorts x y) l) m m₂ r → Told at u (branch (λ s l. decode d s l) t z) m m₂ r
+    unfolding headAt
+    branch-noted (head o ds x′ y′ l) x y w p m m₂ r q e k = absurd (clash cc)
+    branch-noted (flagged o n x′ y′ l) x y w p m m₂ r q e k =
+        let ep : p ≡ at + 1 + length o = cc in
+        let ex : x′ ≡ x = cc in
+        let ey : y′ ≡ y = cc in
+        let ew : n ≡ w = cc in
+        let el : l ≡ drop p row = flags-at (own s t) row (at + 1) o n x′ y′ l q ∙ ap (λ n. drop n row) (sym ep) in
+        rw (ex, ey, ew, el) (decls-told o _ x y p m m₂ r ep k)
+    branch-noted bad x y w p m m₂ r q e k = absurd (clash cc)
 
     branch-bad : (z : Head) (m m₂ : List ℕ) → headAt (at + 1) z ≡ None → Told at u (branch (λ s l. decode d s l) t z) m m₂ Bad
     unfolding headAt
     branch-bad (head o ds x y l) m m₂ e = absurd (clash cc)
+    branch-bad (flagged o n x y l) m m₂ e = absurd (clash cc)
     branch-bad bad m m₂ e = bad-told at u no-form m m₂ refl
 
   module _ {h : code.Head} (low : at < length row) (hd : h ≡ headAt (at + 1) (read (own s (getD row at 0)) (drop (at + 1) row))) where
@@ -204,6 +243,17 @@ module _ (s : Sort) (row : List ℕ) (at u : ℕ) where
         → ToldAll p (u + w) (decodeAll (λ s l. decode (d - 1) s l) (sorts x y) (drop p row)) m₁ m₂ r → Told at u (decode d s (drop at row)) m m₂ r
     a-form zero p x y w m m₁ m₂ r ne e k t = absurd (ne refl)
     a-form (suc d) p x y w m m₁ m₂ r ne e k t = rw (node-here d s row at low) (branch-told d (getD row at 0) _ x y w p m m₁ m₂ r refl (sym hd ∙ e) k (rw sub-one at t))
+
+    pub a-noted : (d p x y w : ℕ) (m m₂ : List ℕ) (r : Step) → (d ≡ 0 → ⊥) → h ≡ Noted p x y w
+        → ToldNoted p u (decls (λ s l. decode (d - 1) s l) w (drop p row)) (λ l. decodeAll (λ s l. decode (d - 1) s l) (sorts x y) l) m m₂ r → Told at u (decode d s (drop at row)) m m₂ r
+    a-noted zero p x y w m m₂ r ne e t = absurd (ne refl)
+    a-noted (suc d) p x y w m m₂ r ne e t = rw (node-here d s row at low) (branch-noted d (getD row at 0) _ x y w p m m₂ r refl (sym hd ∙ e) (rw sub-one at t))
+
+    pub flags-after : (p x y w : ℕ) → h ≡ Noted p x y w → at < p
+    flags-after p x y w e = go (read (own s (getD row at 0)) (drop (at + 1) row)) (sym hd ∙ e)
+      where
+        go : (z : Head) → headAt (at + 1) z ≡ Noted p x y w → at < p
+        go z e = let q = flags-rise (at + 1) p x y w z e in omega arith
 
     pub kids-after : (p x y w : ℕ) → h ≡ Kids p x y w → at < p
     kids-after p x y w e = go (read (own s (getD row at 0)) (drop (at + 1) row)) (sym hd ∙ e)
@@ -269,3 +319,207 @@ module _ (s : Sort) (ws : List ℕ) where
 
   pub told-in : (at d u : ℕ) (a b : List ℕ) (r : Step) → d ≤ 65535 → u ≤ 65535 → Told at u (decode d s ws) a b r → Told at u (decodeIn d u s ws) a b r
   told-in at d u a b r deep few t = rw (in-decode d u deep few) t
+
+-- declarations with flags: one, several, and the children after them
+some-words : (f : Form) → 0 < length (encode f)
+unfolding encode
+some-words (leaf (free n)) = omega arith
+some-words (leaf (bound n)) = omega arith
+some-words (node t o ds ks) = omega arith
+some-words (noted t o ds ks) = omega arith
+
+abbrev Sized : Bool → ℕ → ℕ → Type 0
+Sized b l n = pick b (2 * n < l) (l ≡ 2 * n)
+
+bare-sized : (b : Bool) (l n : ℕ) → Sized b l n → Sized b (suc (suc l)) (suc n)
+bare-sized true l n h = omega arith
+bare-sized false l n h = omega arith
+
+typed-sized : (b : Bool) (l n w : ℕ) → 0 < w → Sized b l n → 2 * suc n < suc (suc (w + l))
+typed-sized true l n w p h = omega arith
+typed-sized false l n w p h = omega arith
+
+sized : (ds : Decls) → Sized (anyTyped ds) (length (encodeDecls ds)) (length (namesOf ds))
+unfolding encode
+sized undeclared = omega arith
+sized (bare n ds) = bare-sized (anyTyped ds) (length (encodeDecls ds)) (length (namesOf ds)) (sized ds)
+sized (typed n f ds) = rw length-append (typed-sized (anyTyped ds) (length (encodeDecls ds)) (length (namesOf ds)) (length (encode f)) (some-words f) (sized ds))
+
+pub none-typed : (ds : Decls) → length (encodeDecls ds) ≡ 2 * length (namesOf ds) → anyTyped ds ≡ false
+none-typed ds m = go (anyTyped ds) (sized ds)
+  where
+    go : (b : Bool) → Sized b (length (encodeDecls ds)) (length (namesOf ds)) → b ≡ false
+    go true h = absurd (omega arith)
+    go false h = refl
+
+pub some-typed : (ds : Decls) → (length (encodeDecls ds) ≡ 2 * length (namesOf ds) → ⊥) → anyTyped ds ≡ true
+some-typed ds m = go (anyTyped ds) (sized ds)
+  where
+    go : (b : Bool) → Sized b (length (encodeDecls ds)) (length (namesOf ds)) → b ≡ true
+    go true h = refl
+    go false h = absurd (m h)
+
+module _ (d : ℕ) (row : List ℕ) (u : ℕ) where
+  abbrev R : Sort → List ℕ → Got
+  R s l = decode d s l
+
+  bad-decl : (p : ℕ) (g : GotDecl) (a b : List ℕ) → g ≡ no-decl → ToldDecl p u g a b Bad
+  unfolding ToldDecl
+  bad-decl p g a b e = rw e refl
+
+  pub no-name : (l : List ℕ) → wordAt 0 65535 l ≡ Not → declAt R l ≡ no-decl
+  unfolding wordAt declAt
+  no-name [] e = refl
+  no-name (w ∷ []) e = refl
+  no-name (w ∷ x ∷ l) e = go (between 0 65535 w) e
+    where
+      go : (b : Bool) → pick b (Is w) Not ≡ Not → pick b (byFlag R w x l) no-decl ≡ no-decl
+      go true e = absurd (clash cc)
+      go false e = refl
+
+  pub no-flag : (w : ℕ) (l : List ℕ) → wordAt 0 1 l ≡ Not → declAt R (w ∷ l) ≡ no-decl
+  unfolding wordAt declAt
+  no-flag w [] e = refl
+  no-flag w (zero ∷ l) e = absurd (clash cc)
+  no-flag w (suc zero ∷ l) e = absurd (clash cc)
+  no-flag w (suc (suc x) ∷ l) e = go (between 0 65535 w)
+    where
+      go : (b : Bool) → pick b (byFlag R w (suc (suc x)) l) no-decl ≡ no-decl
+      go true = refl
+      go false = refl
+
+  pub decl-no-name : (p : ℕ) (a b : List ℕ) → wordAt 0 65535 (drop p row) ≡ Not → ToldDecl p u (declAt R (drop p row)) a b Bad
+  decl-no-name p a b e = bad-decl p _ a b (no-name (drop p row) e)
+
+  pub decl-no-flag : (p w : ℕ) (a b : List ℕ) → wordAt 0 65535 (drop p row) ≡ Is w → wordAt 0 1 (drop (p + 1) row) ≡ Not → ToldDecl p u (declAt R (drop p row)) a b Bad
+  decl-no-flag p w a b e f =
+      let (ws, q, k) = word-is 0 65535 (drop p row) w e in
+      bad-decl p _ a b (rw q (no-flag w ws (rw (next-drop row p w ws q) f)))
+
+  -- a name and a flag stand here
+  pub decl-words : (p w x : ℕ) → wordAt 0 65535 (drop p row) ≡ Is w → wordAt 0 1 (drop (p + 1) row) ≡ Is x → declAt R (drop p row) ≡ byFlag R w x (drop (p + 2) row)
+  unfolding declAt
+  decl-words p w x e f =
+      let (ws, q, k) = word-is 0 65535 (drop p row) w e in
+      let (vs, r, j) = word-is 0 1 (drop (p + 1) row) x f in
+      let y : ws ≡ x ∷ vs = next-drop row p w ws q ∙ r in
+      let m : p + 1 + 1 ≡ p + 2 = omega arith in
+      let z : vs ≡ drop (p + 2) row = next-drop row (p + 1) x vs r ∙ ap (λ n. drop n row) m in
+      rw (q, y, k, z)
+
+  pub decl-bare : (p w x : ℕ) (a : List ℕ) → wordAt 0 65535 (drop p row) ≡ Is w → wordAt 0 1 (drop (p + 1) row) ≡ Is x → x ≡ 0 → ToldDecl p u (declAt R (drop p row)) a a (End (p + 2))
+  unfolding ToldDecl
+  decl-bare p w x a e f z = rw (decl-words p w x e f, z) (refl, refl)
+
+  note-told : (p w : ℕ) (g : Got) (a b : List ℕ) (r : Step) → Told (p + 2) u g a b r → ToldDecl p u (noteOf w g) a b r
+  unfolding ToldDecl Told
+  note-told p w (got f l) a b r t = t
+  note-told p w no-form a b r t = t
+
+  pub flag-one : (w x : ℕ) (l : List ℕ) → wordAt 0 1 (x ∷ l) ≡ Is x → (x ≡ 0 → ⊥) → x ≡ 1
+  unfolding wordAt
+  flag-one w zero l e n = absurd (n refl)
+  flag-one w (suc zero) l e n = refl
+  flag-one w (suc (suc x)) l e n = let q = rw (le-leb 0 (suc (suc x)) (omega arith), lt-leb (suc (suc x)) 1 (omega arith)) at e in absurd (clash cc)
+
+  pub decl-typed : (p w x : ℕ) (a b : List ℕ) (r : Step) → wordAt 0 65535 (drop p row) ≡ Is w → wordAt 0 1 (drop (p + 1) row) ≡ Is x → (x ≡ 0 → ⊥)
+      → Told (p + 2) u (decode d expr (drop (p + 2) row)) a b r → ToldDecl p u (declAt R (drop p row)) a b r
+  decl-typed p w x a b r e f n t =
+      let (vs, q, j) = word-is 0 1 (drop (p + 1) row) x f in
+      let z : x ≡ 1 = flag-one w x vs (rw q at f) n in
+      rw (decl-words p w x e f, z) (note-told p w _ a b r t)
+
+  -- several
+  bad-decls : (p : ℕ) (g : GotDecls) (a b : List ℕ) → g ≡ no-decls → ToldDecls p u g a b Bad
+  unfolding ToldDecls
+  bad-decls p g a b e = rw e refl
+
+  decl-bad : (p : ℕ) (g : GotDecl) (a b : List ℕ) (r : Step) → ToldDecl p u g a b r → r ≡ Bad → g ≡ no-decl
+  unfolding ToldDecl
+  decl-bad p (gotBare w x) a b r t e = let z = t .0 in absurd (clash cc)
+  decl-bad p (gotTyped w f x) a b r t e = let z = t .0 in absurd (clash cc)
+  decl-bad p no-decl a b r t e = refl
+
+  put-bare : (p q w : ℕ) (z : GotDecls) (a a′ b : List ℕ) (r : Step) → q ≡ p + 2 → a′ ≡ a → ToldDecls q u z a′ b r → ToldDecls p u (addBare w z) a b r
+  unfolding ToldDecls encode mark
+  put-bare p q w (declared ds y) a a′ b r e m h = (h .0 ∙ ap End (omega arith), rw (e, m) at (h .1))
+  put-bare p q w no-decls a a′ b r e m h = h
+
+  put-typed : (p q w : ℕ) (f : Form) (z : GotDecls) (a a′ b : List ℕ) (r : Step) → q ≡ p + 2 + length (encode f) → a′ ≡ mark f (p + 2) u a → ToldDecls q u z a′ b r
+      → ToldDecls p u (addTyped w f z) a b r
+  unfolding ToldDecls encode mark
+  put-typed p q w f (declared ds y) a a′ b r e m h = (h .0 ∙ ap End (rw length-append (omega arith)), rw (e, m) at (h .1))
+  put-typed p q w f no-decls a a′ b r e m h = h
+
+  add-decls : (p q : ℕ) (g : GotDecl) (k : List ℕ → GotDecls) (a a′ b : List ℕ) (r r′ : Step) → declAt R (drop p row) ≡ g → ToldDecl p u g a a′ r → r ≡ End q
+      → ToldDecls q u (k (drop q row)) a′ b r′ → ToldDecls p u (addDecl g k) a b r′
+  unfolding ToldDecl
+  add-decls p q (gotBare w x) k a a′ b r r′ i t e h =
+      let z : q ≡ p + 2 = cc (t .0) in
+      let y : x ≡ drop q row = bare-at d row p w x i ∙ ap (λ n. drop n row) (sym z) in
+      rw y (put-bare p q w (k (drop q row)) a a′ b r′ z (t .1) h)
+  add-decls p q (gotTyped w f x) k a a′ b r r′ i t e h =
+      let z : q ≡ p + 2 + length (encode f) = cc (t .0) in
+      let y : x ≡ drop q row = typed-at d row p w f x i ∙ ap (λ n. drop n row) (sym z) in
+      rw y (put-typed p q w f (k (drop q row)) a a′ b r′ z (t .1) h)
+  add-decls p q no-decl k a a′ b r r′ i t e h = absurd (clash cc)
+
+  pub decls-more : (n p q : ℕ) (a a′ : List ℕ) (r : Step) → 0 < n → ToldDecl p u (declAt R (drop p row)) a a′ r → r ≡ End q
+      → (b : List ℕ) (r′ : Step) → ToldDecls q u (decls R (n - 1) (drop q row)) a′ b r′ → ToldDecls p u (decls R n (drop p row)) a b r′
+  unfolding decls
+  decls-more zero p q a a′ r h t e b r′ k = absurd (omega arith)
+  decls-more (suc n) p q a a′ r h t e b r′ k = add-decls p q (declAt R (drop p row)) (λ l. decls R n l) a a′ b r r′ refl t e (rw sub-one at k)
+
+  pub decls-stop : (n p : ℕ) (a a′ b : List ℕ) (r : Step) → 0 < n → ToldDecl p u (declAt R (drop p row)) a a′ r → r ≡ Bad → ToldDecls p u (decls R n (drop p row)) a b Bad
+  unfolding decls
+  decls-stop zero p a a′ b r h t e = absurd (omega arith)
+  decls-stop (suc n) p a a′ b r h t e = bad-decls p _ a b (rw (decl-bad p (declAt R (drop p row)) a a′ r t e) refl)
+
+  pub decls-none : (n p : ℕ) (a : List ℕ) → n ≤ 0 → ToldDecls p u (decls R n (drop p row)) a a (End p)
+  unfolding decls ToldDecls encode mark
+  decls-none zero p a h = (ap End (omega arith), refl)
+  decls-none (suc n) p a h = absurd (omega arith)
+
+  pub decl-rises : (p q : ℕ) (g : GotDecl) (a b : List ℕ) (r : Step) → ToldDecl p u g a b r → r ≡ End q → p ≤ q
+  unfolding ToldDecl
+  decl-rises p q (gotBare w x) a b r t e = let z : q ≡ p + 2 = cc (t .0) in omega arith
+  decl-rises p q (gotTyped w f x) a b r t e = let z : q ≡ p + 2 + length (encode f) = cc (t .0) in omega arith
+  decl-rises p q no-decl a b r t e = absurd (clash cc)
+
+  pub decls-rise : (p q : ℕ) (g : GotDecls) (a b : List ℕ) (r : Step) → ToldDecls p u g a b r → r ≡ End q → p ≤ q
+  unfolding ToldDecls
+  decls-rise p q (declared ds x) a b r t e = let z : q ≡ p + length (encodeDecls ds) = cc (t .0) in omega arith
+  decls-rise p q no-decls a b r t e = absurd (clash cc)
+
+  -- and the children after them
+  module _ (p n : ℕ) (k : List ℕ → Gots) (a a′ b : List ℕ) (r : Step) (t : ToldDecls p u (decls R n (drop p row)) a a′ r) where
+    pub noted-stop : r ≡ Bad → ToldNoted p u (decls R n (drop p row)) k a b Bad
+    unfolding ToldNoted ToldDecls
+    noted-stop e = go (decls R n (drop p row)) t
+      where
+        go : (g : GotDecls) → ToldDecls p u g a a′ r → ToldNoted p u g k a b Bad
+        go (declared ds x) t = let z = t .0 in absurd (clash cc)
+        go no-decls t = refl
+
+    pub noted-bare : (q : ℕ) → r ≡ End q → q - p ≡ 2 * n → ToldNoted p u (decls R n (drop p row)) k a b Bad
+    unfolding ToldNoted ToldDecls
+    noted-bare q e l = go (decls R n (drop p row)) refl t
+      where
+        go : (g : GotDecls) → decls R n (drop p row) ≡ g → ToldDecls p u g a a′ r → ToldNoted p u g k a b Bad
+        go (declared ds x) i t =
+            let z : q ≡ p + length (encodeDecls ds) = cc (t .0) in
+            let (c, v, w) = decls-sound d n (drop p row) ds x i in
+            rw (none-typed ds (omega arith)) refl
+        go no-decls i t = refl
+
+    pub noted-go : (q : ℕ) (r′ : Step) → r ≡ End q → (q - p ≡ 2 * n → ⊥) → ToldAll q (u + n) (k (drop q row)) a′ b r′ → ToldNoted p u (decls R n (drop p row)) k a b r′
+    unfolding ToldNoted ToldDecls
+    noted-go q r′ e l h = go (decls R n (drop p row)) refl t
+      where
+        go : (g : GotDecls) → decls R n (drop p row) ≡ g → ToldDecls p u g a a′ r → ToldNoted p u g k a b r′
+        go (declared ds x) i t =
+            let z : q ≡ p + length (encodeDecls ds) = cc (t .0) in
+            let (c, v, w) = decls-sound d n (drop p row) ds x i in
+            let y : x ≡ drop q row = decls-at d n row p ds x i ∙ ap (λ n. drop n row) (sym z) in
+            rw (some-typed ds (λ m. l (omega arith)), ← z, y, ← t .1, w) h
+        go no-decls i t = absurd (clash cc)

@@ -28,6 +28,8 @@ fn is_known(shape: Shape) -> bool
         Shape::Apply => true,
         Shape::Compr => true,
         Shape::Quant => true,
+        Shape::NotedCompr => true,
+        Shape::NotedQuant => true,
     }
 }
 

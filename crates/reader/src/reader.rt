@@ -3,6 +3,8 @@
 use form::answer::Limit;
 use form::head::Head;
 use form::head::Step;
+use form::head::Word;
+use form::head::asked;
 use form::head::expr_head;
 use form::head::is_leaf;
 use form::head::pred_head;
@@ -11,9 +13,9 @@ ghost use Prim.Native.Nat.{_+_, _*_, _^_, _<_};
 ghost use lib.ListN.{drop, set, replicate};
 ghost use Rattle.tree.specs.Form.{pick};
 ghost use Rattle.tree.specs.Tag.{expr, pred, sorts};
-ghost use Rattle.form.specs.Decode.{decode, decodeAll};
+ghost use Rattle.form.specs.Decode.{decode, decodeAll, declAt, decls};
 ghost use Rattle.form.specs.Internal.Heads.{startsLeaf};
-ghost use Rattle.reader.specs.Internal.Reads.{markTag, Told, ToldAll, decodeIn};
+ghost use Rattle.reader.specs.Internal.Reads.{markTag, Told, ToldAll, ToldDecl, ToldDecls, ToldNoted, decodeIn};
 ghost use Rattle.form.specs.declared.head.Step.the-variants.{End, Bad};
 
 // Stores a mark, where there is room.
@@ -64,11 +66,24 @@ pub(crate) fn mark_expr(row: &[u32], marks: &mut [u32], at: usize, depth: u32, u
         return Step::Bad;
     }
     let tag = row[at];
-    let Head::Kids(p, preds, exprs, binds) = expr_head(row, at + 1, tag) else {
-        return Step::Bad;
-    };
-    mark_tag(marks, at, tag, under);
-    mark_kids(row, marks, p, preds, exprs, depth - 1, under + binds)
+    let head = expr_head(row, at + 1, tag);
+    match head {
+        Head::Kids(p, preds, exprs, binds) => {
+            mark_tag(marks, at, tag, under);
+            mark_kids(row, marks, p, preds, exprs, depth - 1, under + binds)
+        }
+        Head::Noted(p, preds, exprs, binds) => mark_noted(
+            row,
+            marks,
+            p,
+            preds,
+            exprs,
+            binds,
+            depth - 1,
+            under,
+        ),
+        Head::None => Step::Bad,
+    }
 }
 
 // A predicate at `at`, under so many open declarations.
@@ -83,11 +98,84 @@ pub(crate) fn mark_pred(row: &[u32], marks: &mut [u32], at: usize, depth: u32, u
         return Step::Bad;
     }
     let tag = row[at];
-    let Head::Kids(p, preds, exprs, binds) = pred_head(row, at + 1, tag) else {
+    let head = pred_head(row, at + 1, tag);
+    match head {
+        Head::Kids(p, preds, exprs, binds) => {
+            mark_tag(marks, at, tag, under);
+            mark_kids(row, marks, p, preds, exprs, depth - 1, under + binds)
+        }
+        Head::Noted(p, preds, exprs, binds) => mark_noted(
+            row,
+            marks,
+            p,
+            preds,
+            exprs,
+            binds,
+            depth - 1,
+            under,
+        ),
+        Head::None => Step::Bad,
+    }
+}
+
+// A declaration with its flag at `at`: a name and 0, or a name, 1 and an annotation.
+fn mark_decl(row: &[u32], marks: &mut [u32], at: usize, depth: u32, under: u32) -> Step
+    requires { ⌜ under + 32 * depth < 2 ^ 32 ⌝ }
+    ensures { λ r. ⌜ ToldDecl at under (declAt (λ s l. decode depth s l) (drop at (now (row .entry)))) (now (marks .entry)) (now (marks .exit)) r ⌝ }
+{
+    let Word::Is(w) = asked(row, at, 0, Limit::NAME) else {
         return Step::Bad;
     };
-    mark_tag(marks, at, tag, under);
-    mark_kids(row, marks, p, preds, exprs, depth - 1, under + binds)
+    let Word::Is(flag) = asked(row, at + 1, 0, 1) else {
+        return Step::Bad;
+    };
+    if flag == 0 {
+        return Step::End(at + 2);
+    }
+    mark_child(row, marks, at + 2, depth, under)
+}
+
+// n declarations with flags; their annotations stand under the declarations that are open round them.
+fn mark_decls(row: &[u32], marks: &mut [u32], at: usize, n: u32, depth: u32, under: u32) -> Step
+    requires { ⌜ under + 32 * depth < 2 ^ 32 ⌝ }
+    ensures { λ r. ⌜ ToldDecls at under (decls (λ s l. decode depth s l) n (drop at (now (row .entry)))) (now (marks .entry)) (now (marks .exit)) r ⌝ }
+{
+    let mut p = at;
+    let mut left = n;
+    while 0 < left {
+        let Step::End(q) = mark_decl(row, marks, p, depth, under) else {
+            return Step::Bad;
+        };
+        p = q;
+        left -= 1;
+    }
+    Step::End(p)
+}
+
+// Declarations with flags, one of which at least has an annotation, and the children under them.
+fn mark_noted(
+    row: &[u32],
+    marks: &mut [u32],
+    at: usize,
+    preds: u32,
+    exprs: u32,
+    binds: u32,
+    depth: u32,
+    under: u32,
+) -> Step
+    requires { ⌜ under + binds + 32 * depth < 2 ^ 32 ⌝ }
+    ensures { λ r. ⌜ ToldNoted at under (decls (λ s l. decode depth s l) binds (drop at (now (row .entry)))) (λ l. decodeAll (λ s l. decode depth s l) (sorts preds exprs) l) (now (marks .entry)) (now (marks .exit)) r ⌝ }
+{
+    let Step::End(p) = mark_decls(row, marks, at, binds, depth, under) else {
+        return Step::Bad;
+    };
+    if p - at == 2 * (binds as usize) {
+        return Step::Bad;
+    }
+    let Step::End(q) = mark_preds(row, marks, p, preds, depth, under + binds) else {
+        return Step::Bad;
+    };
+    mark_exprs(row, marks, q, exprs, depth, under + binds)
 }
 
 // So many predicates, then so many expressions.

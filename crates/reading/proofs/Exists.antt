@@ -3,17 +3,20 @@
 use mathlib.Core.Path.{_≡_, refl, ap, _∙_, sym, fun-ext}
 use mathlib.Core.List.{List, [], _∷_, _++_, map, flatMap, map-append}
 use mathlib.Core.Bool.{Bool, true, false, not, _&&_, _||_, or-assoc, or-false, and-false, and-true, and-assoc, Bool·not-not}
-use Prim.Native.Nat.{ℕ, suc, _+_}
+use Prim.Native.Nat.{ℕ, _+_, _-_}
+use mathlib.Core.Option.{Option, none as absent, some as given}
 use native.Mathlib.Nat.{zero-add}
 use native.Mathlib.Omega.{arith}
 use borrow.Author.Tests.{eqb-true, not-false}
 use lib.Dec.{eqb}
 use lib.IntN.{ℤ}
 use lib.ListN.{length}
-use Rattle.tree.specs.Form.{Form, leaf, node, none, more, pick}
+use Rattle.tree.specs.Form.{Form, leaf, node, noted, Decls, undeclared, bare, typed, namesOf, none, more, pick}
 use Rattle.form.proofs.DecodeLaws.{clash}
-use Rattle.rules.specs.Fill.{Quantified, quantifier, other, quantified, quantify}
-use Rattle.rules.specs.Partial.{joinWith, putRound}
+use Rattle.rules.specs.Fill.{Decl, nameOf, unnoted, listed, declare, unlisted, anyNoted, Quantified, quantifier, other, quantified, quantify}
+use Rattle.rules.specs.Partial.{onNote, clear, joinWith, putRound}
+use Rattle.rules.specs.Shift.{lower}
+use Rattle.rules.proofs.WalkLaws.{and-left}
 use Rattle.reading.specs.Reading.{Reading, truth, same, child, valueOf, every, some, Env, cons, over, value}
 use Rattle.reading.specs.Premise.{has, push}
 use Rattle.reading.proofs.Same.{truth-bit, same-equal}
@@ -163,10 +166,47 @@ node-truth false R ρ o ns f =
     truth-bit _
     ∙ ap every (map-over (λ vs. truth (child 0 vs)) (R .range) (λ η. value R η f ∷ []) ns ρ) ∙ every-over (R .range) (λ η. truth (value R η f)) ns ρ
 
-pub quantify-truth : (b : Bool) (R : Reading) (ρ : Env) (ns : List ℕ) (f : Form)
-    → truth (value R ρ (quantify (tagOf b) ns f)) ≡ asks b R ρ ns (λ θ. truth (value R θ f))
+pub noted-truth : (b : Bool) (R : Reading) (ρ : Env) (o : List ℕ) (ds : Decls) (f : Form)
+    → truth (value R ρ (noted (tagOf b + 10) o ds (more f none))) ≡ asks b R ρ (namesOf ds) (λ θ. truth (value R θ f))
+unfolding value valueOf
+noted-truth true R ρ o ds f =
+    truth-bit _
+    ∙ ap some (map-over (λ vs. truth (child 0 vs)) (R .range) (λ η. value R η f ∷ []) (namesOf ds) ρ) ∙ some-over (R .range) (λ η. truth (value R η f)) (namesOf ds) ρ
+noted-truth false R ρ o ds f =
+    truth-bit _
+    ∙ ap every (map-over (λ vs. truth (child 0 vs)) (R .range) (λ η. value R η f ∷ []) (namesOf ds) ρ) ∙ every-over (R .range) (λ η. truth (value R η f)) (namesOf ds) ρ
+
+-- names, whatever the annotations
+names-declare : (n : ℕ) (x : Option Form) (ds : Decls) → namesOf (declare n x ds) ≡ n ∷ namesOf ds
+names-declare n absent ds = refl
+names-declare n (given f) ds = refl
+
+names-unlisted : (ds : List Decl) → namesOf (unlisted ds) ≡ map nameOf ds
+names-unlisted [] = refl
+names-unlisted (d ∷ ds) = names-declare (d .0) (d .1) (unlisted ds) ∙ ap (λ z. d .0 ∷ z) (names-unlisted ds)
+
+names-listed : (ds : Decls) → map nameOf (listed ds) ≡ namesOf ds
+names-listed undeclared = refl
+names-listed (bare n ds) = ap (λ z. n ∷ z) (names-listed ds)
+names-listed (typed n f ds) = ap (λ z. n ∷ z) (names-listed ds)
+
+names-plain : (ns : List ℕ) → map nameOf (map unnoted ns) ≡ ns
+names-plain [] = refl
+names-plain (n ∷ ns) = ap (λ z. n ∷ z) (names-plain ns)
+
+pub names-noted : (h : Form → Form) (ds : List Decl) → map nameOf (map (onNote h) ds) ≡ map nameOf ds
+names-noted h [] = refl
+names-noted h (d ∷ ds) = ap (λ z. d .0 ∷ z) (names-noted h ds)
+
+around-truth : (b : Bool) (R : Reading) (ρ : Env) (ds : List Decl) (f : Form) (z : Bool)
+    → truth (value R ρ (pick z (noted (tagOf b + 10) (length ds ∷ []) (unlisted ds) (more f none)) (node (tagOf b) (length ds ∷ []) (map nameOf ds) (more f none)))) ≡ asks b R ρ (map nameOf ds) (λ θ. truth (value R θ f))
+around-truth b R ρ ds f true = rw (names-unlisted ds) at (noted-truth b R ρ (length ds ∷ []) (unlisted ds) f)
+around-truth b R ρ ds f false = node-truth b R ρ (length ds ∷ []) (map nameOf ds) f
+
+pub quantify-truth : (b : Bool) (R : Reading) (ρ : Env) (ds : List Decl) (f : Form)
+    → truth (value R ρ (quantify (tagOf b) ds f)) ≡ asks b R ρ (map nameOf ds) (λ θ. truth (value R θ f))
 quantify-truth b R ρ [] f = sym (turn-twice b (truth (value R ρ f)))
-quantify-truth b R ρ (n ∷ ns) f = node-truth b R ρ (suc (length ns) ∷ []) (n ∷ ns) f
+quantify-truth b R ρ (d ∷ ds) f = around-truth b R ρ (d ∷ ds) f (anyNoted (d ∷ ds))
 
 -- declarations of two quantifiers with one operator ask as those of one
 asks-append : (b : Bool) (R : Reading) (ρ : Env) (ns ds : List ℕ) (g : Env → Bool) → asks b R ρ (ns ++ ds) g ≡ asks b R ρ ns (λ η. asks b R η ds g)
@@ -175,46 +215,78 @@ asks-append b R ρ ns ds g =
     (exOver-append (R .range) ns ds ρ (λ θ. turn b (g θ))
     ∙ ap (λ k. exOver (R .range) ns ρ k) (fun-ext (λ η. sym (turn-twice b (exOver (R .range) ds η (λ θ. turn b (g θ)))))))
 
--- a quantified predicate is a node of its tag
-pub quantified-node : (g : Form) (t : ℕ) (ds : List ℕ) (f : Form) → quantified g ≡ quantifier t ds f
-    → (o : List ℕ) × (g ≡ node t o ds (more f none)) × ((eqb t 851 || eqb t 852) ≡ true)
+-- a quantified predicate asks that of its body
+noted-tag : (u : ℕ) (x y : Bool) → eqb u 861 ≡ x → eqb u 862 ≡ y → (x || y) ≡ true → (u ≡ u - 10 + 10) × ((eqb (u - 10) 851 || eqb (u - 10) 852) ≡ true)
+noted-tag u true y p q h = let e = eqb-true u 861 p in rw e (refl, refl)
+noted-tag u false true p q h = let e = eqb-true u 862 q in rw e (refl, refl)
+noted-tag u false false p q h = absurd (clash cc)
+
+pub quantified-tag : (g : Form) (t : ℕ) (ds : List Decl) (f : Form) → quantified g ≡ quantifier t ds f → (eqb t 851 || eqb t 852) ≡ true
 unfolding quantified
-quantified-node (leaf x) t ds f q = absurd (clash cc)
-quantified-node (node u o es none) t ds f q = absurd (clash cc)
-quantified-node (node u o es (more h none)) t ds f q = by (eqb u 851 || eqb u 852) refl q
+quantified-tag (leaf x) t ds f q = absurd (clash cc)
+quantified-tag (node u o es none) t ds f q = absurd (clash cc)
+quantified-tag (node u o es (more h none)) t ds f q = by (eqb u 851 || eqb u 852) refl q
   where
-    by : (z : Bool) → (eqb u 851 || eqb u 852) ≡ z → pick z (quantifier u es h) other ≡ quantifier t ds f
-        → (p : List ℕ) × (node u o es (more h none) ≡ node t p ds (more f none)) × ((eqb t 851 || eqb t 852) ≡ true)
-    by true e k =
-        let a : u ≡ t = cc in
-        let b : es ≡ ds = cc in
-        let c : h ≡ f = cc in
-        (o, rw (a, b, c), rw a at e)
+    by : (z : Bool) → (eqb u 851 || eqb u 852) ≡ z → pick z (quantifier u (map unnoted es) h) other ≡ quantifier t ds f → (eqb t 851 || eqb t 852) ≡ true
+    by true e k = let a : u ≡ t = cc in rw a at e
     by false e k = absurd (clash cc)
-quantified-node (node u o es (more h (more k ks))) t ds f q = absurd (clash cc)
+quantified-tag (node u o es (more h (more k ks))) t ds f q = absurd (clash cc)
+quantified-tag (noted u o es none) t ds f q = absurd (clash cc)
+quantified-tag (noted u o es (more h none)) t ds f q = by (eqb u 861 || eqb u 862) refl q
+  where
+    by : (z : Bool) → (eqb u 861 || eqb u 862) ≡ z → pick z (quantifier (u - 10) (listed es) h) other ≡ quantifier t ds f → (eqb t 851 || eqb t 852) ≡ true
+    by true e k = let a : u - 10 ≡ t = cc in rw a at (noted-tag u (eqb u 861) (eqb u 862) refl refl e .1)
+    by false e k = absurd (clash cc)
+quantified-tag (noted u o es (more h (more k ks))) t ds f q = absurd (clash cc)
+
+pub quantified-truth : (b : Bool) (R : Reading) (ρ : Env) (g : Form) (t : ℕ) (ds : List Decl) (f : Form) → t ≡ tagOf b → quantified g ≡ quantifier t ds f
+    → truth (value R ρ g) ≡ asks b R ρ (map nameOf ds) (λ θ. truth (value R θ f))
+unfolding quantified
+quantified-truth b R ρ (leaf x) t ds f r q = absurd (clash cc)
+quantified-truth b R ρ (node u o es none) t ds f r q = absurd (clash cc)
+quantified-truth b R ρ (node u o es (more h none)) t ds f r q = by (eqb u 851 || eqb u 852) refl q
+  where
+    by : (z : Bool) → (eqb u 851 || eqb u 852) ≡ z → pick z (quantifier u (map unnoted es) h) other ≡ quantifier t ds f
+        → truth (value R ρ (node u o es (more h none))) ≡ asks b R ρ (map nameOf ds) (λ θ. truth (value R θ f))
+    by true e k =
+        let a : u ≡ tagOf b = cc in
+        let c : map unnoted es ≡ ds = cc in
+        let d : h ≡ f = cc in
+        rw (a, ← c, names-plain es, d) (node-truth b R ρ o es f)
+    by false e k = absurd (clash cc)
+quantified-truth b R ρ (node u o es (more h (more k ks))) t ds f r q = absurd (clash cc)
+quantified-truth b R ρ (noted u o es none) t ds f r q = absurd (clash cc)
+quantified-truth b R ρ (noted u o es (more h none)) t ds f r q = by (eqb u 861 || eqb u 862) refl q
+  where
+    by : (z : Bool) → (eqb u 861 || eqb u 862) ≡ z → pick z (quantifier (u - 10) (listed es) h) other ≡ quantifier t ds f
+        → truth (value R ρ (noted u o es (more h none))) ≡ asks b R ρ (map nameOf ds) (λ θ. truth (value R θ f))
+    by true e k =
+        let v : u - 10 ≡ tagOf b = cc in
+        let a : u ≡ tagOf b + 10 = noted-tag u (eqb u 861) (eqb u 862) refl refl e .0 ∙ ap (λ z. z + 10) v in
+        let c : listed es ≡ ds = cc in
+        let d : h ≡ f = cc in
+        rw (a, ← c, names-listed es, d) (noted-truth b R ρ o es f)
+    by false e k = absurd (clash cc)
+quantified-truth b R ρ (noted u o es (more h (more k ks))) t ds f r q = absurd (clash cc)
 
 -- declarations put round a form
-module _ (b : Bool) (R : Reading) (ρ : Env) (ns : List ℕ) (g : Form) where
-  join-truth : (q : Quantified) → quantified g ≡ q → truth (value R ρ (joinWith (tagOf b) ns g q)) ≡ asks b R ρ ns (λ θ. truth (value R θ g))
+module _ (b : Bool) (R : Reading) (ρ : Env) (ns : List Decl) (g : Form) where
+  join-truth : (q : Quantified) → quantified g ≡ q → truth (value R ρ (joinWith (tagOf b) ns g q)) ≡ asks b R ρ (map nameOf ns) (λ θ. truth (value R θ g))
   join-truth other e = quantify-truth b R ρ ns g
-  join-truth (quantifier u ds f) e = by (eqb u (tagOf b)) refl
+  join-truth (quantifier u ds f) e = by (eqb u (tagOf b) && clear (length ns) ds) refl
     where
-      joined : u ≡ tagOf b → (o : List ℕ) → g ≡ node u o ds (more f none)
-          → truth (value R ρ (quantify (tagOf b) (ns ++ ds) f)) ≡ asks b R ρ ns (λ θ. truth (value R θ g))
-      joined z o e =
-          rw (e, z)
-          (quantify-truth b R ρ (ns ++ ds) f
-          ∙ asks-append b R ρ ns ds (λ θ. truth (value R θ f)) ∙ ap (λ k. asks b R ρ ns k) (fun-ext (λ η. sym (node-truth b R η o ds f))))
-
-      by : (z : Bool) → eqb u (tagOf b) ≡ z
-          → truth (value R ρ (pick z (quantify (tagOf b) (ns ++ ds) f) (quantify (tagOf b) ns g))) ≡ asks b R ρ ns (λ θ. truth (value R θ g))
+      by : (z : Bool) → (eqb u (tagOf b) && clear (length ns) ds) ≡ z
+          → truth (value R ρ (pick z (quantify (tagOf b) (ns ++ map (onNote (lower (length ns))) ds) f) (quantify (tagOf b) ns g))) ≡ asks b R ρ (map nameOf ns) (λ θ. truth (value R θ g))
       by true z =
-          let (o, q, h) = quantified-node g u ds f e in
-          joined (eqb-true u (tagOf b) z) o q
+          let t : u ≡ tagOf b = eqb-true u (tagOf b) (and-left (eqb u (tagOf b)) (clear (length ns) ds) z) in
+          quantify-truth b R ρ (ns ++ map (onNote (lower (length ns))) ds) f
+          ∙ rw (map-append nameOf ns (map (onNote (lower (length ns))) ds), names-noted (lower (length ns)) ds)
+          (asks-append b R ρ (map nameOf ns) (map nameOf ds) (λ θ. truth (value R θ f))
+          ∙ ap (λ k. asks b R ρ (map nameOf ns) k) (fun-ext (λ η. sym (quantified-truth b R η g u ds f t e))))
       by false z = quantify-truth b R ρ ns g
 
-pub putRound-truth : (b : Bool) (R : Reading) (ρ : Env) (ns : List ℕ) (g : Form)
-    → truth (value R ρ (putRound (tagOf b) ns g)) ≡ asks b R ρ ns (λ θ. truth (value R θ g))
+pub putRound-truth : (b : Bool) (R : Reading) (ρ : Env) (ns : List Decl) (g : Form)
+    → truth (value R ρ (putRound (tagOf b) ns g)) ≡ asks b R ρ (map nameOf ns) (λ θ. truth (value R θ g))
 unfolding putRound
 putRound-truth b R ρ [] g = quantify-truth b R ρ [] g
 putRound-truth b R ρ (n ∷ ns) g = join-truth b R ρ (n ∷ ns) g (quantified g) refl

@@ -12,7 +12,7 @@ use Rattle.tree.specs.Form.{bound, Form, leaf}
 use Rattle.form.specs.Lists.{kept, filled}
 use Rattle.rules.specs.Walk.{Outer, named, dangling, walk, up, lift, put, subst}
 use Rattle.rules.specs.Shift.{reaches, fall, lower}
-use Rattle.rules.specs.Fill.{keptCount, keptNames, fillIndex, fillFor}
+use Rattle.rules.specs.Fill.{Decl, keptCount, keptDecls, fillIndex, fillFor}
 use Rattle.rules.proofs.WalkLaws.{binding-add, self, undo}
 use Rattle.rules.specs.Replacement.{above}
 use Rattle.rules.proofs.FrontLaws.{reverse-kept}
@@ -43,9 +43,9 @@ keptCount-kept : (n : ℕ) → keptCount (replicate n kept) ≡ n
 keptCount-kept zero = refl
 keptCount-kept (suc n) = ap suc (keptCount-kept n)
 
-pub keptNames-kept : (ns : List ℕ) → keptNames (replicate (length ns) kept) ns ≡ ns
-keptNames-kept [] = refl
-keptNames-kept (n ∷ ns) = ap (λ z. n ∷ z) (keptNames-kept ns)
+pub keptDecls-kept : (ns : List Decl) → keptDecls (replicate (length ns) kept) ns ≡ ns
+keptDecls-kept [] = refl
+keptDecls-kept (n ∷ ns) = ap (λ z. n ∷ z) (keptDecls-kept ns)
 
 -- the filled form under the values c of what is kept: the form, with the replacement's value put in
 module _ (R : Reading) (e : Form) (η : Env) (c : List ℤ) where

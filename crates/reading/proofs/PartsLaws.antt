@@ -6,7 +6,7 @@ use Prim.Native.Nat.{ℕ}
 use borrow.Author.Tests.{eqb-true}
 use lib.Dec.{eqb}
 use lib.IntN.{ℤ}
-use Rattle.tree.specs.Form.{Form, leaf, node, Forms, none, more, pick}
+use Rattle.tree.specs.Form.{Form, leaf, node, noted, Forms, none, more, pick}
 use Rattle.rules.specs.Split.{isTwo, isNil, isPair, parts, partsAll}
 use Rattle.rules.proofs.WalkLaws.{and-left, and-right}
 use Rattle.reading.specs.Reading.{Reading, truth, same, valueOf, Env, value, values}
@@ -85,6 +85,8 @@ module _ (R : Reading) (θ : Env) where
     pub parts-value : (l r : Form) → allSame (parts l r) ≡ same (value R θ l) (value R θ r)
     parts-value (leaf x) r = and-true _
     parts-value (node t o ds ks) (leaf y) = and-true _
+    parts-value (node t o ds ks) (noted u p es js) = and-true _
+    parts-value (noted t o ds ks) r = and-true _
     parts-value (node t o ds ks) (node u p es js) =
         split-pair t u o p ds es ks js (partsAll ks js) (partsAll-value ks js) (isPair t ds ks && isPair u es js) refl
 

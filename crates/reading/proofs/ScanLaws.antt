@@ -9,7 +9,7 @@ use borrow.Author.Tests.{eqb-true}
 use lib.Dec.{ltb, eqb}
 use lib.IntN.{ℤ}
 use lib.ListN.{getD}
-use Rattle.tree.specs.Form.{free, bound, Form, leaf, node, Forms, none, more, pick, count}
+use Rattle.tree.specs.Form.{free, bound, Form, leaf, node, noted, Forms, none, more, pick, count}
 use Rattle.rules.specs.Replacement.{left, right, offer, indexOf, offerOf, above, Taken, taken, nothing, allowed, ofOffer, accept}
 use Rattle.rules.specs.Split.{parts, equal}
 use Rattle.rules.specs.Scan.{Scan, scanned, Scans, scans, negate, present, joined, implies, copied, offerPart, offerParts, copies, follow, with}
@@ -156,6 +156,7 @@ module _ (R : Reading) (θ : Env) (n : ℕ) where
 
   negate-value : (f : Form) → truth (value R θ (negate f)) ≡ not (truth (value R θ f))
   negate-value (leaf x) = not-value [] (leaf x) none
+  negate-value (noted t o ds ks) = not-value [] (noted t o ds ks) none
   negate-value (node t o ds none) = not-value [] (node t o ds none) none
   negate-value (node t o [] (more f fs)) = negate-node t o f fs (eqb t 8) refl
   negate-value (node t o (d ∷ ds) (more f fs)) = not-value [] (node t o (d ∷ ds) (more f fs)) none
@@ -213,6 +214,7 @@ module _ (R : Reading) (θ : Env) (n : ℕ) where
       let z : j ≡ i = cc in
       ap θ z
   index-value (node t o ds ks) i q = cc
+  index-value (noted t o ds ks) i q = cc
 
   right-fair : (l r : Form) (i : ℕ) → indexOf l ≡ some i → Fair l r (allowed n i r)
   right-fair l r i q = allowed-fair l r i r (rw (index-value l i q))

@@ -8,7 +8,7 @@ use native.Mathlib.Omega.{arith}
 use borrow.Author.Tests.{eqb-true}
 use lib.Dec.{eqb}
 use lib.ListN.{getD}
-use Rattle.tree.specs.Form.{Form, leaf, node, Forms, none, more, pick, count}
+use Rattle.tree.specs.Form.{Form, leaf, node, noted, Forms, none, more, pick, count}
 use Rattle.form.proofs.DecodeLaws.{clash}
 use Rattle.rules.proofs.WalkLaws.{and-left}
 use Rattle.rules.specs.Split.{ofTwo, isTwo, parts}
@@ -99,6 +99,7 @@ module _ (R : Reading) (θ : Env) (n : ℕ) where
 
     pub scan-tied : (f : Form) (b : Bool) → Tied R θ n b f (scan n b f)
     scan-tied (leaf x) b = refl
+    scan-tied (noted t o ds ks) b = refl
     scan-tied (node t o ds ks) b = node-tied b t o ds ks (children-tied ks)
 
     children-tied : (ks : Forms) → Children ks

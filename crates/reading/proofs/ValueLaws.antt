@@ -6,10 +6,10 @@ use native.Mathlib.Nat.{zero-add, add-comm}
 use native.Mathlib.Omega.{arith}
 use lib.IntN.{ℤ}
 use lib.ListN.{length}
-use Rattle.tree.specs.Form.{Leaf, free, bound, Form, leaf, node, Forms, none, more}
+use Rattle.tree.specs.Form.{Leaf, free, bound, Form, leaf, node, noted, namesOf, Forms, none, more}
 use Rattle.rules.specs.Walk.{Binding, inside, outside, binding, Outer, named, dangling, walkIndex, walkLeaf, walk, walkAll, up, lift, put, subst}
-use Rattle.rules.proofs.WalkLaws.{binding-add}
-use Rattle.reading.specs.Reading.{Reading, valueOf, Env, over, value, values}
+use Rattle.rules.proofs.WalkLaws.{binding-add, walk-names}
+use Rattle.reading.specs.Reading.{Reading, plainTag, valueOf, Env, over, value, values}
 use Rattle.reading.specs.Premise.{push}
 
 abbrev pub outerValue : Reading → Env → Outer → ℤ
@@ -59,6 +59,11 @@ module _ (R : Reading) (act : ℕ → Outer → Form) (ρ η : Env)
         ap (λ z. valueOf R t o ds z)
         (over-same (R .range) ds η ρ (λ θ. values R θ (walkAll act (length ds + k) ks)) (λ θ. values R θ ks) c
         (λ b q. keepAll ks b (length ds + k) (omega arith)))
+    keep (noted t o ds ks) c k e =
+        rw (walk-names act k ds)
+        (ap (λ z. valueOf R (plainTag t) o (namesOf ds) z)
+        (over-same (R .range) (namesOf ds) η ρ (λ θ. values R θ (walkAll act (length (namesOf ds) + k) ks)) (λ θ. values R θ ks) c
+        (λ b q. keepAll ks b (length (namesOf ds) + k) (omega arith))))
 
     keepAll : (fs : Forms) (c : List ℤ) (k : ℕ) → length c ≡ k → values R (push c η) (walkAll act k fs) ≡ values R (push c ρ) fs
     keepAll none c k e = refl

@@ -8,7 +8,7 @@ use Prim.Native.Nat.{ℕ, zero, suc, _+_}
 use native.Mathlib.Omega.{arith}
 use lib.Dec.{eqb}
 use lib.IntN.{ℤ, pos, negsuc}
-use Rattle.tree.specs.Form.{free, bound, Form, leaf, node, Forms, none, more, pick}
+use Rattle.tree.specs.Form.{free, bound, Form, leaf, node, noted, undeclared, bare, typed, Forms, none, more, pick}
 use Rattle.rules.specs.Walk.{walk, collect}
 use Rattle.rules.specs.Fill.{quantified, fill}
 use Rattle.rules.specs.Replacement.{accept}
@@ -101,6 +101,31 @@ worked-true = refl
 
 pub worked-kept : holds several workedReduced ≡ true
 worked-kept = sym (point-keeps-truth several worked workedReduced worked-taken worked-premise) ∙ worked-true
+
+-- [862 2 4 0 5 1 [1 8] [351 2 [101 [2 0] [2 1]] [862 1 6 1 [2 2] [101 [2 0] [2 1]]]]]: the annotation of 5 goes with it, that of 6 mentions
+-- nothing in front and is shifted down by the one declaration that joins
+abbrev annotated : Form
+annotated =
+    noted 862 (2 ∷ []) (bare 4 (typed 5 (leaf (free 8)) undeclared))
+    (one (node 351 (2 ∷ []) [] (more (equal (index 0) (index 1)) (one (noted 862 (1 ∷ []) (typed 6 (index 2) undeclared) (one (equal (index 0) (index 1))))))))
+
+abbrev annotatedReduced : Form
+annotatedReduced = noted 862 (2 ∷ []) (bare 4 (typed 6 (index 0) undeclared)) (one (equal (index 0) (index 1)))
+
+pub annotated-taken : onePoint annotated ≡ some annotatedReduced
+unfolding onePoint quantified scan offerParts accept parts instantiatePartial putRound fill walk collect
+annotated-taken = refl
+
+pub annotated-premise : premise several annotated ≡ true
+unfolding quantified scan offerParts accept parts collect value flatMap
+annotated-premise = refl
+
+pub annotated-true : holds several annotated ≡ true
+unfolding value valueOf flatMap
+annotated-true = refl
+
+pub annotated-kept : holds several annotatedReduced ≡ true
+annotated-kept = sym (point-keeps-truth several annotated annotatedReduced annotated-taken annotated-premise) ∙ annotated-true
 
 -- [852 1 4 [101 [2 0] [1 7]]] becomes [610]: with 7 outside the range of 4 it was false
 abbrev outside : Form

@@ -5,7 +5,7 @@ use Prim.Native.Nat.{ℕ, suc, _-_}
 use lib.IntN.{ℤ, pos}
 use lib.ListN.{length, take, getD, replicate}
 use Rattle.tree.specs.Form.{Form}
-use Rattle.rules.specs.Fill.{quantifier, other, quantified}
+use Rattle.rules.specs.Fill.{nameOf, quantifier, other, quantified}
 use Rattle.rules.specs.Replacement.{taken, nothing}
 use Rattle.rules.specs.Scan.{Scan, scanned, scan}
 use Rattle.rules.specs.Point.{polarity}
@@ -35,4 +35,4 @@ premiseOf R ns (scanned nothing g) = true
 
 abbrev pub premise : Reading → Form → Bool
 premise R f =
-    elim (quantified f) [ quantifier t ns g ↦ premiseOf R ns (scan (length ns) (polarity t) g) | other ↦ true ]
+    elim (quantified f) [ quantifier t ds g ↦ premiseOf R (map nameOf ds) (scan (length ds) (polarity t) g) | other ↦ true ]

@@ -2,11 +2,11 @@
 use mathlib.Core.Path.{_≡_}
 use mathlib.Core.Bool.{Bool, true, false, not, _&&_, _||_}
 use mathlib.Core.List.{List, [], _∷_, foldr, map, flatMap}
-use Prim.Native.Nat.{ℕ, zero, suc}
-use lib.Dec.{eqb}
+use Prim.Native.Nat.{ℕ, zero, suc, _-_}
+use lib.Dec.{eqb, leb}
 use lib.IntN.{ℤ, pos, negsuc}
 use lib.ListN.{getD}
-use Rattle.tree.specs.Form.{free, bound, Form, leaf, node, Forms, none, more, pick, between}
+use Rattle.tree.specs.Form.{free, bound, Form, leaf, node, noted, namesOf, Forms, none, more, pick, between}
 
 -- a reading: numbers for names and dangling indices, a range for each declared name, and a fixed function for every tag without a meaning
 -- of its own. A node's function sees its tag, own words, declared names and children's values; two pairs are equal only if both parts are.
@@ -88,11 +88,16 @@ abbrev pub over : {A : Type 0} → (ℕ → List ℤ) → List ℕ → Env → (
 over r [] ρ g = g ρ ∷ []
 over r (d ∷ ds) ρ g = flatMap (λ v. over r ds (cons v ρ) g) (r d)
 
+-- the tag of a quantifier without its annotations
+abbrev pub plainTag : ℕ → ℕ
+plainTag t = pick (leb 871 t) (t - 70) (t - 10)
+
 module _ (R : Reading) where
   unfoldable mutual
     pub value : Env → Form → ℤ
     value ρ (leaf x) = elim x [ free n ↦ R .name n | bound i ↦ ρ i ]
     value ρ (node t o ds ks) = valueOf R t o ds (over (R .range) ds ρ (λ η. values η ks))
+    value ρ (noted t o ds ks) = valueOf R (plainTag t) o (namesOf ds) (over (R .range) (namesOf ds) ρ (λ η. values η ks))
 
     pub values : Env → Forms → List ℤ
     values ρ none = []

@@ -8,22 +8,23 @@ use native.Mathlib.Omega.{arith}
 use borrow.Author.Tests.{lt-ltb, ltb-true}
 use lib.Dec.{eqb, ltb}
 use lib.ListN.{length, getD, take, drop, length-map, length-drop}
-use Rattle.tree.specs.Form.{free, bound, Form, leaf, node, Forms, none, more, pick, between, encode, encodeAll}
+use Rattle.tree.specs.Form.{free, bound, Form, leaf, node, noted, Decls, undeclared, bare, typed, namesOf, Forms, none, more, pick, between, encode, encodeDecls, encodeAll}
 use Rattle.tree.specs.Tag.{Sort, expr, pred, sorts}
 use Rattle.form.specs.Decode.{rowForm}
 use Rattle.form.specs.Answer.{isOne}
 use Rattle.form.specs.Lists.{Place, kept, filled, Entry, entry, placeOf}
-use Rattle.form.proofs.HeadLaws.{between-in, few-names as few-declared}
-use Rattle.form.proofs.DecodeLaws.{Ok, ok-free, ok-bound, ok-node, OkAll, ok-none, ok-more}
+use Rattle.form.proofs.HeadLaws.{between-in, few-names as few-declared, few-decls}
+use Rattle.form.proofs.DecodeLaws.{Ok, ok-free, ok-bound, ok-node, ok-noted, OkDecls, ok-end, ok-bare, ok-typed, OkAll, ok-none, ok-more}
 use Rattle.form.proofs.RowLaws.{row-encode}
-use Rattle.rules.specs.Walk.{Binding, inside, outside, binding, Outer, named, dangling, walkIndex, walk, walkAll, up, lift, put, subst, collectIndex, collect, each}
+use Rattle.rules.specs.Walk.{Binding, inside, outside, binding, Outer, named, dangling, walkIndex, walk, walkDecls, walkAll, up, lift, put, subst, collectIndex, collect, each}
 use Rattle.rules.specs.Shift.{fall, lower}
-use Rattle.rules.proofs.WalkLaws.{eachAll, binding-back, and-left, and-right}
+use Rattle.rules.proofs.WalkLaws.{eachAll, eachDecls, walk-names, walk-typed, binding-back, and-left, and-right}
 use Rattle.rules.proofs.LimitLaws.{small as fits, ok-small as ok-fits}
 use Rattle.shift.specs.Internal.Items.{allBelow}
 use Rattle.shift.proofs.ShiftLaws.{between-high}
 use Rattle.rules.proofs.TreeLaws.{up-up}
-use Rattle.rules.specs.Fill.{keptCount, keptNames, fillIndex, fillFor, fill}
+use Rattle.rules.specs.Fill.{unnoted, keptCount, fillIndex, fillFor, fill}
+use Rattle.replace.proofs.PlainLaws.{keptNames, plain-fill}
 use Rattle.rules.specs.Free.{orName, seek, freeFor, substitute}
 use Rattle.replace.specs.Internal.Pieces.{areNames}
 use Rattle.rules.proofs.OkLaws.{ok-deep}
@@ -46,6 +47,18 @@ module _ (K m : ℕ) (p : ℕ → Outer → Bool) (act : ℕ → Outer → Form)
     walk-tested (ok-node {d = d} {s = s} {t = t} {o = o} {ds = ds} {p = ps} {e = es} n r w) k l g =
         let few = few-declared s t (o ++ (ds ++ [])) o ds ps es [] (r []) in
         rw suc-add (ok-node n r (walk-testedAll w (length ds + k) (omega arith) g))
+    walk-tested (ok-noted {d = d} {s = s} {t = t} {o = o} {ds = ds} {p = ps} {e = es} {ks = ks} a r v w) k l g =
+        let few = few-decls s t (o ++ []) o (length (namesOf ds)) ps es [] (r []) in
+        rw suc-add
+        (ok-noted {s = s} {t = t} {o = o} {ds = walkDecls act k ds} {p = ps} {e = es} (rw (walk-typed act k ds) a) (rw (walk-names act k ds) r)
+        (walk-testedDecls v k (omega arith) (and-left (eachDecls p k ds) (eachAll p (length (namesOf ds) + k) ks) g))
+        (walk-testedAll w (length (namesOf ds) + k) (omega arith) (and-right (eachDecls p k ds) (eachAll p (length (namesOf ds) + k) ks) g)))
+
+    walk-testedDecls : {d : ℕ} {ds : Decls} → OkDecls d ds → (k : ℕ) → k + 32 * d ≤ K → eachDecls p k ds ≡ true → OkDecls (d + m) (walkDecls act k ds)
+    walk-testedDecls ok-end k l g = ok-end
+    walk-testedDecls (ok-bare h w) k l g = ok-bare h (walk-testedDecls w k l g)
+    walk-testedDecls (ok-typed {f = f} {ds = ds} h v w) k l g =
+        ok-typed h (walk-tested v k l (and-left (each p k f) (eachDecls p k ds) g)) (walk-testedDecls w k l (and-right (each p k f) (eachDecls p k ds) g))
 
     walk-testedAll : {d : ℕ} {ss : List Sort} {fs : Forms} → OkAll d ss fs → (k : ℕ) → k + 32 * d ≤ K → eachAll p k fs ≡ true → OkAll (d + m) ss (walkAll act k fs)
     walk-testedAll ok-none k l g = ok-none
@@ -93,13 +106,28 @@ kids-small t o ds ws h =
     let (c, d) = small-split ds ws b in
     d
 
+two-less : (t n : ℕ) (ws : List ℕ) → small (t ∷ n ∷ ws) ≡ true → small ws ≡ true
+unfolding allBelow
+two-less t n ws h = and-right (ltb n 63488) (small ws) (and-right (ltb t 63488) (small (n ∷ ws)) h)
+
 mutual
-  unfolding encode collect
+  unfolding encode collect allBelow
 
   small-low : (k : ℕ) (f : Form) → small (encode f) ≡ true → each low k f ≡ true
   small-low k (leaf (free n)) h = last-word 1 n h
   small-low k (leaf (bound i)) h = low-index k i (binding k i) refl (last-word 2 i h)
   small-low k (node t o ds ks) h = small-lowAll (length ds + k) ks (kids-small t o ds (encodeAll ks) h)
+  small-low k (noted t o ds ks) h =
+      let (a, b) = small-split o (encodeDecls ds ++ encodeAll ks) (and-right (ltb t 63488) (small (o ++ (encodeDecls ds ++ encodeAll ks))) h) in
+      let (c, d) = small-split (encodeDecls ds) (encodeAll ks) b in
+      rw (small-lowDecls k ds c, small-lowAll (length (namesOf ds) + k) ks d)
+
+  small-lowDecls : (k : ℕ) (ds : Decls) → small (encodeDecls ds) ≡ true → eachDecls low k ds ≡ true
+  small-lowDecls k undeclared h = refl
+  small-lowDecls k (bare n ds) h = small-lowDecls k ds (two-less n 0 (encodeDecls ds) h)
+  small-lowDecls k (typed n f ds) h =
+      let (a, b) = small-split (encode f) (encodeDecls ds) (two-less n 1 (encode f ++ encodeDecls ds) h) in
+      rw (small-low k f a, small-lowDecls k ds b)
 
   small-lowAll : (k : ℕ) (fs : Forms) → small (encodeAll fs) ≡ true → eachAll low k fs ≡ true
   small-lowAll k none h = refl
@@ -133,6 +161,7 @@ pub some-deep : {d : ℕ} {s : Sort} {f : Form} → Ok d s f → 0 < d
 some-deep (ok-free h) = omega arith
 some-deep (ok-bound h) = omega arith
 some-deep (ok-node l r w) = omega arith
+some-deep (ok-noted a r v w) = omega arith
 
 only-kid : {d : ℕ} (p e : ℕ) (b : Form) → OkAll d (sorts p e) (more b none) → p ≡ 1 → e ≡ 0 → Ok d pred b
 only-kid {d} p e b w x y = go (rw (x, y) at w)
@@ -164,6 +193,19 @@ module _ (act : ℕ → Outer → Form) (g : (k : ℕ) (x : Outer) → low k x �
         let (c, d) = small-split ds (encodeAll ks) b in
         let e = encodeAll (walkAll act (length ds + k) ks) in
         rw (and-left (ltb t 63488) (small (o ++ (ds ++ encodeAll ks))) h) (small-join o (ds ++ e) a (small-join ds e c (small-walkAll (length ds + k) ks d)))
+    small-walk k (noted t o ds ks) h =
+        let (a, b) = small-split o (encodeDecls ds ++ encodeAll ks) (and-right (ltb t 63488) (small (o ++ (encodeDecls ds ++ encodeAll ks))) h) in
+        let (c, d) = small-split (encodeDecls ds) (encodeAll ks) b in
+        let e = encodeAll (walkAll act (length (namesOf ds) + k) ks) in
+        let x = encodeDecls (walkDecls act k ds) in
+        rw (and-left (ltb t 63488) (small (o ++ (encodeDecls ds ++ encodeAll ks))) h) (small-join o (x ++ e) a (small-join x e (small-walkDecls k ds c) (small-walkAll (length (namesOf ds) + k) ks d)))
+
+    small-walkDecls : (k : ℕ) (ds : Decls) → small (encodeDecls ds) ≡ true → small (encodeDecls (walkDecls act k ds)) ≡ true
+    small-walkDecls k undeclared h = refl
+    small-walkDecls k (bare n ds) h = rw (and-left (ltb n 63488) (small (0 ∷ encodeDecls ds)) h, small-walkDecls k ds (two-less n 0 (encodeDecls ds) h))
+    small-walkDecls k (typed n f ds) h =
+        let (a, b) = small-split (encode f) (encodeDecls ds) (two-less n 1 (encode f ++ encodeDecls ds) h) in
+        rw (and-left (ltb n 63488) (small (1 ∷ (encode f ++ encodeDecls ds))) h) (small-join (encode (walk act k f)) (encodeDecls (walkDecls act k ds)) (small-walk k f a) (small-walkDecls k ds b))
 
     small-walkAll : (k : ℕ) (fs : Forms) → small (encodeAll fs) ≡ true → small (encodeAll (walkAll act k fs)) ≡ true
     small-walkAll k none h = refl
@@ -264,18 +306,17 @@ module _ (m : ℕ) where
     filled-body {d} ok l = ok-deep (walk-deeper 2016 m (put (fillFor ps)) fill-for-ok ok 0 (omega arith)) 63 l
 
     -- under the declarations that are kept
-    pub filled-ok : (t : ℕ) (ns : List ℕ) → (eqb t 851 || eqb t 852) ≡ true → areNames ns ≡ true → length ns ≤ 32 → {d : ℕ} {f : Form} → Ok d pred f → d + m ≤ 63 → Ok 64 pred (fill t ns ps f)
-    unfolding fill
-    filled-ok t ns w n l {f = f} ok deep = let q = few-names ps ns in quantify-ok t (keptNames ps ns) (subst (fillFor ps) f) w (names-kept ps ns n) (omega arith) (filled-body ok deep)
+    pub filled-ok : (t : ℕ) (ns : List ℕ) → (eqb t 851 || eqb t 852) ≡ true → areNames ns ≡ true → length ns ≤ 32 → {d : ℕ} {f : Form} → Ok d pred f → d + m ≤ 63 → Ok 64 pred (fill t (map unnoted ns) ps f)
+    filled-ok t ns w n l {f = f} ok deep = let q = few-names ps ns in rw (plain-fill t ns ps f) (quantify-ok t (keptNames ps ns) (subst (fillFor ps) f) w (names-kept ps ns n) (omega arith) (filled-body ok deep))
 
   module _ (f : Form) (d : ℕ) (ok : Ok (suc d) pred f) (deep : d + m ≤ 63) (q : Quant f) (ps : List Place) (all : length ps ≡ length (q .decls)) (h : SmallPlaces m ps) where
-    pub fill-inside : Ok 64 pred (fill (q .tag) (q .decls) ps (q .body))
+    pub fill-inside : Ok 64 pred (fill (q .tag) (map unnoted (q .decls)) ps (q .body))
     fill-inside =
         let a = q .most in
         let o = rw (q .form) at ok in
         filled-ok ps (omega arith) h (q .tag) (q .decls) (q .which) (node-names (q .tag) (q .decls) (more (q .body) none) (q .which) o) a (quant-body (q .tag) (q .decls) (q .body) (q .which) o) deep
 
-    pub fill-fits : length (encode (fill (q .tag) (q .decls) ps (q .body))) ≤ 8192 → isOne (rowForm pred (encode (fill (q .tag) (q .decls) ps (q .body)))) ≡ true
+    pub fill-fits : length (encode (fill (q .tag) (map unnoted (q .decls)) ps (q .body))) ≤ 8192 → isOne (rowForm pred (encode (fill (q .tag) (map unnoted (q .decls)) ps (q .body)))) ≡ true
     fill-fits l = ap isOne (row-encode fill-inside l)
 
   -- lowered

@@ -1,3 +1,4 @@
+pub mod PlainLaws
 pub mod PieceLaws
 pub mod LengthLaws
 pub mod MarkLaws

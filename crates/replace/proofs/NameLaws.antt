@@ -11,7 +11,7 @@ use Rattle.form.specs.Lists.{Place, kept, filled}
 use Rattle.form.proofs.HeadLaws.{here, gone}
 use Rattle.shift.specs.Internal.Items.{store}
 use Rattle.shift.proofs.ItemLaws.{store-append, store-front}
-use Rattle.rules.specs.Fill.{quantify, keptNames}
+use Rattle.replace.proofs.PlainLaws.{quantifyNames as quantify, keptNames}
 use Rattle.replace.specs.Internal.Pieces.{keptWords, headWords, keptHead}
 use Rattle.replace.proofs.FillTree.{wordFor}
 

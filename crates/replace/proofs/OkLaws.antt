@@ -9,10 +9,10 @@ use lib.Dec.{eqb}
 use lib.ListN.{length}
 use Rattle.tree.specs.Form.{Form, node, Forms, none, more, between}
 use Rattle.tree.specs.Tag.{pred}
-use Rattle.form.specs.Decode.{Head, head, bad, addWord, addName, only, names, read}
+use Rattle.form.specs.Decode.{Head, head, flagged, bad, addWord, addName, only, names, read}
 use Rattle.form.specs.Lists.{Place, kept, filled}
 use Rattle.form.proofs.DecodeLaws.{clash, Ok, ok-node, ok-none, ok-more}
-use Rattle.rules.specs.Fill.{keptNames, quantify}
+use Rattle.replace.proofs.PlainLaws.{keptNames, quantifyNames as quantify}
 use Rattle.rules.proofs.WalkLaws.{and-left, and-right}
 use Rattle.rules.proofs.OkLaws.{ok-deep}
 use Rattle.replace.specs.Internal.Pieces.{areNames}
@@ -22,6 +22,7 @@ use Rattle.replace.proofs.QuantLaws.{tag-own, tag-node}
 name-good : (b c : Bool) (w : ℕ) (h : Head) (o ds : List ℕ) (p e : ℕ) (r : List ℕ) → only b (addName w h) ≡ head o ds p e r
     → ((o′ ds′ : List ℕ) (p′ e′ : ℕ) (r′ : List ℕ) → h ≡ head o′ ds′ p′ e′ r′ → c ≡ true) → (b && c) ≡ true
 name-good true c w (head o′ ds′ p′ e′ r′) o ds p e r q k = k o′ ds′ p′ e′ r′ refl
+name-good true c w (flagged o′ n p′ e′ r′) o ds p e r q k = absurd (clash cc)
 name-good true c w bad o ds p e r q k = absurd (clash cc)
 name-good false c w h o ds p e r q k = absurd (clash cc)
 
@@ -52,6 +53,7 @@ names-kept (filled x ∷ ps) (n ∷ ns) h = names-kept ps ns (and-right (between
 word-good : (b c : Bool) (w : ℕ) (h : Head) (o ds : List ℕ) (p e : ℕ) (r : List ℕ) → only b (addWord w h) ≡ head o ds p e r
     → ((o′ ds′ : List ℕ) (p′ e′ : ℕ) (r′ : List ℕ) → h ≡ head o′ ds′ p′ e′ r′ → c ≡ true) → c ≡ true
 word-good true c w (head o′ ds′ p′ e′ r′) o ds p e r q k = k o′ ds′ p′ e′ r′ refl
+word-good true c w (flagged o′ n p′ e′ r′) o ds p e r q k = absurd (clash cc)
 word-good true c w bad o ds p e r q k = absurd (clash cc)
 word-good false c w h o ds p e r q k = absurd (clash cc)
 

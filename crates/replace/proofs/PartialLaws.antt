@@ -1,19 +1,21 @@
 -- Declarations put round a body whose places are filled: the words are the definition's. Assumes nothing.
 use mathlib.Core.Path.{_≡_, refl, ap, sym, _∙_}
 use mathlib.Core.Bool.{Bool, true, false, _||_, not, _&&_}
-use mathlib.Core.List.{List, [], _∷_, _++_, append-nil}
+use mathlib.Core.List.{List, [], _∷_, _++_, append-nil, map, map-append}
 use Prim.Native.Nat.{ℕ, suc, _+_, _≤_, _-_, _<_}
 use native.Mathlib.Nat.{add-zero}
-use borrow.Author.Tests.{eq-eqb, eqb-true, ne-eqb, leb-true, le-leb}
+use borrow.Author.Tests.{eq-eqb, eqb-true, eqb-false, ne-eqb, leb-true, le-leb}
 use lib.Dec.{eqb, leb}
 use lib.ListN.{length, getD, take, drop, set, length-append}
 use lib.Seq.{take-at}
-use Rattle.tree.specs.Form.{Form, node, Forms, none, more, pick, encode}
+use Rattle.tree.specs.Form.{Form, node, noted, Decls, Forms, none, more, pick, encode}
 use Rattle.tree.specs.Tag.{pred}
 use Rattle.form.specs.Lists.{Place}
-use Rattle.form.proofs.DecodeLaws.{Ok, ok-node}
+use Rattle.form.proofs.DecodeLaws.{clash, Ok, ok-node, ok-noted}
 use Rattle.rules.specs.Walk.{walk, walkAll, put, subst}
-use Rattle.rules.specs.Fill.{quantifier, other, quantified, quantify, fillFor}
+use Rattle.rules.specs.Fill.{Decl, unnoted, listed, quantifier, other, quantified, quantify as quantifyDecls, fillFor}
+use Rattle.rules.specs.Shift.{lower}
+use Rattle.replace.proofs.PlainLaws.{quantifyNames as quantify, plain-quantify, plain-notes, plain-clear}
 use Rattle.replace.specs.Internal.Pieces.{headWords, emitted, replaced, downPlan, Ready, placedRow}
 use Rattle.replace.proofs.NameLaws.{encode-quantify, head-none, head-some}
 use Rattle.replace.proofs.QuantLaws.{Quant, quant-by-tag, quant-tag, quant-names, quant-long}
@@ -31,41 +33,69 @@ use Rattle.shift.specs.Internal.Items.{store}
 use Rattle.shift.proofs.ItemLaws.{store-append}
 
 -- a node with another tag does not join
-join-not : (t u : ℕ) (ns o ds : List ℕ) (ks : Forms) → eqb u t ≡ false → joinWith t ns (node u o ds ks) (quantified (node u o ds ks)) ≡ quantify t ns (node u o ds ks)
+join-not : (t u : ℕ) (ns : List Decl) (o ds : List ℕ) (ks : Forms) → eqb u t ≡ false → joinWith t ns (node u o ds ks) (quantified (node u o ds ks)) ≡ quantifyDecls t ns (node u o ds ks)
 unfolding quantified
 join-not t u ns o ds none e = refl
 join-not t u ns o ds (more f none) e = go (eqb u 851 || eqb u 852)
   where
-    go : (b : Bool) → joinWith t ns (node u o ds (more f none)) (pick b (quantifier u ds f) other) ≡ quantify t ns (node u o ds (more f none))
+    go : (b : Bool) → joinWith t ns (node u o ds (more f none)) (pick b (quantifier u (map unnoted ds) f) other) ≡ quantifyDecls t ns (node u o ds (more f none))
     go true = rw e
     go false = refl
 join-not t u ns o ds (more f (more g gs)) e = refl
 
--- one with the same tag does
-pub join-same : (t : ℕ) (ns o ds : List ℕ) (f : Form) → (eqb t 851 || eqb t 852) ≡ true → joinWith t ns (node t o ds (more f none)) (quantified (node t o ds (more f none))) ≡ quantify t (ns ++ ds) f
+join-noted : (t u : ℕ) (ns : List Decl) (o : List ℕ) (ds : Decls) (ks : Forms) → eqb (u - 10) t ≡ false → joinWith t ns (noted u o ds ks) (quantified (noted u o ds ks)) ≡ quantifyDecls t ns (noted u o ds ks)
 unfolding quantified
-join-same t ns o ds f e = rw (e, eq-eqb t t refl)
+join-noted t u ns o ds none e = refl
+join-noted t u ns o ds (more f none) e = go (eqb u 861 || eqb u 862)
+  where
+    go : (b : Bool) → joinWith t ns (noted u o ds (more f none)) (pick b (quantifier (u - 10) (listed ds) f) other) ≡ quantifyDecls t ns (noted u o ds (more f none))
+    go true = rw e
+    go false = refl
+join-noted t u ns o ds (more f (more g gs)) e = refl
 
--- a body whose own quantifier is known by its first word
+-- one with the same tag does
+pub join-same : (t : ℕ) (ns o ds : List ℕ) (f : Form) → (eqb t 851 || eqb t 852) ≡ true → joinWith t (map unnoted ns) (node t o ds (more f none)) (quantified (node t o ds (more f none))) ≡ quantify t (ns ++ ds) f
+unfolding quantified
+join-same t ns o ds f e =
+    rw (e, eq-eqb t t refl, plain-clear (length (map unnoted ns)) ds, plain-notes (lower (length (map unnoted ns))) ds, ← map-append unnoted ns ds) (plain-quantify t (ns ++ ds) f)
+
+-- a body whose own quantifier is known by its first word, and has no annotations
 pub record Heads (t : ℕ) (g : Form) : Type 0 where
-  pub other : (ns : List ℕ) → eqb (getD (encode g) 0 0) t ≡ false → (ps : List Place) → joinWith t ns (subst (fillFor ps) g) (quantified (subst (fillFor ps) g)) ≡ quantify t ns (subst (fillFor ps) g)
+  pub other : (ns : List ℕ) → eqb (getD (encode g) 0 0) t ≡ false → eqb (getD (encode g) 0 0) (t + 10) ≡ false → (ps : List Place)
+      → joinWith t (map unnoted ns) (subst (fillFor ps) g) (quantified (subst (fillFor ps) g)) ≡ quantify t ns (subst (fillFor ps) g)
   pub same : getD (encode g) 0 0 ≡ t → Quant g
 
 node-other : (t u : ℕ) (o ds : List ℕ) (ks : Forms) (ns : List ℕ) → eqb u t ≡ false → (ps : List Place)
-    → joinWith t ns (subst (fillFor ps) (node u o ds ks)) (quantified (subst (fillFor ps) (node u o ds ks))) ≡ quantify t ns (subst (fillFor ps) (node u o ds ks))
+    → joinWith t (map unnoted ns) (subst (fillFor ps) (node u o ds ks)) (quantified (subst (fillFor ps) (node u o ds ks))) ≡ quantify t ns (subst (fillFor ps) (node u o ds ks))
 unfolding walk
-node-other t u o ds ks ns e ps = join-not t u ns o ds (walkAll (put (fillFor ps)) (length ds + 0) ks) e
+node-other t u o ds ks ns e ps =
+    join-not t u (map unnoted ns) o ds (walkAll (put (fillFor ps)) (length ds + 0) ks) e ∙ plain-quantify t ns (node u o ds (walkAll (put (fillFor ps)) (length ds + 0) ks))
+
+ten-less : (t u : ℕ) (a b : Bool) → eqb t 851 ≡ a → eqb t 852 ≡ b → (a || b) ≡ true → eqb u (t + 10) ≡ false → eqb (u - 10) t ≡ false
+ten-less t u a b x y z e = ne-eqb (u - 10) t (λ q. let n = eqb-false u (t + 10) e in n (big a b x y z q))
+  where
+    big : (a b : Bool) → eqb t 851 ≡ a → eqb t 852 ≡ b → (a || b) ≡ true → u - 10 ≡ t → u ≡ t + 10
+    big true b x y z q = let w = eqb-true t 851 x in omega arith
+    big false true x y z q = let w = eqb-true t 852 y in omega arith
+    big false false x y z q = absurd (clash cc)
+
+noted-other : (t u : ℕ) (o : List ℕ) (ds : Decls) (ks : Forms) (ns : List ℕ) → eqb (u - 10) t ≡ false → (ps : List Place)
+    → joinWith t (map unnoted ns) (subst (fillFor ps) (noted u o ds ks)) (quantified (subst (fillFor ps) (noted u o ds ks))) ≡ quantify t ns (subst (fillFor ps) (noted u o ds ks))
+unfolding walk
+noted-other t u o ds ks ns e ps = join-noted t u (map unnoted ns) o _ _ e ∙ plain-quantify t ns _
 
 pred-heads : {d : ℕ} {g : Form} (t : ℕ) → (eqb t 851 || eqb t 852) ≡ true → d ≤ 64 → Ok d pred g → (q : Ok 64 pred g) → Heads t g
 unfolding encode
-pred-heads t which h (ok-node {t = u} {o = o} {ds = ds} {ks = ks} l r k) q = record { other = λ ns e ps. node-other t u o ds ks ns e ps; same = λ e. quant-by-tag q (rw e which) }
+pred-heads t which h (ok-node {t = u} {o = o} {ds = ds} {ks = ks} l r k) q = record { other = λ ns e n ps. node-other t u o ds ks ns e ps; same = λ e. quant-by-tag q (rw e which) }
+pred-heads t which h (ok-noted {t = u} {o = o} {ds = ds} {ks = ks} a r v k) q =
+    record { other = λ ns e n ps. noted-other t u o ds ks ns (ten-less t u (eqb t 851) (eqb t 852) refl refl which n) ps; same = λ e. quant-by-tag q (rw e which) }
 
 pub ok-heads : {d : ℕ} {g : Form} (t : ℕ) → (eqb t 851 || eqb t 852) ≡ true → d ≤ 64 → Ok d pred g → Heads t g
 ok-heads t which h ok = pred-heads t which h ok (ok-deep ok 64 h)
 
 pub node-heads : (t u : ℕ) (o ds : List ℕ) (ks : Forms) → (u ≡ t → ⊥) → Heads t (node u o ds ks)
 unfolding encode
-node-heads t u o ds ks ne = record { other = λ ns e ps. node-other t u o ds ks ns e ps; same = λ e. absurd (ne e) }
+node-heads t u o ds ks ne = record { other = λ ns e n ps. node-other t u o ds ks ns e ps; same = λ e. absurd (ne e) }
 
 -- a body that is a quantifier itself, filled
 module _ (g : Form) (y : Quant g) where
@@ -81,12 +111,12 @@ module _ (g : Form) (y : Quant g) where
   filled-quant t ps e = rw (y .form, e, add-zero)
 
   pub same-tag : (t : ℕ) → (eqb t 851 || eqb t 852) ≡ true → (ps : List Place) → y .tag ≡ t → (ns : List ℕ)
-      → joinWith t ns (subst (fillFor ps) g) (quantified (subst (fillFor ps) g)) ≡ quantify t (ns ++ y .decls) (walk (put (fillFor ps)) (length (y .decls)) (y .body))
+      → joinWith t (map unnoted ns) (subst (fillFor ps) g) (quantified (subst (fillFor ps) g)) ≡ quantify t (ns ++ y .decls) (walk (put (fillFor ps)) (length (y .decls)) (y .body))
   same-tag t which ps e ns = rw (filled-quant t ps e) (join-same t ns (length (y .decls) ∷ []) (y .decls) (walk (put (fillFor ps)) (length (y .decls)) (y .body)) which)
 
 -- the body filled, by its row and marks from a word on
 module _ (t : ℕ) (which : (eqb t 851 || eqb t 852) ≡ true) (ps : List Place) (g : Form) (shape : Heads t g) (rest-from : ℕ → List ℕ) (whole : rest-from 0 ≡ encode (subst (fillFor ps) g))
-    (inner : (y : Quant g) → rest-from (2 + length (y .decls)) ≡ encode (walk (put (fillFor ps)) (length (y .decls)) (y .body))) where
+    (inner : (y : Quant g) → rest-from (2 + length (y .decls)) ≡ encode (walk (put (fillFor ps)) (length (y .decls)) (y .body))) (bare : eqb (getD (encode g) 0 0) (t + 10) ≡ false) where
   abbrev made : List ℕ → List ℕ → List ℕ
   made ns stay = headWords t (ns ++ (stay ++ innerNames t ns stay (encode g))) ++ rest-from (innerEnd t ns stay (encode g))
 
@@ -94,15 +124,15 @@ module _ (t : ℕ) (which : (eqb t 851 || eqb t 852) ≡ true) (ps : List Place)
   quantify-words ns = rw whole (encode-quantify t ns (subst (fillFor ps) g))
 
   -- where nothing stays and there is a front
-  none-stays : (n : ℕ) (ns : List ℕ) (b : Bool) → eqb (getD (encode g) 0 0) t ≡ b → made (n ∷ ns) [] ≡ encode (joinWith t (n ∷ ns) (subst (fillFor ps) g) (quantified (subst (fillFor ps) g)))
+  none-stays : (n : ℕ) (ns : List ℕ) (b : Bool) → eqb (getD (encode g) 0 0) t ≡ b → made (n ∷ ns) [] ≡ encode (joinWith t (map unnoted (n ∷ ns)) (subst (fillFor ps) g) (quantified (subst (fillFor ps) g)))
   unfolding joins innerEnd innerNames
-  none-stays n ns false e = rw (e, shape .other (n ∷ ns) e ps) (ap (λ z. headWords t (n ∷ z) ++ rest-from 0) (append-nil ns) ∙ quantify-words (n ∷ ns))
+  none-stays n ns false e = rw (e, shape .other (n ∷ ns) e bare ps) (ap (λ z. headWords t (n ∷ z) ++ rest-from 0) (append-nil ns) ∙ quantify-words (n ∷ ns))
   none-stays n ns true e =
       let q : getD (encode g) 0 0 ≡ t = eqb-true (getD (encode g) 0 0) t e in
       let y = shape .same q in
       rw (e, same-tag g y t which ps (sym (quant-tag g y) ∙ q) (n ∷ ns), inner-are g y, quant-one g y, inner y) (encode-quantify t ((n ∷ ns) ++ y .decls) (walk (put (fillFor ps)) (length (y .decls)) (y .body)))
 
-  pub round-words : (ns stay : List ℕ) → made ns stay ≡ encode (putRound t ns (quantify t stay (subst (fillFor ps) g)))
+  pub round-words : (ns stay : List ℕ) → made ns stay ≡ encode (putRound t (map unnoted ns) (quantify t stay (subst (fillFor ps) g)))
   unfolding joins innerEnd innerNames putRound
   round-words [] [] = quantify-words []
   round-words [] (s ∷ ss) = rw append-nil (quantify-words (s ∷ ss))

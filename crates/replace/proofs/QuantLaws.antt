@@ -1,7 +1,7 @@
 -- A row that is a quantified predicate: its tag, its number of declarations, their names, its body with the body's marks. Assumes nothing.
 use mathlib.Core.Path.{_≡_, refl, ap, sym, _∙_}
 use mathlib.Core.Bool.{Bool, true, false, _||_}
-use mathlib.Core.List.{List, [], _∷_, _++_, append-assoc, append-nil}
+use mathlib.Core.List.{List, [], _∷_, _++_, append-assoc, append-nil, map}
 use Prim.Native.Nat.{ℕ, zero, suc, _+_, _≤_, _<_}
 use native.Mathlib.Nat.{add-zero}
 use native.Mathlib.Omega.{arith}
@@ -9,28 +9,30 @@ use borrow.Author.Tests.{eqb-true, leb-true, le-ltb}
 use lib.Dec.{leb, eqb, ltb}
 use lib.ListN.{length, getD, take, drop, replicate, length-append, take-append-drop}
 use lib.Seq.{drop-at}
-use Rattle.tree.specs.Form.{free, bound, Form, leaf, node, Forms, none, more, pick, between, encode, encodeAll}
+use Rattle.tree.specs.Form.{free, bound, Form, leaf, node, noted, Decls, Forms, none, more, pick, between, encode, encodeDecls, encodeAll}
 use Rattle.tree.specs.Tag.{Sort, pred, ask, kids, own, ownOf, shapeOf, predTags, sorts}
-use Rattle.form.specs.Decode.{Head, head, bad, addWord, addName, only, names, read, isLeaf, Whole, one, not-one, rowForm, found, asSort, formOf}
+use Rattle.form.specs.Decode.{Head, head, flagged, bad, addWord, addName, only, names, read, isLeaf, Whole, one, not-one, rowForm, found, asSort, formOf}
 use Rattle.form.specs.declared.answer.Kind.the-variants.{Predicate}
 use Rattle.reader.specs.Internal.Reads.{mark}
-use Rattle.form.proofs.DecodeLaws.{clash, Ok, ok-node, OkAll, ok-none, ok-more}
+use Rattle.form.proofs.DecodeLaws.{clash, no-flagged, Ok, ok-node, ok-noted, OkAll, ok-none, ok-more}
 use Rattle.shift.specs.Internal.Items.{items, apart}
 use Rattle.rules.proofs.WalkLaws.{and-left, and-right}
 use Rattle.shift.proofs.RowLaws.{itemsOf, marksOf, zeros, zeros-length, items-encode, only-mark}
 use Rattle.shift.proofs.WordwiseLaws.{apart-encode}
 use Rattle.shift.proofs.CheckedLaws.{Checked}
-use Rattle.rules.specs.Fill.{quantifier, other, quantified}
+use Rattle.rules.specs.Fill.{unnoted, quantifier, other, quantified}
 use Rattle.replace.specs.Internal.Pieces.{declaredIn}
 
 -- a word or a name was read: what it was, and what was read after it
 pub only-word : (b : Bool) (w : ℕ) (h : Head) (o ds : List ℕ) (p e : ℕ) (r : List ℕ) → only b (addWord w h) ≡ head o ds p e r → (b ≡ true) × (o′ : List ℕ) × (w ∷ o′ ≡ o) × (h ≡ head o′ ds p e r)
 only-word true w (head o′ ds′ p′ e′ r′) o ds p e r q = (refl, o′, cc, cc)
+only-word true w (flagged o′ n p′ e′ r′) o ds p e r q = absurd (clash cc)
 only-word true w bad o ds p e r q = absurd (clash cc)
 only-word false w h o ds p e r q = absurd (clash cc)
 
 only-named : (b : Bool) (w : ℕ) (h : Head) (o ds : List ℕ) (p e : ℕ) (r : List ℕ) → only b (addName w h) ≡ head o ds p e r → (ds′ : List ℕ) × (w ∷ ds′ ≡ ds) × (h ≡ head o ds′ p e r)
 only-named true w (head o′ ds′ p′ e′ r′) o ds p e r q = (ds′, cc, cc)
+only-named true w (flagged o′ n p′ e′ r′) o ds p e r q = absurd (clash cc)
 only-named true w bad o ds p e r q = absurd (clash cc)
 only-named false w h o ds p e r q = absurd (clash cc)
 
@@ -95,6 +97,21 @@ tag-node t h = go (eqb t 851) (eqb t 852) refl refl h
 pub tag-heading : (t : ℕ) (ws o ds : List ℕ) (p e : ℕ) (r : List ℕ) → (eqb t 851 || eqb t 852) ≡ true → read (own pred t) ws ≡ head o ds p e r → Heading o ds p e
 tag-heading t ws o ds p e r h q = read-heading ws o ds p e r (rw (tag-own t h) at q)
 
+-- its declarations have no flags
+never-flagged : (ws o : List ℕ) (n p e : ℕ) (r : List ℕ) → read (ask 1 32 (λ n. kids n 1 0)) ws ≡ flagged o n p e r → ⊥
+unfolding read
+never-flagged [] o n p e r q = clash cc
+never-flagged (w ∷ ws) o n p e r q = go (between 1 32 w) (names w 1 0 ws) refl q
+  where
+    go : (b : Bool) (h : Head) → names w 1 0 ws ≡ h → only b (addWord w h) ≡ flagged o n p e r → ⊥
+    go true (head o′ ds p′ e′ r′) k q = clash cc
+    go true (flagged o′ m p′ e′ r′) k q = no-flagged w 1 0 ws o′ m p′ e′ r′ k
+    go true bad k q = clash cc
+    go false h k q = clash cc
+
+pub tag-flagged : (t : ℕ) (ws o : List ℕ) (n p e : ℕ) (r : List ℕ) → (eqb t 851 || eqb t 852) ≡ true → read (own pred t) ws ≡ flagged o n p e r → ⊥
+tag-flagged t ws o n p e r h q = never-flagged ws o n p e r (rw (tag-own t h) at q)
+
 one-kid : {d : ℕ} {ks : Forms} → OkAll d (pred ∷ []) ks → (b : Form) × (ks ≡ more b none) × Ok d pred b
 one-kid (ok-more {f = f} h ok-none) = (f, refl, h)
 
@@ -103,7 +120,7 @@ pub record Quant (f : Form) : Type 0 where
   pub tag : ℕ
   pub decls : List ℕ
   pub body : Form
-  pub is : quantified f ≡ quantifier tag decls body
+  pub is : quantified f ≡ quantifier tag (map unnoted decls) body
   pub which : (eqb tag 851 || eqb tag 852) ≡ true
   pub form : f ≡ node tag (length decls ∷ []) decls (more body none)
   pub least : 1 ≤ length decls
@@ -142,6 +159,7 @@ dec-no t ws h = go (ltb (length (t ∷ ws)) 2) (eqb t 851) (eqb t 852) (getD (t 
 pub quant-by-tag : {f : Form} → Ok 64 pred f → (eqb (getD (encode f) 0 0) 851 || eqb (getD (encode f) 0 0) 852) ≡ true → Quant f
 unfolding encode
 quant-by-tag (ok-node {t = t} {o = o} {ds = ds} {p = p} {e = e} {ks = ks} l r w) q = kid-quant t o ds p e ks q (tag-heading t (o ++ (ds ++ [])) o ds p e [] q (r [])) w
+quant-by-tag (ok-noted {t = t} {o = o} a r v w) q = absurd (tag-flagged t (o ++ []) o _ _ _ [] q (r []))
 
 pub is-quant : {f : Form} → Ok 64 pred f → 0 < declaredIn (encode f) → Quant f
 unfolding encode
@@ -150,6 +168,11 @@ is-quant (ok-node {t = t} {o = o} {ds = ds} {p = p} {e = e} {ks = ks} l r w) h =
     go : (b : Bool) → (eqb t 851 || eqb t 852) ≡ b → Quant (node t o ds ks)
     go true q = quant-by-tag (ok-node {t = t} {o = o} {ds = ds} {p = p} {e = e} {ks = ks} l r w) q
     go false q = let z = dec-no t (o ++ (ds ++ encodeAll ks)) q in absurd (omega arith)
+is-quant (ok-noted {t = t} {o = o} {ds = ds} {ks = ks} a r v w) h = go (eqb t 851 || eqb t 852) refl
+  where
+    go : (b : Bool) → (eqb t 851 || eqb t 852) ≡ b → Quant (noted t o ds ks)
+    go true q = absurd (tag-flagged t (o ++ []) o _ _ _ [] q (r []))
+    go false q = let z = dec-no t (o ++ (encodeDecls ds ++ encodeAll ks)) q in absurd (omega arith)
 
 other-tag : (t : ℕ) (o ds : List ℕ) (ks : Forms) → (eqb t 851 || eqb t 852) ≡ false → quantified (node t o ds ks) ≡ other
 unfolding quantified
@@ -157,9 +180,20 @@ other-tag t o ds none h = refl
 other-tag t o ds (more f none) h = rw h
 other-tag t o ds (more f (more g gs)) h = refl
 
-pub not-quant : {f : Form} → Ok 64 pred f → declaredIn (encode f) ≡ 0 → quantified f ≡ other
+other-noted : (t : ℕ) (o : List ℕ) (ds : Decls) (ks : Forms) → (eqb t 861 || eqb t 862) ≡ false → quantified (noted t o ds ks) ≡ other
+unfolding quantified
+other-noted t o ds none h = refl
+other-noted t o ds (more f none) h = rw h
+other-noted t o ds (more f (more g gs)) h = refl
+
+-- where it does not begin with an annotated quantifier's tag
+abbrev pub Unnoted : List ℕ → Type 0
+Unnoted row = (eqb (getD row 0 0) 861 || eqb (getD row 0 0) 862) ≡ false
+
+pub not-quant : {f : Form} → Ok 64 pred f → Unnoted (encode f) → declaredIn (encode f) ≡ 0 → quantified f ≡ other
 unfolding encode
-not-quant (ok-node {t = t} {o = o} {ds = ds} {p = p} {e = e} {ks = ks} l r w) h = go (eqb t 851 || eqb t 852) refl
+not-quant (ok-noted {t = t} {o = o} {ds = ds} {ks = ks} a r v w) n h = other-noted t o ds ks n
+not-quant (ok-node {t = t} {o = o} {ds = ds} {p = p} {e = e} {ks = ks} l r w) n h = go (eqb t 851 || eqb t 852) refl
   where
     go : (b : Bool) → (eqb t 851 || eqb t 852) ≡ b → quantified (node t o ds ks) ≡ other
     go true q =
@@ -174,6 +208,7 @@ unfolding encode
 some-words (leaf (free n)) = omega arith
 some-words (leaf (bound n)) = omega arith
 some-words (node t o ds ks) = omega arith
+some-words (noted t o ds ks) = omega arith
 
 -- its row and its body's items
 items-nil : (m : List ℕ) → items [] m ≡ []
@@ -254,8 +289,8 @@ module _ (row m : List ℕ) (k : ℕ) (x : Checked Predicate row m k) where
   pub form-ok : Ok 64 pred (x .form)
   form-ok = rw (pred-sort row (x .sort) (x .form) (x .is-found)) at (x .ok)
 
-  pub no-quant : (n : ℕ) → n ≡ declaredIn row → n ≡ 0 → quantified (x .form) ≡ other
-  no-quant n e z = not-quant form-ok (ap declaredIn (sym (x .words)) ∙ (sym e ∙ z))
+  pub no-quant : (n : ℕ) → Unnoted row → n ≡ declaredIn row → n ≡ 0 → quantified (x .form) ≡ other
+  no-quant n u e z = not-quant form-ok (rw (x .words) at u) (ap declaredIn (sym (x .words)) ∙ (sym e ∙ z))
 
   pub the-quant : (n : ℕ) → n ≡ declaredIn row → (n ≡ 0 → ⊥) → Quant (x .form)
   the-quant n e z = let h : declaredIn (encode (x .form)) ≡ n = ap declaredIn (sym (x .words)) ∙ sym e in is-quant form-ok (pos n h z)

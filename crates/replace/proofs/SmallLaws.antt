@@ -3,13 +3,13 @@ use mathlib.Core.Path.{_≡_, refl, sym, _∙_}
 use mathlib.Core.Bool.{Bool, true, false, _&&_}
 use mathlib.Core.List.{List, [], _∷_, map, append-nil}
 use mathlib.Core.Option.{some}
-use Prim.Native.Nat.{ℕ, zero, suc, _+_, _-_, _*_, _≤_, _<_}
+use Prim.Native.Nat.{ℕ, zero, suc, _+_, _-_, _≤_, _<_}
 use native.Mathlib.Numerals.{add-one}
 use native.Mathlib.Omega.{arith}
 use borrow.Author.Tests.{le-leb, lt-leb, leb-true, leb-false, eqb-true, eqb-false}
 use lib.Dec.{leb, eqb}
 use lib.ListN.{length, getD, take, drop, length-map, take-append-drop}
-use Rattle.tree.specs.Form.{Form, leaf, node, free, bound, pick, encode}
+use Rattle.tree.specs.Form.{Form, leaf, node, noted, free, bound, pick, encode}
 use Rattle.tree.specs.Tag.{expr}
 use Rattle.form.specs.Decode.{got, decode, Whole, one, not-one, whole}
 use Rattle.form.specs.Lists.{Place, kept, filled, Entry, entry, placeOf, placeWords, listOf}
@@ -307,6 +307,7 @@ unfolding encode
 no-words (leaf (free n)) e = clash cc
 no-words (leaf (bound n)) e = clash cc
 no-words (node t o ds ks) e = clash cc
+no-words (noted t o ds ks) e = clash cc
 
 words-part : (s e : ℕ) (l : List ℕ) → allBelow 63488 l ≡ true → allBelow 63488 (part s e l) ≡ true
 unfolding part

@@ -23,7 +23,7 @@ use Rattle.form.proofs.RowLaws.{found-exact, row-one}
 use Rattle.rules.specs.Shift.{shift, ofShifted, shiftOutcome}
 use Rattle.rules.specs.Bind.{bind, bindOutcome}
 use Rattle.rules.specs.Free.{substitute, freeOutcome}
-use Rattle.rules.specs.Fill.{Quantified, quantifier, other, quantified, ofQuantified, keptCount, fill, fillOutcome}
+use Rattle.rules.specs.Fill.{Decl, Quantified, quantifier, other, quantified, ofQuantified, keptCount, fill, fillOutcome}
 use Rattle.rules.specs.Prune.{usedPlaces, prune, pruneOutcome}
 use Rattle.rules.specs.Point.{onePoint, ofResult, pointOutcome}
 use Rattle.rules.specs.Member.{membership, memberOutcome}
@@ -88,7 +88,7 @@ unfolding bindOutcome
 good-bind names row room =
     good-form Either row _ (λ s f. good-needs 1 (leb (length names) 8192) _ (good-needs 4 (goodNames names) _ (good-finish s room (bind names f))))
 
-good-quantified : (go : ℕ → List ℕ → Form → Outcome) (n : ℕ) (x : Quantified) → ((t : ℕ) (ns : List ℕ) (f : Form) → Good (go t ns f)) → Good (ofQuantified go n x)
+good-quantified : (go : ℕ → List Decl → Form → Outcome) (n : ℕ) (x : Quantified) → ((t : ℕ) (ns : List Decl) (f : Form) → Good (go t ns f)) → Good (ofQuantified go n x)
 good-quantified go n (quantifier t ns f) h = h t ns f
 good-quantified go n other h = tt
 

@@ -11,7 +11,7 @@ use lib.Seq.{drop-at}
 use Rattle.tree.specs.Form.{Form}
 use Rattle.form.specs.Lists.{Place, kept, filled}
 use Rattle.rules.specs.Shift.{lower}
-use Rattle.rules.specs.Fill.{quantifier, quantified, quantify}
+use Rattle.rules.specs.Fill.{Decl, quantifier, quantified, quantify}
 use Rattle.rules.specs.Partial.{noPlaces, setPlace, front, lowerPlace, putRound}
 
 pub map-replicate : {A B : Type 0} (f : A → B) (n : ℕ) (a : A) → map f (replicate n a) ≡ replicate n (f a)
@@ -51,6 +51,6 @@ reverse-kept zero = refl
 reverse-kept (suc j) = rw (reverse-cons kept (replicate j kept), reverse-kept j) (kept-snoc j)
 
 -- the body's own quantifier is joined only if its operator is the same
-pub unlike-stays : (t u n : ℕ) (ns ds : List ℕ) (f g : Form) → quantified g ≡ quantifier u ds f → eqb u t ≡ false → putRound t (n ∷ ns) g ≡ quantify t (n ∷ ns) g
+pub unlike-stays : (t u : ℕ) (n : Decl) (ns ds : List Decl) (f g : Form) → quantified g ≡ quantifier u ds f → eqb u t ≡ false → putRound t (n ∷ ns) g ≡ quantify t (n ∷ ns) g
 unfolding putRound
 unlike-stays t u n ns ds f g e h = rw (e, h)

@@ -8,14 +8,14 @@ use native.Mathlib.Omega.{arith}
 use borrow.Author.Tests.{le-leb}
 use lib.Dec.{leb}
 use lib.ListN.{length, length-append}
-use Rattle.tree.specs.Form.{Leaf, free, bound, Form, leaf, node, Forms, none, more, between, encode, encodeAll}
-use Rattle.tree.specs.Tag.{Sort, expr}
-use Rattle.form.specs.Decode.{head, only, Got, got, no-form, Gots, gots, no-forms, isLeaf, close, chain, branch, decode, decodeAll, whole, rowForm}
+use Rattle.tree.specs.Form.{Leaf, free, bound, Form, leaf, node, noted, Decls, undeclared, bare, typed, namesOf, anyTyped, Forms, none, more, between, encode, encodeDecls, encodeAll}
+use Rattle.tree.specs.Tag.{Sort, expr, sorts}
+use Rattle.form.specs.Decode.{head, only, Got, got, no-form, Gots, gots, no-forms, isLeaf, close, chain, branch, decode, decodeAll, GotDecls, declared, no-decls, addBare, noteOf, addDecl, declAt, decls, withDecls, whole, rowForm}
 use Rattle.form.specs.Answer.{isOne}
-use Rattle.form.proofs.HeadLaws.{few-names}
-use Rattle.form.proofs.DecodeLaws.{Ok, ok-free, ok-bound, ok-node, OkAll, ok-none, ok-more, read-free, read-bound}
-use Rattle.rules.specs.Walk.{Binding, inside, outside, binding, Outer, named, dangling, walkIndex, walk, walkAll, collectIndex, collect, each}
-use Rattle.rules.proofs.WalkLaws.{eachAll, binding-back}
+use Rattle.form.proofs.HeadLaws.{few-names, few-decls}
+use Rattle.form.proofs.DecodeLaws.{Ok, ok-free, ok-bound, ok-node, ok-noted, OkDecls, ok-end, ok-bare, ok-typed, OkAll, ok-none, ok-more, read-free, read-bound}
+use Rattle.rules.specs.Walk.{Binding, inside, outside, binding, Outer, named, dangling, walkIndex, walk, walkDecls, walkAll, collectIndex, collect, each}
+use Rattle.rules.proofs.WalkLaws.{eachAll, eachDecls, walk-typed, binding-back}
 
 -- the numbers of a well-formed tree are small
 abbrev pub small : ℕ → Outer → Bool
@@ -33,6 +33,12 @@ mutual
   ok-small (ok-free e) k = e
   ok-small (ok-bound {n = n} e) k = small-index k n (binding k n) refl e
   ok-small (ok-node {ds = ds} l h w) k = ok-smallAll w (length ds + k)
+  ok-small (ok-noted {ds = ds} t h v w) k = rw (ok-smallDecls v k, ok-smallAll w (length (namesOf ds) + k))
+
+  ok-smallDecls : {d : ℕ} {ds : Decls} → OkDecls d ds → (k : ℕ) → eachDecls small k ds ≡ true
+  ok-smallDecls ok-end k = refl
+  ok-smallDecls (ok-bare h w) k = ok-smallDecls w k
+  ok-smallDecls (ok-typed h g w) k = rw (ok-small g k, ok-smallDecls w k)
 
   ok-smallAll : {d : ℕ} {ss : List Sort} {fs : Forms} → OkAll d ss fs → (k : ℕ) → eachAll small k fs ≡ true
   ok-smallAll ok-none k = refl
@@ -55,6 +61,14 @@ mutual
   ok-tight (ok-node {d = d} {s = s} {t = t} {o = o} {ds = ds} {p = p} {e = e} l r w) n k h =
       let few = few-names s t (o ++ (ds ++ [])) o ds p e [] (r []) in
       ok-tightAll w n (length ds + k) (omega arith)
+  ok-tight (ok-noted {d = d} {s = s} {t = t} {o = o} {ds = ds} {p = p} {e = e} a r v w) n k h =
+      let few = few-decls s t (o ++ []) o (length (namesOf ds)) p e [] (r []) in
+      rw (ok-tightDecls v n k (omega arith), ok-tightAll w n (length (namesOf ds) + k) (omega arith))
+
+  ok-tightDecls : {d : ℕ} {ds : Decls} → OkDecls d ds → (n k : ℕ) → k + 32 * d ≤ n → eachDecls (tight n) k ds ≡ true
+  ok-tightDecls ok-end n k h = refl
+  ok-tightDecls (ok-bare e w) n k h = ok-tightDecls w n k h
+  ok-tightDecls (ok-typed e g w) n k h = rw (ok-tight g n k h, ok-tightDecls w n k h)
 
   ok-tightAll : {d : ℕ} {ss : List Sort} {fs : Forms} → OkAll d ss fs → (n k : ℕ) → k + 32 * d ≤ n → eachAll (tight n) k fs ≡ true
   ok-tightAll ok-none n k h = refl
@@ -68,6 +82,10 @@ gotIf false f r = no-form
 abbrev gotsIf : Bool → Forms → List ℕ → Gots
 gotsIf true f r = gots f r
 gotsIf false f r = no-forms
+
+abbrev declsIf : Bool → Decls → List ℕ → GotDecls
+declsIf true ds r = declared ds r
+declsIf false ds r = no-decls
 
 abbrev pub fineLeaf : Leaf → Bool
 fineLeaf (free n) = between 0 65535 n
@@ -97,6 +115,21 @@ chain-if true true f fs x r k e = rw e
 chain-if true false f fs x r k e = rw e
 chain-if false c f fs x r k e = refl
 
+bare-if : (c : Bool) (n : ℕ) (ds : Decls) (r : List ℕ) (g : GotDecls) → g ≡ declsIf c ds r → addBare n g ≡ declsIf c (bare n ds) r
+bare-if true n ds r g e = rw e
+bare-if false n ds r g e = rw e
+
+typed-if : (b c : Bool) (n : ℕ) (f : Form) (ds : Decls) (x r : List ℕ) (k : List ℕ → GotDecls) → k x ≡ declsIf c ds r → addDecl (noteOf n (gotIf b f x)) k ≡ declsIf (b && c) (typed n f ds) r
+typed-if true true n f ds x r k e = rw e
+typed-if true false n f ds x r k e = rw e
+typed-if false c n f ds x r k e = refl
+
+noted-if : (d t : ℕ) (o : List ℕ) (p e : ℕ) (c b : Bool) (ds : Decls) (ks : Forms) (x r : List ℕ) → anyTyped ds ≡ true → decodeAll (λ s l. decode d s l) (sorts p e) x ≡ gotsIf b ks r
+    → withDecls (λ s l. decode d s l) t o p e (declsIf c ds x) ≡ gotIf (c && b) (noted t o ds ks) r
+noted-if d t o p e true true ds ks x r a q = rw (q, a)
+noted-if d t o p e true false ds ks x r a q = rw q
+noted-if d t o p e false b ds ks x r a q = refl
+
 two-words : (y : Leaf) → length (encode (leaf y)) ≡ 2
 unfolding encode
 two-words (free n) = refl
@@ -112,7 +145,7 @@ module _ (act : ℕ → Outer → Form) (a : ℕ → Outer → Leaf) (e : (k : �
   limit-index d k i (outside j) r h = rw (e k (dangling j)) (leaf-if d (a k (dangling j)) r)
 
   mutual
-    unfolding walk collect decode decodeAll encode
+    unfolding walk collect decode decodeAll decls declAt encode
 
     limit : {d : ℕ} {s : Sort} {f : Form} → Ok d s f → (k : ℕ) (r : List ℕ) → decode d s (encode (walk act k f) ++ r) ≡ gotIf (each fine k f) (walk act k f) r
     limit (ok-free {d = d} {n = n} h) k r = rw (e k (named n)) (leaf-if d (a k (named n)) r)
@@ -120,6 +153,17 @@ module _ (act : ℕ → Outer → Form) (a : ℕ → Outer → Leaf) (e : (k : �
     limit (ok-node {t = t} {o = o} {ds = ds} {ks = ks} l h w) k r =
         rw (append-assoc o, append-assoc ds, h (encodeAll (walkAll act (length ds + k) ks) ++ r), limitAll w (length ds + k) r)
         (close-if t o ds (eachAll fine (length ds + k) ks) (walkAll act (length ds + k) ks) r l)
+    limit (ok-noted {d = d} {t = t} {o = o} {ds = ds} {p = p} {e = m} {ks = ks} l h v w) k r =
+        rw (append-assoc o, append-assoc (encodeDecls (walkDecls act k ds)), h (encodeDecls (walkDecls act k ds) ++ (encodeAll (walkAll act (length (namesOf ds) + k) ks) ++ r)), limitDecls v k (encodeAll (walkAll act (length (namesOf ds) + k) ks) ++ r))
+        (noted-if d t o p m (eachDecls fine k ds) (eachAll fine (length (namesOf ds) + k) ks) (walkDecls act k ds) (walkAll act (length (namesOf ds) + k) ks) (encodeAll (walkAll act (length (namesOf ds) + k) ks) ++ r) r (walk-typed act k ds ∙ l) (limitAll w (length (namesOf ds) + k) r))
+
+    limitDecls : {d : ℕ} {ds : Decls} → OkDecls d ds → (k : ℕ) (r : List ℕ)
+        → decls (λ s l. decode d s l) (length (namesOf ds)) (encodeDecls (walkDecls act k ds) ++ r) ≡ declsIf (eachDecls fine k ds) (walkDecls act k ds) r
+    limitDecls ok-end k r = refl
+    limitDecls (ok-bare {n = n} {ds = ds} h w) k r = rw h (bare-if (eachDecls fine k ds) n (walkDecls act k ds) r _ (limitDecls w k r))
+    limitDecls (ok-typed {d = d} {n = n} {f = f} {ds = ds} h g w) k r =
+        rw (h, append-assoc (encode (walk act k f)), limit g k (encodeDecls (walkDecls act k ds) ++ r))
+        (typed-if (each fine k f) (eachDecls fine k ds) n (walk act k f) (walkDecls act k ds) (encodeDecls (walkDecls act k ds) ++ r) r (λ x. decls (λ s l. decode d s l) (length (namesOf ds)) x) (limitDecls w k r))
 
     limitAll : {d : ℕ} {ss : List Sort} {fs : Forms} → OkAll d ss fs → (k : ℕ) (r : List ℕ)
         → decodeAll (λ s l. decode d s l) ss (encodeAll (walkAll act k fs) ++ r) ≡ gotsIf (eachAll fine k fs) (walkAll act k fs) r
@@ -140,6 +184,13 @@ module _ (act : ℕ → Outer → Form) (a : ℕ → Outer → Leaf) (e : (k : �
     walk-length k (leaf (free n)) = rw (e k (named n)) (two-words (a k (named n)))
     walk-length k (leaf (bound i)) = long-index k i (binding k i)
     walk-length k (node t o ds ks) = ap suc (rw (length-append, length-append, length-append o, length-append ds) (let h = walk-lengthAll (length ds + k) ks in omega arith))
+    walk-length k (noted t o ds ks) =
+        ap suc (rw (length-append, length-append, length-append o, length-append (encodeDecls ds)) (let h = walk-lengthAll (length (namesOf ds) + k) ks in let q = walk-lengthDecls k ds in omega arith))
+
+    walk-lengthDecls : (k : ℕ) (ds : Decls) → length (encodeDecls (walkDecls act k ds)) ≡ length (encodeDecls ds)
+    walk-lengthDecls k undeclared = refl
+    walk-lengthDecls k (bare n ds) = ap (λ z. suc (suc z)) (walk-lengthDecls k ds)
+    walk-lengthDecls k (typed n f ds) = ap (λ z. suc (suc z)) (rw (length-append, length-append (encode f), walk-length k f, walk-lengthDecls k ds))
 
     walk-lengthAll : (k : ℕ) (fs : Forms) → length (encodeAll (walkAll act k fs)) ≡ length (encodeAll fs)
     walk-lengthAll k none = refl

@@ -4,9 +4,10 @@ use mathlib.Core.List.{List, [], _∷_, map}
 use lib.IntN.{negsuc}
 use Rattle.tree.specs.Form.{encode}
 use Rattle.tree.specs.Tag.{own, ownOf, shapeOf, exprTags, predTags}
-use Rattle.form.specs.Decode.{read, decode, decodeAll, rowForm, formOf}
+use Rattle.form.specs.Decode.{read, declAt, decls, decode, decodeAll, rowForm, formOf}
 use Rattle.form.specs.Lists.{entryOf, entries, listOf, distinct, goodNames}
-use Rattle.form.specs.Answer.{Outcome, answer, refusal, finish}
+use Rattle.form.specs.Break.{declsNext, nextOf, least, leastAll, after, breakFrom, breakAt}
+use Rattle.form.specs.Answer.{Outcome, answer, stop, refusal, finish}
 use Rattle.rules.specs.Walk.{walk, collect}
 use Rattle.rules.specs.Shift as S
 use Rattle.rules.specs.Free.{substitute, freeOutcome}
@@ -52,5 +53,42 @@ answers =
     ∷ []
 
 pub starred : map outcomeOf commands ≡ answers
-unfolding outcomeOf S.shiftOutcome S.shift freeOutcome substitute B.bindOutcome B.bind F.fillOutcome F.fill F.quantified P.pruneOutcome P.prune pointOutcome onePoint memberOutcome membership offerAll instantiatePartial putRound scan offerParts accept parts walk collect finish goodNames distinct listOf entries entryOf formOf rowForm decode decodeAll read own ownOf shapeOf exprTags predTags encode
+unfolding outcomeOf S.shiftOutcome S.shift freeOutcome substitute B.bindOutcome B.bind F.fillOutcome F.fill F.quantified P.pruneOutcome P.prune pointOutcome onePoint memberOutcome membership offerAll instantiatePartial putRound scan offerParts accept parts walk collect finish goodNames distinct listOf entries entryOf formOf rowForm decode decodeAll declAt decls read own ownOf shapeOf exprTags predTags encode
 starred = refl
+
+-- the same for annotated declarations
+abbrev notedCommands : List Command
+notedCommands =
+    shift (negsuc 0) (861 ∷ 1 ∷ 9 ∷ 1 ∷ 2 ∷ 1 ∷ 101 ∷ 2 ∷ 0 ∷ 2 ∷ 2 ∷ [])
+    ∷ shift (negsuc 0) (861 ∷ 1 ∷ 9 ∷ 1 ∷ 2 ∷ 0 ∷ 101 ∷ 2 ∷ 0 ∷ 2 ∷ 2 ∷ [])
+    ∷ shift (negsuc 0) (861 ∷ 1 ∷ 9 ∷ 0 ∷ 610 ∷ [])
+    ∷ bind (7 ∷ []) (861 ∷ 1 ∷ 9 ∷ 1 ∷ 1 ∷ 7 ∷ 101 ∷ 2 ∷ 0 ∷ 1 ∷ 7 ∷ [])
+    ∷ fill (0 ∷ 1 ∷ 1 ∷ 5 ∷ []) (862 ∷ 2 ∷ 4 ∷ 1 ∷ 2 ∷ 0 ∷ 5 ∷ 0 ∷ 101 ∷ 2 ∷ 1 ∷ 2 ∷ 2 ∷ [])
+    ∷ fill (1 ∷ 1 ∷ 5 ∷ 0 ∷ []) (862 ∷ 2 ∷ 4 ∷ 1 ∷ 1 ∷ 6 ∷ 5 ∷ 0 ∷ 101 ∷ 2 ∷ 0 ∷ 2 ∷ 1 ∷ [])
+    ∷ prune (862 ∷ 2 ∷ 4 ∷ 0 ∷ 5 ∷ 1 ∷ 1 ∷ 8 ∷ 101 ∷ 2 ∷ 1 ∷ 1 ∷ 7 ∷ [])
+    ∷ prune (862 ∷ 2 ∷ 4 ∷ 1 ∷ 2 ∷ 0 ∷ 5 ∷ 1 ∷ 1 ∷ 8 ∷ 101 ∷ 2 ∷ 1 ∷ 1 ∷ 7 ∷ [])
+    ∷ point (852 ∷ 2 ∷ 4 ∷ 5 ∷ 351 ∷ 2 ∷ 101 ∷ 2 ∷ 0 ∷ 2 ∷ 1 ∷ 862 ∷ 1 ∷ 6 ∷ 1 ∷ 2 ∷ 2 ∷ 101 ∷ 2 ∷ 0 ∷ 2 ∷ 1 ∷ [])
+    ∷ point (852 ∷ 2 ∷ 4 ∷ 5 ∷ 351 ∷ 2 ∷ 101 ∷ 2 ∷ 0 ∷ 2 ∷ 1 ∷ 862 ∷ 1 ∷ 6 ∷ 1 ∷ 2 ∷ 1 ∷ 101 ∷ 2 ∷ 0 ∷ 2 ∷ 1 ∷ [])
+    ∷ point (862 ∷ 3 ∷ 4 ∷ 0 ∷ 5 ∷ 0 ∷ 6 ∷ 1 ∷ 2 ∷ 3 ∷ 351 ∷ 2 ∷ 101 ∷ 2 ∷ 1 ∷ 2 ∷ 2 ∷ 101 ∷ 2 ∷ 0 ∷ 2 ∷ 1 ∷ [])
+    ∷ member (107 ∷ 1 ∷ 7 ∷ 873 ∷ 0 ∷ 1 ∷ 4 ∷ 1 ∷ 2 ∷ 3 ∷ 610 ∷ 3 ∷ 5 ∷ [])
+    ∷ []
+
+abbrev notedAnswers : List Outcome
+notedAnswers =
+    answer (861 ∷ 1 ∷ 9 ∷ 1 ∷ 2 ∷ 0 ∷ 101 ∷ 2 ∷ 0 ∷ 2 ∷ 1 ∷ [])
+    ∷ refusal 6
+    ∷ stop 2 3
+    ∷ answer (861 ∷ 1 ∷ 9 ∷ 1 ∷ 2 ∷ 0 ∷ 101 ∷ 2 ∷ 0 ∷ 2 ∷ 1 ∷ [])
+    ∷ answer (862 ∷ 1 ∷ 4 ∷ 1 ∷ 2 ∷ 0 ∷ 101 ∷ 2 ∷ 0 ∷ 2 ∷ 1 ∷ [])
+    ∷ answer (852 ∷ 1 ∷ 5 ∷ 101 ∷ 2 ∷ 0 ∷ 1 ∷ 5 ∷ [])
+    ∷ answer (852 ∷ 1 ∷ 4 ∷ 101 ∷ 2 ∷ 0 ∷ 1 ∷ 7 ∷ [])
+    ∷ answer (862 ∷ 1 ∷ 4 ∷ 1 ∷ 2 ∷ 0 ∷ 101 ∷ 2 ∷ 0 ∷ 1 ∷ 7 ∷ [])
+    ∷ answer (862 ∷ 2 ∷ 4 ∷ 0 ∷ 6 ∷ 1 ∷ 2 ∷ 0 ∷ 101 ∷ 2 ∷ 0 ∷ 2 ∷ 1 ∷ [])
+    ∷ answer (852 ∷ 1 ∷ 4 ∷ 862 ∷ 1 ∷ 6 ∷ 1 ∷ 2 ∷ 0 ∷ 101 ∷ 2 ∷ 0 ∷ 2 ∷ 1 ∷ [])
+    ∷ answer (862 ∷ 2 ∷ 4 ∷ 0 ∷ 6 ∷ 1 ∷ 2 ∷ 3 ∷ 101 ∷ 2 ∷ 0 ∷ 2 ∷ 1 ∷ [])
+    ∷ answer (862 ∷ 1 ∷ 4 ∷ 1 ∷ 2 ∷ 3 ∷ 351 ∷ 2 ∷ 610 ∷ 101 ∷ 3 ∷ 5 ∷ 1 ∷ 7 ∷ [])
+    ∷ []
+
+pub noted-cases : map outcomeOf notedCommands ≡ notedAnswers
+unfolding outcomeOf S.shiftOutcome S.shift freeOutcome substitute B.bindOutcome B.bind F.fillOutcome F.fill F.quantified P.pruneOutcome P.prune pointOutcome onePoint memberOutcome membership offerAll instantiatePartial putRound scan offerParts accept parts walk collect finish goodNames distinct listOf entries entryOf formOf rowForm decode decodeAll declAt decls read breakAt breakFrom after least leastAll declsNext nextOf own ownOf shapeOf exprTags predTags encode
+noted-cases = refl

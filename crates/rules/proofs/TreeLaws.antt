@@ -10,7 +10,7 @@ use borrow.Author.Tests.{le-leb, leb-true, leb-false, eq-eqb}
 use lib.Dec.{leb}
 use lib.IntN.{ℤ, pos, negsuc}
 use lib.ListN.{length}
-use Rattle.tree.specs.Form.{free, bound, Form, leaf, node, Forms, none, more, pick}
+use Rattle.tree.specs.Form.{free, bound, Form, leaf, node, noted, Decls, undeclared, bare, typed, namesOf, Forms, none, more, pick}
 use Rattle.tree.specs.Tag.{Sort}
 use Rattle.form.specs.Decode.{found, formOf}
 use Rattle.form.specs.Lists.{Place, Entry, entry}
@@ -18,11 +18,11 @@ use Rattle.form.specs.Answer.{answer, finish}
 use Rattle.form.specs.declared.answer.Kind.the-variants.{Either}
 use Rattle.form.proofs.DecodeLaws.{clash}
 use Rattle.form.proofs.RowLaws.{row-encode, found-row}
-use Rattle.rules.specs.Walk.{Binding, inside, outside, binding, Outer, named, dangling, walkIndex, walk, walkAll, up, lift, put, collectIndex, collect, each}
+use Rattle.rules.specs.Walk.{Binding, inside, outside, binding, Outer, named, dangling, walkIndex, walk, walkDecls, walkAll, up, lift, put, collectIndex, collect, each}
 use Rattle.rules.specs.Dangling.{isNamed, closed}
 use Rattle.rules.specs.Shift.{reaches, fall, lower, shift, shiftOutcome}
 use Rattle.rules.specs.Free.{orName, seek}
-use Rattle.rules.proofs.WalkLaws.{eachAll, binding-add, binding-back, fuse-level, shift-shift, self, each-agree, each-all, walk-agree}
+use Rattle.rules.proofs.WalkLaws.{eachAll, eachDecls, walk-names, binding-add, binding-back, fuse-level, shift-shift, self, each-agree, each-all, walk-agree}
 
 -- the walk that puts each identifier for itself
 self-index : (k i : ℕ) (z : Binding) → binding k i ≡ z → walkIndex self k i z ≡ leaf (bound i)
@@ -36,6 +36,12 @@ mutual
   walk-self k (leaf (free n)) = refl
   walk-self k (leaf (bound i)) = self-index k i (binding k i) refl
   walk-self k (node t o ds ks) = ap (λ z. node t o ds z) (walk-selfAll (length ds + k) ks)
+  walk-self k (noted t o ds ks) = rw (walk-selfDecls k ds, walk-selfAll (length (namesOf ds) + k) ks)
+
+  walk-selfDecls : (k : ℕ) (ds : Decls) → walkDecls self k ds ≡ ds
+  walk-selfDecls k undeclared = refl
+  walk-selfDecls k (bare n ds) = ap (λ z. bare n z) (walk-selfDecls k ds)
+  walk-selfDecls k (typed n f ds) = rw (walk-self k f, walk-selfDecls k ds)
 
   walk-selfAll : (k : ℕ) (fs : Forms) → walkAll self k fs ≡ fs
   walk-selfAll k none = refl
@@ -98,6 +104,12 @@ module _ (p : ℕ → Outer → Bool) (act : ℕ → Outer → Form) where
     each-walk k (leaf (free n)) = refl
     each-walk k (leaf (bound i)) = after-index k i (binding k i) refl
     each-walk k (node t o ds ks) = each-walkAll (length ds + k) ks
+    each-walk k (noted t o ds ks) = rw (walk-names act k ds, each-walkDecls k ds, each-walkAll (length (namesOf ds) + k) ks)
+
+    each-walkDecls : (k : ℕ) (ds : Decls) → eachDecls p k (walkDecls act k ds) ≡ eachDecls after k ds
+    each-walkDecls k undeclared = refl
+    each-walkDecls k (bare n ds) = each-walkDecls k ds
+    each-walkDecls k (typed n f ds) = rw (each-walk k f, each-walkDecls k ds)
 
     each-walkAll : (k : ℕ) (fs : Forms) → eachAll p k (walkAll act k fs) ≡ eachAll after k fs
     each-walkAll k none = refl

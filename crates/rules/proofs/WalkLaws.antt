@@ -2,17 +2,34 @@
 -- and tests that agree. Assumes nothing.
 use mathlib.Core.Path.{_≡_, refl, ap, _∙_, sym}
 use mathlib.Core.Bool.{Bool, true, false, _&&_}
+use mathlib.Core.List.{_∷_}
 use Prim.Native.Nat.{ℕ, zero, suc, _+_, _<_}
 use native.Mathlib.Nat.{zero-add, suc-add, add-zero, add-assoc}
 use native.Mathlib.Omega.{arith}
 use lib.ListN.{length}
-use Rattle.tree.specs.Form.{Leaf, free, bound, Form, leaf, node, Forms, none, more}
+use Rattle.tree.specs.Form.{Leaf, free, bound, Form, leaf, node, noted, Decls, undeclared, bare, typed, namesOf, anyTyped, Forms, none, more}
 use Rattle.form.proofs.DecodeLaws.{clash}
-use Rattle.rules.specs.Walk.{Binding, inside, outside, binding, Outer, named, dangling, walkIndex, walkLeaf, walk, walkAll, up, lift, put, subst, collectIndex, collectLeaf, collect, collectAll, each}
+use Rattle.rules.specs.Walk.{Binding, inside, outside, binding, Outer, named, dangling, walkIndex, walkLeaf, walk, walkDecls, walkAll, up, lift, put, subst, collectIndex, collectLeaf, collect, collectDecls, collectAll, each}
 
 -- the test on several forms
 abbrev pub eachAll : (ℕ → Outer → Bool) → ℕ → Forms → Bool
 eachAll p k fs = collectAll true _&&_ p k fs
+
+abbrev pub eachDecls : (ℕ → Outer → Bool) → ℕ → Decls → Bool
+eachDecls p k ds = collectDecls true _&&_ p k ds
+
+-- a walk keeps names, and which declarations have annotations
+pub walk-names : (act : ℕ → Outer → Form) (k : ℕ) (ds : Decls) → namesOf (walkDecls act k ds) ≡ namesOf ds
+unfolding walk
+walk-names act k undeclared = refl
+walk-names act k (bare n ds) = ap (λ z. n ∷ z) (walk-names act k ds)
+walk-names act k (typed n f ds) = ap (λ z. n ∷ z) (walk-names act k ds)
+
+pub walk-typed : (act : ℕ → Outer → Form) (k : ℕ) (ds : Decls) → anyTyped (walkDecls act k ds) ≡ anyTyped ds
+unfolding walk
+walk-typed act k undeclared = refl
+walk-typed act k (bare n ds) = walk-typed act k ds
+walk-typed act k (typed n f ds) = refl
 
 pub binding-inside : (k i : ℕ) → binding k i ≡ inside → i < k
 binding-inside zero i e = absurd (clash cc)
@@ -45,6 +62,12 @@ module _ (a : ℕ) (g f h : ℕ → Outer → Form) (e : (k : ℕ) (x : Outer) �
     pub fuse : (k : ℕ) (t : Form) → walk g (k + a) (walk f k t) ≡ walk h k t
     fuse k (leaf x) = fuse-leaf k x
     fuse k (node t o ds ks) = ap (λ z. node t o ds z) (rw (← add-assoc) (fuseAll (length ds + k) ks))
+    fuse k (noted t o ds ks) = rw (walk-names f k ds, fuseDecls k ds, ← add-assoc) (ap (λ z. noted t o (walkDecls h k ds) z) (fuseAll (length (namesOf ds) + k) ks))
+
+    pub fuseDecls : (k : ℕ) (ds : Decls) → walkDecls g (k + a) (walkDecls f k ds) ≡ walkDecls h k ds
+    fuseDecls k undeclared = refl
+    fuseDecls k (bare n ds) = ap (λ z. bare n z) (fuseDecls k ds)
+    fuseDecls k (typed n t ds) = rw (fuse k t, fuseDecls k ds)
 
     pub fuseAll : (k : ℕ) (ts : Forms) → walkAll g (k + a) (walkAll f k ts) ≡ walkAll h k ts
     fuseAll k none = refl
@@ -123,6 +146,13 @@ module _ (g f : ℕ → Outer → Form) (p : ℕ → Outer → Bool) (e : (k : �
     pub undo : (k : ℕ) (t : Form) → each p k t ≡ true → walk g k (walk f k t) ≡ t
     undo k (leaf x) b = undo-leaf k x b
     undo k (node t o ds ks) b = ap (λ z. node t o ds z) (undoAll (length ds + k) ks b)
+    undo k (noted t o ds ks) b =
+        rw (walk-names f k ds, undoDecls k ds (and-left (eachDecls p k ds) (eachAll p (length (namesOf ds) + k) ks) b), undoAll (length (namesOf ds) + k) ks (and-right (eachDecls p k ds) (eachAll p (length (namesOf ds) + k) ks) b))
+
+    undoDecls : (k : ℕ) (ds : Decls) → eachDecls p k ds ≡ true → walkDecls g k (walkDecls f k ds) ≡ ds
+    undoDecls k undeclared b = refl
+    undoDecls k (bare n ds) b = ap (λ z. bare n z) (undoDecls k ds b)
+    undoDecls k (typed n t ds) b = rw (undo k t (and-left (each p k t) (eachDecls p k ds) b), undoDecls k ds (and-right (each p k t) (eachDecls p k ds) b))
 
     pub undoAll : (k : ℕ) (ts : Forms) → eachAll p k ts ≡ true → walkAll g k (walkAll f k ts) ≡ ts
     undoAll k none b = refl
@@ -144,6 +174,13 @@ module _ (w p q : ℕ → Outer → Bool) (e : (k : ℕ) (x : Outer) → w k x �
     pub each-agree : (k : ℕ) (f : Form) → each w k f ≡ true → each p k f ≡ each q k f
     each-agree k (leaf x) h = agree-leaf k x h
     each-agree k (node t o ds ks) h = each-agreeAll (length ds + k) ks h
+    each-agree k (noted t o ds ks) h =
+        rw (each-agreeDecls k ds (and-left (eachDecls w k ds) (eachAll w (length (namesOf ds) + k) ks) h), each-agreeAll (length (namesOf ds) + k) ks (and-right (eachDecls w k ds) (eachAll w (length (namesOf ds) + k) ks) h))
+
+    each-agreeDecls : (k : ℕ) (ds : Decls) → eachDecls w k ds ≡ true → eachDecls p k ds ≡ eachDecls q k ds
+    each-agreeDecls k undeclared h = refl
+    each-agreeDecls k (bare n ds) h = each-agreeDecls k ds h
+    each-agreeDecls k (typed n f ds) h = rw (each-agree k f (and-left (each w k f) (eachDecls w k ds) h), each-agreeDecls k ds (and-right (each w k f) (eachDecls w k ds) h))
 
     each-agreeAll : (k : ℕ) (fs : Forms) → eachAll w k fs ≡ true → eachAll p k fs ≡ eachAll q k fs
     each-agreeAll k none h = refl
@@ -166,6 +203,12 @@ mutual
   pub each-always : (k : ℕ) (f : Form) → each always k f ≡ true
   each-always k (leaf x) = always-leaf k x
   each-always k (node t o ds ks) = each-alwaysAll (length ds + k) ks
+  each-always k (noted t o ds ks) = rw (each-alwaysDecls k ds, each-alwaysAll (length (namesOf ds) + k) ks)
+
+  each-alwaysDecls : (k : ℕ) (ds : Decls) → eachDecls always k ds ≡ true
+  each-alwaysDecls k undeclared = refl
+  each-alwaysDecls k (bare n ds) = each-alwaysDecls k ds
+  each-alwaysDecls k (typed n f ds) = rw (each-always k f, each-alwaysDecls k ds)
 
   each-alwaysAll : (k : ℕ) (fs : Forms) → eachAll always k fs ≡ true
   each-alwaysAll k none = refl
@@ -193,6 +236,13 @@ module _ (p : ℕ → Outer → Bool) (a b : ℕ → Outer → Form) (e : (k : �
     pub walk-agree : (k : ℕ) (f : Form) → each p k f ≡ true → walk a k f ≡ walk b k f
     walk-agree k (leaf x) h = same-leaf k x h
     walk-agree k (node t o ds ks) h = ap (λ z. node t o ds z) (walk-agreeAll (length ds + k) ks h)
+    walk-agree k (noted t o ds ks) h =
+        rw (walk-agreeDecls k ds (and-left (eachDecls p k ds) (eachAll p (length (namesOf ds) + k) ks) h), walk-agreeAll (length (namesOf ds) + k) ks (and-right (eachDecls p k ds) (eachAll p (length (namesOf ds) + k) ks) h))
+
+    walk-agreeDecls : (k : ℕ) (ds : Decls) → eachDecls p k ds ≡ true → walkDecls a k ds ≡ walkDecls b k ds
+    walk-agreeDecls k undeclared h = refl
+    walk-agreeDecls k (bare n ds) h = ap (λ z. bare n z) (walk-agreeDecls k ds h)
+    walk-agreeDecls k (typed n f ds) h = rw (walk-agree k f (and-left (each p k f) (eachDecls p k ds) h), walk-agreeDecls k ds (and-right (each p k f) (eachDecls p k ds) h))
 
     walk-agreeAll : (k : ℕ) (fs : Forms) → eachAll p k fs ≡ true → walkAll a k fs ≡ walkAll b k fs
     walk-agreeAll k none h = refl

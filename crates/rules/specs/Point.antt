@@ -9,7 +9,7 @@ use Rattle.tree.specs.Form.{Form, node, none, pick}
 use Rattle.tree.specs.Tag.{pred}
 use Rattle.form.specs.Answer.{Outcome, refusal, withWork, withForm, finish}
 use Rattle.form.specs.declared.answer.Kind.the-variants.{Predicate}
-use Rattle.rules.specs.Fill.{Quantified, quantifier, other, quantified}
+use Rattle.rules.specs.Fill.{Decl, Quantified, quantifier, other, quantified}
 use Rattle.rules.specs.Replacement.{taken, nothing}
 use Rattle.rules.specs.Scan.{Scan, scanned, scan}
 use Rattle.rules.specs.Partial.{noPlaces, setPlace, instantiatePartial}
@@ -22,7 +22,7 @@ polarity t = eqb t 852
 abbrev pub restOf : Bool → Option Form → Form
 restOf b = elim [ some f ↦ f | absent ↦ node (pick b 610 611) [] [] none ]
 
-abbrev pub reduce : ℕ → List ℕ → Scan → Option Form
+abbrev pub reduce : ℕ → List Decl → Scan → Option Form
 reduce t ns (scanned nothing g) = absent
 reduce t ns (scanned (taken i e) g) =
     some (instantiatePartial t ns (setPlace (length ns) i e (noPlaces (length ns))) (restOf (polarity t) g))

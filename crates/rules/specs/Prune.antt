@@ -10,7 +10,7 @@ use Rattle.form.specs.Lists.{Place, kept, filled}
 use Rattle.form.specs.Answer.{Outcome, withForm, needs, finish}
 use Rattle.form.specs.declared.answer.Kind.the-variants.{Predicate}
 use Rattle.rules.specs.Walk.{Outer, named, dangling, each}
-use Rattle.rules.specs.Fill.{keptCount, fill, ofQuantified, quantified}
+use Rattle.rules.specs.Fill.{Decl, keptCount, fill, ofQuantified, quantified}
 
 abbrev pub isNot : ℕ → ℕ → Outer → Bool
 isNot i k = elim [ named m ↦ true | dangling j ↦ not (eqb i j) ]
@@ -19,11 +19,11 @@ abbrev pub unused : ℕ → Form → Bool
 unused i f = each (isNot i) 0 f
 
 -- a used declaration is kept; what stands for an unused one is never read
-abbrev pub usedPlaces : List ℕ → Form → List Place
+abbrev pub usedPlaces : List Decl → Form → List Place
 usedPlaces [] f = []
 usedPlaces (n ∷ ns) f = pick (unused (length ns) f) (filled (leaf (free 0))) kept ∷ usedPlaces ns f
 
-unfoldable pub prune : ℕ → List ℕ → Form → Form
+unfoldable pub prune : ℕ → List Decl → Form → Form
 prune t ns f = fill t ns (usedPlaces ns f) f
 
 unfoldable pub pruneOutcome : List ℕ → ℕ → Outcome

@@ -3,7 +3,7 @@ use mathlib.Core.Bool.{Bool}
 use mathlib.Core.Option.{Option, none as absent, some}
 use Prim.Native.Nat.{ℕ, suc}
 use lib.Dec.{ltb}
-use Rattle.tree.specs.Form.{free, bound, Form, leaf, node, pick}
+use Rattle.tree.specs.Form.{free, bound, Form, leaf, node, noted, pick}
 use Rattle.rules.specs.Walk.{each}
 use Rattle.rules.specs.Shift.{reaches}
 
@@ -19,7 +19,7 @@ pub data Offer : Type 0 where
   no-offer : Offer
 
 abbrev pub indexOf : Form → Option ℕ
-indexOf = elim [ leaf x ↦ elim x [ free n ↦ absent | bound i ↦ some i ] | node t o ds ks ↦ absent ]
+indexOf = elim [ leaf x ↦ elim x [ free n ↦ absent | bound i ↦ some i ] | node t o ds ks ↦ absent | noted t o ds ks ↦ absent ]
 
 -- both sides bound: the smaller index and the other side; else the side that is bound, the right one first
 abbrev pub offerOf : Option ℕ → Option ℕ → Offer

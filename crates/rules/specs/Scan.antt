@@ -6,7 +6,7 @@ use mathlib.Core.Option.{Option, none as absent, some, Option·map}
 use Prim.Native.Nat.{ℕ}
 use lib.Dec.{eqb}
 use lib.ListN.{getD}
-use Rattle.tree.specs.Form.{Form, leaf, node, Forms, none, more, pick, count}
+use Rattle.tree.specs.Form.{Form, leaf, node, noted, Forms, none, more, pick, count}
 use Rattle.rules.specs.Replacement.{Taken, taken, nothing, accept}
 use Rattle.rules.specs.Split.{ofTwo, isTwo, isNil, parts, equal}
 
@@ -23,6 +23,7 @@ negate (leaf x) = node 8 [] [] (more (leaf x) none)
 negate (node t o ds none) = node 8 [] [] (more (node t o ds none) none)
 negate (node t o [] (more f fs)) = pick (eqb t 8) f (node 8 [] [] (more (node t o [] (more f fs)) none))
 negate (node t o (d ∷ ds) (more f fs)) = node 8 [] [] (more (node t o (d ∷ ds) (more f fs)) none)
+negate (noted t o ds ks) = node 8 [] [] (more (noted t o ds ks) none)
 
 -- what is left of the children that are not gone
 abbrev pub present : List (Option Form) → Forms
@@ -103,6 +104,7 @@ unfoldable mutual
   scan n b (leaf x) = scanned nothing (some (leaf x))
   scan n b (node t o ds ks) =
       rebuild n (role t ds ks b) t (node t o ds ks) ks (scanAll n (firstPolarity (role t ds ks b) b) b ks)
+  scan n b (noted t o ds ks) = scanned nothing (some (noted t o ds ks))
 
   -- the first child with one polarity, the others with another
   pub scanAll : ℕ → Bool → Bool → Forms → Scans

@@ -3,7 +3,7 @@ use mathlib.Core.Bool.{Bool, true, false, _&&_}
 use mathlib.Core.List.{List, [], _∷_, _++_}
 use Prim.Native.Nat.{ℕ}
 use lib.Dec.{eqb}
-use Rattle.tree.specs.Form.{Form, leaf, node, Forms, none, more, pick}
+use Rattle.tree.specs.Form.{Form, leaf, node, noted, Forms, none, more, pick}
 
 -- what go makes of two children; d of any other number
 abbrev pub ofTwo : {A : Type 0} → A → (Form → Form → A) → Forms → A
@@ -27,6 +27,8 @@ unfoldable mutual
   parts (node t o ds ks) (leaf y) = (node t o ds ks, leaf y) ∷ []
   parts (node t o ds ks) (node u p es js) =
       pick (isPair t ds ks && isPair u es js) (partsAll ks js) ((node t o ds ks, node u p es js) ∷ [])
+  parts (node t o ds ks) (noted u p es js) = (node t o ds ks, noted u p es js) ∷ []
+  parts (noted t o ds ks) r = (noted t o ds ks, r) ∷ []
 
   pub partsAll : Forms → Forms → List (Form × Form)
   partsAll none js = []

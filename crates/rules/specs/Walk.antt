@@ -3,7 +3,7 @@
 use mathlib.Core.Bool.{Bool, true, _&&_}
 use Prim.Native.Nat.{ℕ, zero, suc, _+_}
 use lib.ListN.{length}
-use Rattle.tree.specs.Form.{Leaf, free, bound, Form, leaf, node, Forms, none, more}
+use Rattle.tree.specs.Form.{Leaf, free, bound, Form, leaf, node, noted, Decls, undeclared, bare, typed, namesOf, Forms, none, more}
 
 -- index i under k open declarations: bound there, or dangling as i - k
 pub data Binding : Type 0 where
@@ -29,6 +29,13 @@ unfoldable mutual
   pub walk : (ℕ → Outer → Form) → ℕ → Form → Form
   walk act k (leaf x) = walkLeaf act k x
   walk act k (node t o ds ks) = node t o ds (walkAll act (length ds + k) ks)
+  walk act k (noted t o ds ks) = noted t o (walkDecls act k ds) (walkAll act (length (namesOf ds) + k) ks)
+
+  -- annotations stand outside the declarations
+  pub walkDecls : (ℕ → Outer → Form) → ℕ → Decls → Decls
+  walkDecls act k undeclared = undeclared
+  walkDecls act k (bare n ds) = bare n (walkDecls act k ds)
+  walkDecls act k (typed n f ds) = typed n (walk act k f) (walkDecls act k ds)
 
   pub walkAll : (ℕ → Outer → Form) → ℕ → Forms → Forms
   walkAll act k none = none
@@ -58,6 +65,12 @@ unfoldable mutual
   pub collect : {A : Type 0} → A → (A → A → A) → (ℕ → Outer → A) → ℕ → Form → A
   collect e join p k (leaf x) = collectLeaf e p k x
   collect e join p k (node t o ds ks) = collectAll e join p (length ds + k) ks
+  collect e join p k (noted t o ds ks) = join (collectDecls e join p k ds) (collectAll e join p (length (namesOf ds) + k) ks)
+
+  pub collectDecls : {A : Type 0} → A → (A → A → A) → (ℕ → Outer → A) → ℕ → Decls → A
+  collectDecls e join p k undeclared = e
+  collectDecls e join p k (bare n ds) = collectDecls e join p k ds
+  collectDecls e join p k (typed n f ds) = join (collect e join p k f) (collectDecls e join p k ds)
 
   pub collectAll : {A : Type 0} → A → (A → A → A) → (ℕ → Outer → A) → ℕ → Forms → A
   collectAll e join p k none = e

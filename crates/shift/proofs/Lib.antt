@@ -6,3 +6,4 @@ pub mod SignedLaws
 pub mod WordwiseLaws
 pub mod ShiftLaws
 pub mod SlotLaws
+pub mod AroundLaws

@@ -6,13 +6,13 @@ use Prim.Native.Nat.{ℕ, zero, suc, _+_, _-_, _≤_}
 use native.Mathlib.Nat.{sub-zero, add-zero, add-assoc}
 use native.Mathlib.Omega.{arith}
 use lib.ListN.{length, length-append, length-replicate, set, replicate}
-use Rattle.tree.specs.Form.{Leaf, free, bound, Form, leaf, node, Forms, none, more, encode, encodeAll}
-use Rattle.reader.specs.Internal.Reads.{mark, markAll}
-use Rattle.rules.specs.Walk.{Outer, walkLeaf, walk, walkAll, collectLeaf, collect, each}
+use Rattle.tree.specs.Form.{Leaf, free, bound, Form, leaf, node, noted, Decls, undeclared, bare, typed, namesOf, Forms, none, more, encode, encodeDecls, encodeAll}
+use Rattle.reader.specs.Internal.Reads.{mark, markDecls, markAll}
+use Rattle.rules.specs.Walk.{Outer, walkLeaf, walk, walkDecls, walkAll, collectLeaf, collect, each}
 use Rattle.shift.specs.Internal.Items.{items, rewritten, allItems}
 use Rattle.shift.specs.declared.items.Item.{Item}
 use Rattle.shift.specs.declared.items.Item.the-variants.{Plain, Ident}
-use Rattle.rules.proofs.WalkLaws.{eachAll}
+use Rattle.rules.proofs.WalkLaws.{eachAll, eachDecls}
 
 abbrev pub identOf : ℕ → Leaf → Item
 identOf k (free n) = Ident k 1 n
@@ -31,6 +31,12 @@ unfoldable mutual
   pub itemsOf : ℕ → Form → List Item
   itemsOf k (leaf x) = identOf k x ∷ []
   itemsOf k (node t o ds ks) = Plain t ∷ (plain o ++ (plain ds ++ itemsAll (length ds + k) ks))
+  itemsOf k (noted t o ds ks) = Plain t ∷ (plain o ++ (itemsDecls k ds ++ itemsAll (length (namesOf ds) + k) ks))
+
+  pub itemsDecls : ℕ → Decls → List Item
+  itemsDecls k undeclared = []
+  itemsDecls k (bare n ds) = Plain n ∷ Plain 0 ∷ itemsDecls k ds
+  itemsDecls k (typed n f ds) = Plain n ∷ Plain 1 ∷ (itemsOf k f ++ itemsDecls k ds)
 
   pub itemsAll : ℕ → Forms → List Item
   itemsAll k none = []
@@ -40,6 +46,12 @@ unfoldable mutual
   pub marksOf : ℕ → Form → List ℕ
   marksOf k (leaf x) = suc k ∷ 0 ∷ []
   marksOf k (node t o ds ks) = 0 ∷ (zeros o ++ (zeros ds ++ marksAll (length ds + k) ks))
+  marksOf k (noted t o ds ks) = 0 ∷ (zeros o ++ (marksDecls k ds ++ marksAll (length (namesOf ds) + k) ks))
+
+  pub marksDecls : ℕ → Decls → List ℕ
+  marksDecls k undeclared = []
+  marksDecls k (bare n ds) = 0 ∷ 0 ∷ marksDecls k ds
+  marksDecls k (typed n f ds) = 0 ∷ 0 ∷ (marksOf k f ++ marksDecls k ds)
 
   pub marksAll : ℕ → Forms → List ℕ
   marksAll k none = []
@@ -69,6 +81,26 @@ mutual
         items-plain ds,
         items-encodeAll (length ds + k) ks r m,
       ))
+  items-encode k (noted t o ds ks) r m =
+      ap (λ z. Plain t ∷ z)
+      (rw (
+        append-assoc o,
+        append-assoc (encodeDecls ds),
+        append-assoc (zeros o),
+        append-assoc (marksDecls k ds),
+        append-assoc (plain o),
+        append-assoc (itemsDecls k ds),
+        items-plain o,
+        items-encodeDecls k ds (encodeAll ks ++ r) (marksAll (length (namesOf ds) + k) ks ++ m),
+        items-encodeAll (length (namesOf ds) + k) ks r m,
+      ))
+
+  pub items-encodeDecls : (k : ℕ) (ds : Decls) (r m : List ℕ) → items (encodeDecls ds ++ r) (marksDecls k ds ++ m) ≡ itemsDecls k ds ++ items r m
+  items-encodeDecls k undeclared r m = refl
+  items-encodeDecls k (bare n ds) r m = ap (λ z. Plain n ∷ Plain 0 ∷ z) (items-encodeDecls k ds r m)
+  items-encodeDecls k (typed n f ds) r m =
+      ap (λ z. Plain n ∷ Plain 1 ∷ z)
+      (rw (append-assoc (encode f), append-assoc (marksOf k f), append-assoc (itemsOf k f), items-encode k f (encodeDecls ds ++ r) (marksDecls k ds ++ m), items-encodeDecls k ds r m))
 
   items-encodeAll : (k : ℕ) (fs : Forms) (r m : List ℕ) → items (encodeAll fs ++ r) (marksAll k fs ++ m) ≡ itemsAll k fs ++ items r m
   items-encodeAll k none r m = refl
@@ -95,6 +127,13 @@ mutual
   marks-length k (leaf (free n)) = refl
   marks-length k (leaf (bound n)) = refl
   marks-length k (node t o ds ks) = ap suc (rw (length-append, length-append, length-append o, length-append ds, zeros-length o, zeros-length ds, marks-lengthAll (length ds + k) ks))
+  marks-length k (noted t o ds ks) =
+      ap suc (rw (length-append, length-append, length-append o, length-append (encodeDecls ds), zeros-length o, marks-lengthDecls k ds, marks-lengthAll (length (namesOf ds) + k) ks))
+
+  pub marks-lengthDecls : (k : ℕ) (ds : Decls) → length (marksDecls k ds) ≡ length (encodeDecls ds)
+  marks-lengthDecls k undeclared = refl
+  marks-lengthDecls k (bare n ds) = ap (λ z. suc (suc z)) (marks-lengthDecls k ds)
+  marks-lengthDecls k (typed n f ds) = ap (λ z. suc (suc z)) (rw (length-append, length-append (encode f), marks-length k f, marks-lengthDecls k ds))
 
   marks-lengthAll : (k : ℕ) (fs : Forms) → length (marksAll k fs) ≡ length (encodeAll fs)
   marks-lengthAll k none = refl
@@ -110,6 +149,25 @@ mutual
       let x : a ++ (zeros (t ∷ (o ++ (ds ++ encodeAll ks))) ++ b) ≡ (a ++ (0 ∷ (zeros o ++ zeros ds))) ++ (zeros (encodeAll ks) ++ b) = simp (zeros-append, append-assoc) in
       let l : length (a ++ (0 ∷ (zeros o ++ zeros ds))) ≡ at + suc (length o + length ds) = rw (length-append, length-append, zeros-length, zeros-length) (omega arith) in
       rw (x, mark-zerosAll ks (at + suc (length o + length ds)) (length ds + k) (a ++ (0 ∷ (zeros o ++ zeros ds))) b l) (simp append-assoc)
+  mark-zeros (noted t o ds ks) at k a b e =
+      let x : a ++ (zeros (t ∷ (o ++ (encodeDecls ds ++ encodeAll ks))) ++ b) ≡ (a ++ (0 ∷ zeros o)) ++ (zeros (encodeDecls ds) ++ (zeros (encodeAll ks) ++ b)) = simp (zeros-append, append-assoc) in
+      let l : length (a ++ (0 ∷ zeros o)) ≡ at + suc (length o) = rw (length-append, zeros-length) (omega arith) in
+      let y : (a ++ (0 ∷ zeros o)) ++ (marksDecls k ds ++ (zeros (encodeAll ks) ++ b)) ≡ ((a ++ (0 ∷ zeros o)) ++ marksDecls k ds) ++ (zeros (encodeAll ks) ++ b) = simp append-assoc in
+      let m : length ((a ++ (0 ∷ zeros o)) ++ marksDecls k ds) ≡ at + suc (length o + length (encodeDecls ds)) = rw (length-append, marks-lengthDecls k ds, l) (omega arith) in
+      rw (x, mark-zerosDecls ds (at + suc (length o)) k (a ++ (0 ∷ zeros o)) (zeros (encodeAll ks) ++ b) l, y, mark-zerosAll ks (at + suc (length o + length (encodeDecls ds))) (length (namesOf ds) + k) ((a ++ (0 ∷ zeros o)) ++ marksDecls k ds) b m) (simp append-assoc)
+
+  mark-zerosDecls : (ds : Decls) (at k : ℕ) (a b : List ℕ) → length a ≡ at → markDecls ds at k (a ++ (zeros (encodeDecls ds) ++ b)) ≡ a ++ (marksDecls k ds ++ b)
+  mark-zerosDecls undeclared at k a b e = refl
+  mark-zerosDecls (bare n ds) at k a b e =
+      let x : a ++ (0 ∷ 0 ∷ (zeros (encodeDecls ds) ++ b)) ≡ (a ++ (0 ∷ 0 ∷ [])) ++ (zeros (encodeDecls ds) ++ b) = simp append-assoc in
+      let l : length (a ++ (0 ∷ 0 ∷ [])) ≡ at + 2 = rw length-append (omega arith) in
+      rw (x, mark-zerosDecls ds (at + 2) k (a ++ (0 ∷ 0 ∷ [])) b l) (simp append-assoc)
+  mark-zerosDecls (typed n f ds) at k a b e =
+      let x : a ++ (0 ∷ 0 ∷ (zeros (encode f ++ encodeDecls ds) ++ b)) ≡ (a ++ (0 ∷ 0 ∷ [])) ++ (zeros (encode f) ++ (zeros (encodeDecls ds) ++ b)) = simp (zeros-append, append-assoc) in
+      let l : length (a ++ (0 ∷ 0 ∷ [])) ≡ at + 2 = rw length-append (omega arith) in
+      let y : (a ++ (0 ∷ 0 ∷ [])) ++ (marksOf k f ++ (zeros (encodeDecls ds) ++ b)) ≡ ((a ++ (0 ∷ 0 ∷ [])) ++ marksOf k f) ++ (zeros (encodeDecls ds) ++ b) = simp append-assoc in
+      let m : length ((a ++ (0 ∷ 0 ∷ [])) ++ marksOf k f) ≡ at + 2 + length (encode f) = rw (length-append, marks-length k f, l) refl in
+      rw (x, mark-zeros f (at + 2) k (a ++ (0 ∷ 0 ∷ [])) (zeros (encodeDecls ds) ++ b) l, y, mark-zerosDecls ds (at + 2 + length (encode f)) k ((a ++ (0 ∷ 0 ∷ [])) ++ marksOf k f) b m) (simp append-assoc)
 
   mark-zerosAll : (fs : Forms) (at k : ℕ) (a b : List ℕ) → length a ≡ at → markAll fs at k (a ++ (zeros (encodeAll fs) ++ b)) ≡ a ++ (marksAll k fs ++ b)
   mark-zerosAll none at k a b e = refl
@@ -164,6 +222,13 @@ module _ (a : ℕ) (g : Item → List ℕ) (act : ℕ → Outer → Form) (keep 
     pub walk-items-in : (k : ℕ) (f : Form) → rewritten g (itemsOf (k + a) f) ≡ encode (walk act k f)
     walk-items-in k (leaf x) = append-nil (g (identOf (k + a) x)) ∙ does k x
     walk-items-in k (node t o ds ks) = rw (keep t, rewritten-plain o, rewritten-plain ds, ← add-assoc (length ds) k a, walk-itemsAll-in (length ds + k) ks)
+    walk-items-in k (noted t o ds ks) =
+        rw (keep t, rewritten-plain o, rewritten-append g (itemsDecls (k + a) ds), walk-itemsDecls-in k ds, ← add-assoc (length (namesOf ds)) k a, walk-itemsAll-in (length (namesOf ds) + k) ks)
+
+    walk-itemsDecls-in : (k : ℕ) (ds : Decls) → rewritten g (itemsDecls (k + a) ds) ≡ encodeDecls (walkDecls act k ds)
+    walk-itemsDecls-in k undeclared = refl
+    walk-itemsDecls-in k (bare n ds) = rw (keep n, keep 0, walk-itemsDecls-in k ds)
+    walk-itemsDecls-in k (typed n f ds) = rw (keep n, keep 1, rewritten-append g (itemsOf (k + a) f), walk-items-in k f, walk-itemsDecls-in k ds)
 
     walk-itemsAll-in : (k : ℕ) (fs : Forms) → rewritten g (itemsAll (k + a) fs) ≡ encodeAll (walkAll act k fs)
     walk-itemsAll-in k none = refl
@@ -199,6 +264,13 @@ module _ (a : ℕ) (q : Item → Bool) (p : ℕ → Outer → Bool) (keep : (w :
     pub each-items-in : (k : ℕ) (f : Form) → allItems q (itemsOf (k + a) f) ≡ each p k f
     each-items-in k (leaf x) = and-true (q (identOf (k + a) x)) ∙ does k x
     each-items-in k (node t o ds ks) = rw (keep t, all-plain o, all-plain ds, ← add-assoc (length ds) k a, each-itemsAll-in (length ds + k) ks)
+    each-items-in k (noted t o ds ks) =
+        rw (keep t, all-plain o, all-append q (itemsDecls (k + a) ds), each-itemsDecls-in k ds, ← add-assoc (length (namesOf ds)) k a, each-itemsAll-in (length (namesOf ds) + k) ks)
+
+    each-itemsDecls-in : (k : ℕ) (ds : Decls) → allItems q (itemsDecls (k + a) ds) ≡ eachDecls p k ds
+    each-itemsDecls-in k undeclared = refl
+    each-itemsDecls-in k (bare n ds) = rw (keep n, keep 0, each-itemsDecls-in k ds)
+    each-itemsDecls-in k (typed n f ds) = rw (keep n, keep 1, all-append q (itemsOf (k + a) f), each-items-in k f, each-itemsDecls-in k ds)
 
     each-itemsAll-in : (k : ℕ) (fs : Forms) → allItems q (itemsAll (k + a) fs) ≡ eachAll p k fs
     each-itemsAll-in k none = refl

@@ -10,7 +10,7 @@ use borrow.Author.Tests.{le-leb, leb-true}
 use lib.Dec.{leb}
 use lib.ListN.{length, getD, drop, set, replicate}
 use lib.Seq.{drop-drop}
-use Rattle.tree.specs.Form.{Form, leaf, free, bound, node, Forms, none, more, encode, encodeAll}
+use Rattle.tree.specs.Form.{Form, leaf, free, bound, node, noted, Decls, undeclared, bare, typed, namesOf, Forms, none, more, encode, encodeDecls, encodeAll}
 use Rattle.form.proofs.DecodeLaws.{clash}
 use Rattle.form.proofs.HeadLaws.{here, gone}
 use Rattle.reader.specs.Internal.Reads.{mark}
@@ -18,7 +18,7 @@ use Rattle.rules.proofs.WalkLaws.{and-left, and-right}
 use Rattle.shift.specs.Internal.Items.{items, rewritten, allItems, wordwise, apart, wordItem, wordItems, store}
 use Rattle.shift.specs.declared.items.Item.{Item}
 use Rattle.shift.specs.declared.items.Item.the-variants.{Plain, Ident}
-use Rattle.shift.proofs.RowLaws.{zeros, marksOf, marksAll, mark-front}
+use Rattle.shift.proofs.RowLaws.{zeros, marksOf, marksDecls, marksAll, mark-front}
 
 pub back-one : (i : ℕ) → i ≡ i + 1 - 1
 back-one i = omega arith
@@ -140,6 +140,14 @@ mutual
   apart-encode lo k (leaf (bound n)) r m h = rw (le-leb lo k h)
   apart-encode lo k (node t o ds ks) r m h =
       rw (append-assoc o, append-assoc ds, append-assoc (zeros o), append-assoc (zeros ds), apart-plain lo o, apart-plain lo ds, apart-encodeAll lo (length ds + k) ks r m (omega arith))
+  apart-encode lo k (noted t o ds ks) r m h =
+      rw (append-assoc o, append-assoc (encodeDecls ds), append-assoc (zeros o), append-assoc (marksDecls k ds), apart-plain lo o, apart-encodeDecls lo k ds (encodeAll ks ++ r) (marksAll (length (namesOf ds) + k) ks ++ m) h, apart-encodeAll lo (length (namesOf ds) + k) ks r m (omega arith))
+
+  apart-encodeDecls : (lo k : ℕ) (ds : Decls) (r m : List ℕ) → lo ≤ k → apart lo (encodeDecls ds ++ r) (marksDecls k ds ++ m) ≡ apart lo r m
+  apart-encodeDecls lo k undeclared r m h = refl
+  apart-encodeDecls lo k (bare n ds) r m h = apart-encodeDecls lo k ds r m h
+  apart-encodeDecls lo k (typed n f ds) r m h =
+      rw (append-assoc (encode f), append-assoc (marksOf k f), apart-encode lo k f (encodeDecls ds ++ r) (marksDecls k ds ++ m) h, apart-encodeDecls lo k ds r m h)
 
   apart-encodeAll : (lo k : ℕ) (fs : Forms) (r m : List ℕ) → lo ≤ k → apart lo (encodeAll fs ++ r) (marksAll k fs ++ m) ≡ apart lo r m
   apart-encodeAll lo k none r m h = refl

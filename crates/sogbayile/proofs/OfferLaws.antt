@@ -6,7 +6,7 @@ use Prim.Native.Nat.{ℕ, _≤_, _/_, _%_, _^_}
 use native.Mathlib.Omega.{arith}
 use lib.Dec.{leb, ltb, eqb}
 use lib.ListN.{length, getD}
-use Rattle.tree.specs.Form.{Form, leaf, node, none, more, pick}
+use Rattle.tree.specs.Form.{Form, leaf, node, noted, none, more, pick}
 use Rattle.form.specs.Break.{breakAt}
 use Rattle.form.specs.Decode.{Found, found, missing, formOf}
 use Rattle.form.specs.declared.answer.Kind.the-variants.{Predicate}
@@ -41,6 +41,7 @@ module _ (p : Replacements) where
   form-low (node t o ds (more l none)) = said p 10
   form-low (node t o ds (more l (more r none))) = either (eqb t 101) (offerSides p l r (offered l r)) (says p 10) (sides-low l r (offered l r)) (said p 10)
   form-low (node t o ds (more l (more r (more f fs)))) = said p 10
+  form-low (noted t o ds ks) = said p 10
 
   offer-low : (row : List ℕ) → Low (offerAnswer p row)
   unfolding offerAnswer

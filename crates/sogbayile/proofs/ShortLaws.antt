@@ -10,10 +10,10 @@ use borrow.Author.Tests.{leb-true}
 use lib.Dec.{leb, ltb, eqb}
 use lib.IntN.{ℤ}
 use lib.ListN.{length, length-append}
-use Rattle.tree.specs.Form.{free, bound, Form, leaf, node, Forms, none, more, pick, encode, encodeAll}
-use Rattle.tree.specs.Tag.{Sort, pred, expr, Own}
+use Rattle.tree.specs.Form.{free, bound, Form, leaf, node, noted, Decls, undeclared, bare, typed, namesOf, Forms, none, more, pick, encode, encodeDecls, encodeAll}
+use Rattle.tree.specs.Tag.{Sort, pred, expr}
 use Rattle.form.specs.Decode.{rowForm, Found, found, missing, formOf}
-use Rattle.form.specs.Break.{Open, leastAll, after, breakFrom, breakSort, breakAt, breakList, entryOwn}
+use Rattle.form.specs.Break.{Next, Open, leastAll, after, breakFrom, breakSort, breakAt, breakList, entryNext}
 use Rattle.form.specs.Lists.{Entry, wordOf, placeOf, listOf, goodNames}
 use Rattle.form.specs.Answer.{Outcome, answer, stop, refusal, told, number, lengthOf, position, ofFound, ofList, withForm, withList, needs, isOne, finish, checkOutcome, namesOutcome, pairsOutcome, placesOutcome}
 use Rattle.form.specs.declared.answer.Kind.{Kind}
@@ -21,12 +21,12 @@ use Rattle.form.specs.declared.answer.Kind.the-variants.{Either, Expression, Pr
 use Rattle.form.specs.declared.answer.ListKind.{ListKind}
 use Rattle.form.specs.declared.answer.ListKind.the-variants.{Pairs, Places}
 use Rattle.form.proofs.RowLaws.{found-exact, row-exact}
-use Rattle.rules.specs.Walk.{Binding, inside, outside, binding, collectIndex, collect, collectAll}
+use Rattle.rules.specs.Walk.{Binding, inside, outside, binding, collectIndex, collect, collectDecls, collectAll}
 use Rattle.rules.specs.Dangling.{indexOf, insert, insertAll, danglingSet, danglingOutcome}
 use Rattle.rules.specs.Shift.{shift, ofShifted, shiftOutcome}
 use Rattle.rules.specs.Bind.{bind, bindOutcome}
 use Rattle.rules.specs.Free.{substitute, freeOutcome}
-use Rattle.rules.specs.Fill.{Quantified, quantifier, other, quantified, keptCount, fill, ofQuantified, fillOutcome}
+use Rattle.rules.specs.Fill.{Decl, Quantified, quantifier, other, quantified, keptCount, fill, ofQuantified, fillOutcome}
 use Rattle.rules.specs.Prune.{usedPlaces, prune, pruneOutcome}
 use Rattle.rules.specs.Point.{ofResult, onePoint, pointOutcome}
 use Rattle.rules.specs.Member.{membership, memberOutcome}
@@ -48,7 +48,7 @@ refused : (k : ℕ) → Short (refusal k)
 refused k = record { low = omega arith; only-two = λ h. refl }
 
 -- a row that breaks
-break-by : (z : ℕ → Own) (at : ℕ) (x : Open) (ws : List ℕ) → at ≤ 8192 → breakFrom z at x ws ≤ 8192
+break-by : (z : ℕ → Next) (at : ℕ) (x : Open) (ws : List ℕ) → at ≤ 8192 → breakFrom z at x ws ≤ 8192
 unfolding breakFrom
 break-by z at x [] h = h
 break-by z at x (w ∷ ws) h = go (leb (suc at + leastAll (after z x w)) 8192) refl (λ k. break-by z (suc at) (after z x w) ws k)
@@ -72,7 +72,7 @@ break-low Either row = later-low (leb (breakSort expr row) (breakSort pred row))
 
 break-list-low : (kind : ListKind) (row : List ℕ) → breakList kind row ≤ 8192
 unfolding breakList
-break-list-low kind row = break-by (entryOwn kind) 0 _ row (omega arith)
+break-list-low kind row = break-by (entryNext kind) 0 _ row (omega arith)
 
 broke : (p : ℕ) → p ≤ 8192 → Short (stop 2 p)
 broke p h = record { low = omega (arith, h); only-two = λ k. absurd (k refl) }
@@ -107,7 +107,7 @@ list-short kind row go h = tested 1 (leb (length row) 8192) (ofList (breakList k
     by (some es) = h es
     by absent = broke (breakList kind row) (break-list-low kind row)
 
-quantified-short : (go : ℕ → List ℕ → Form → Outcome) (k : ℕ) (q : Quantified) → ((t : ℕ) (ns : List ℕ) (b : Form) → Short (go t ns b)) → Short (ofQuantified go k q)
+quantified-short : (go : ℕ → List Decl → Form → Outcome) (k : ℕ) (q : Quantified) → ((t : ℕ) (ns : List Decl) (b : Form) → Short (go t ns b)) → Short (ofQuantified go k q)
 quantified-short go k (quantifier t ns b) h = h t ns b
 quantified-short go k other h = refused k
 
@@ -194,6 +194,18 @@ mutual
   collect-length k (leaf (free n)) = omega arith
   collect-length k (leaf (bound i)) = index-length k (binding k i)
   collect-length k (node t o ds ks) = let h = collectAll-length (length ds + k) ks in rw (length-append, length-append) (omega (arith, h))
+  collect-length k (noted t o ds ks) =
+      let h = collectDecls-length k ds in
+      let l = collectAll-length (length (namesOf ds) + k) ks in
+      rw (length-append, length-append, length-append) (omega (arith, h, l))
+
+  collectDecls-length : (k : ℕ) (ds : Decls) → length (collectDecls [] _++_ indexOf k ds) ≤ length (encodeDecls ds)
+  collectDecls-length k undeclared = omega arith
+  collectDecls-length k (bare n ds) = let h = collectDecls-length k ds in omega (arith, h)
+  collectDecls-length k (typed n f ds) =
+      let h = collect-length k f in
+      let l = collectDecls-length k ds in
+      rw (length-append, length-append) (omega (arith, h, l))
 
   collectAll-length : (k : ℕ) (fs : Forms) → length (collectAll [] _++_ indexOf k fs) ≤ length (encodeAll fs)
   collectAll-length k none = omega arith

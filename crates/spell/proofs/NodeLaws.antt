@@ -9,24 +9,24 @@ use lib.Dec.{leb}
 use borrow.Author.Tests.{le-leb}
 use lib.ListN.{length, getD, take, drop, length-append, length-take, length-drop}
 use lib.Seq.{take-at}
-use Rattle.tree.specs.Form.{Leaf, free, bound, leaf, node, Forms, none, pick, encode, encodeAll}
+use Rattle.tree.specs.Form.{Leaf, free, bound, leaf, node, noted, Decls, anyTyped, Forms, none, pick, encode, encodeDecls, encodeAll}
 use Rattle.tree.specs.Tag.{Sort, expr, ownOf, exprTags, shapeOf, own, sorts}
-use Rattle.form.specs.Decode.{Head, head, bad, read, no-form, Gots, gots, no-forms, leafAt, isLeaf, make, close, decodeAll, branch, decode}
+use Rattle.form.specs.Decode.{Head, head, flagged, bad, read, no-form, Gots, gots, no-forms, leafAt, isLeaf, make, close, decodeAll, GotDecls, declared, no-decls, decls, closeNoted, withDecls, branch, decode}
 use Rattle.form.specs.Internal.Heads.{headAt}
 use Rattle.form.specs.Internal.Heads.{startsLeaf}
 use Rattle.form.specs.declared.head.Head as code
-use Rattle.form.specs.declared.head.Head.the-variants.{Kids, None}
-use Rattle.form.proofs.DecodeLaws.{clash, high-tag, read-exact, read-at, all-sound, made}
+use Rattle.form.specs.declared.head.Head.the-variants.{Kids, Noted, None}
+use Rattle.form.proofs.DecodeLaws.{clash, high-tag, read-exact, read-at, all-sound, made, flags-exact, flags-at}
 use Rattle.form.proofs.HeadLaws.{gone}
 use Rattle.form.proofs.LeafLaws.{two-words, leaf-room}
 use Rattle.reader.proofs.ReaderLaws.{no-word, node-here}
-use Rattle.spell.specs.Spell.{decimal, spaced, bracket, spellLeaf, spell, spellAll}
+use Rattle.spell.specs.Spell.{decimal, spaced, bracket, spellLeaf, spell, spellDecls, spellAll}
 use Rattle.spell.specs.Put.{put}
-use Rattle.spell.specs.Internal.Writes.{Wrote, Printed, PrintedAll}
+use Rattle.spell.specs.Internal.Writes.{Wrote, Printed, PrintedAll, PrintedTail, PrintedNoted}
 use Rattle.spell.specs.declared.print.Ends.{Ends}
 use Rattle.spell.specs.declared.print.Ends.the-variants.{End, Bad}
 use Rattle.spell.proofs.WriteLaws.{wrote-both, wrote-end, decimal-few, spaced-few}
-use Rattle.spell.proofs.PrintLaws.{bad-printed, all-bad}
+use Rattle.spell.proofs.PrintLaws.{bad-printed, all-bad, same-end}
 
 -- the bracket, the tag and the words of a node
 abbrev pub opening : ℕ → List ℕ → List ℕ
@@ -113,6 +113,7 @@ module _ (s : Sort) (row : List ℕ) (at : ℕ) where
         let n : length (o ++ ds) ≡ p - (at + 1) = length-append o ds ∙ omega arith in
         let ew : take (p - (at + 1)) (drop (at + 1) row) ≡ o ++ ds = ap (λ n. take (p - (at + 1)) n) (a ∙ sym (append-assoc o ds l)) ∙ take-at (o ++ ds) l (p - (at + 1)) n in
         rw (ex, ey, el) (close-printed o ds x y p i j k u q m m₁ m₂ m₃ r _ refl h′ ep (rw ew at v) t′ c f)
+    branch-printed (flagged o n x′ y′ l) x y w p i j k u q m m₁ m₂ m₃ r z e v t′ c f = absurd (clash cc)
     branch-printed bad x y w p i j k u q m m₁ m₂ m₃ r z e v t′ c f = absurd (clash cc)
 
     branch-stop : (z : Head) (x y w p i u : ℕ) (m m₁ m₂ b : List ℕ) (r : Ends) → read (own s t) (drop (at + 1) row) ≡ z → headAt (at + 1) z ≡ Kids p x y w
@@ -124,11 +125,13 @@ module _ (s : Sort) (row : List ℕ) (at : ℕ) where
         let ey : y′ ≡ y = cc in
         let el : l ≡ drop p row = read-at (own s t) row (at + 1) o ds x′ y′ l z ∙ ap (λ n. drop n row) (sym ep) in
         bad-printed at u _ m b (rw (ex, ey, el, all-bad p i (decodeAll (λ s l. decode d s l) (sorts x y) (drop p row)) m₁ m₂ r v c))
+    branch-stop (flagged o n x′ y′ l) x y w p i u m m₁ m₂ b r z e v c = absurd (clash cc)
     branch-stop bad x y w p i u m m₁ m₂ b r z e v c = absurd (clash cc)
 
     branch-bad : (z : Head) (u : ℕ) (m b : List ℕ) → headAt (at + 1) z ≡ None → Printed at u (branch (λ s l. decode d s l) t z) m b Bad
     unfolding headAt
     branch-bad (head o ds x y l) u m b e = absurd (clash cc)
+    branch-bad (flagged o n x y l) u m b e = absurd (clash cc)
     branch-bad bad u m b e = bad-printed at u no-form m b refl
 
   within : (k : ℕ) (z : Head) (p x y w : ℕ) → at < length row → read (own s k) (drop (at + 1) row) ≡ z → headAt (at + 1) z ≡ Kids p x y w → (at < p) × (p ≤ length row)
@@ -140,7 +143,62 @@ module _ (s : Sort) (row : List ℕ) (at : ℕ) where
       let m = ap length a ∙ length-append o (ds ++ l) in
       let v = length-append ds l in
       (omega arith, omega arith)
+  within k (flagged o n x′ y′ l) p x y w low q e = absurd (clash cc)
   within k bad p x y w low q e = absurd (clash cc)
+
+  -- a node whose declarations have flags
+  module _ (d t : ℕ) where
+    noted-bytes : (o : List ℕ) (ds : Decls) (ks : Forms) → opening t o ++ (spellDecls ds ++ (spellAll ks ++ (93 ∷ []))) ≡ spell (noted t o ds ks)
+    unfolding spell
+    noted-bytes o ds ks = rw (← append-assoc (spellDecls ds)) (bracket-is t o (spellDecls ds ++ spellAll ks))
+
+    close-noted : (o : List ℕ) (ds : Decls) (p i u : ℕ) (m m₁ m₂ : List ℕ) (r : Ends) (g : Gots) (b : Bool) → anyTyped ds ≡ b → p ≡ at + 1 + length o → Wrote u (opening t o) m m₁ i
+        → pick b (PrintedTail (p + length (encodeDecls ds)) i (spellDecls ds) g m₁ m₂ r) (r ≡ Bad) → Printed at u (closeNoted t o ds g) m m₂ r
+    unfolding Printed PrintedTail Wrote encode
+    close-noted o ds p i u m m₁ m₂ r (gots ks l) true q e w k =
+        let all = wrote-both u i (i + length (spellDecls ds ++ (spellAll ks ++ (93 ∷ [])))) (opening t o) (spellDecls ds ++ (spellAll ks ++ (93 ∷ []))) m m₁ m₂ w (refl, k .1) in
+        let sp = noted-bytes o ds ks in
+        let a = length-append o (encodeDecls ds ++ encodeAll ks) in
+        let c = length-append (encodeDecls ds) (encodeAll ks) in
+        rw q (k .0 ∙ same-end _ _ _ _ (omega arith) (all .0 ∙ ap (λ n. u + length n) sp), all .1 ∙ ap (λ n. put m u n) sp)
+    close-noted o ds p i u m m₁ m₂ r no-forms true q e w k = k
+    close-noted o ds p i u m m₁ m₂ r (gots ks l) false q e w k = rw q k
+    close-noted o ds p i u m m₁ m₂ r no-forms false q e w k = k
+
+    decls-printed : (o : List ℕ) (g : GotDecls) (x y p i u : ℕ) (m m₁ m₂ : List ℕ) (r : Ends) → p ≡ at + 1 + length o → Wrote u (opening t o) m m₁ i
+        → PrintedNoted p i g (λ l. decodeAll (λ s l. decode d s l) (sorts x y) l) m₁ m₂ r → Printed at u (withDecls (λ s l. decode d s l) t o x y g) m m₂ r
+    unfolding PrintedNoted Printed
+    decls-printed o (declared ds l) x y p i u m m₁ m₂ r e w k = close-noted o ds p i u m m₁ m₂ r (decodeAll (λ s l. decode d s l) (sorts x y) l) (anyTyped ds) refl e w k
+    decls-printed o no-decls x y p i u m m₁ m₂ r e w k = k
+
+    branch-noted : (z : Head) (x y w p i u : ℕ) (m m₁ m₂ : List ℕ) (r : Ends) → read (own s t) (drop (at + 1) row) ≡ z → headAt (at + 1) z ≡ Noted p x y w
+        → Wrote u (opening t (take (p - (at + 1)) (drop (at + 1) row))) m m₁ i
+        → PrintedNoted p i (decls (λ s l. decode d s l) w (drop p row)) (λ l. decodeAll (λ s l. decode d s l) (sorts x y) l) m₁ m₂ r
+        → Printed at u (branch (λ s l. decode d s l) t z) m m₂ r
+    unfolding headAt
+    branch-noted (head o ds x′ y′ l) x y w p i u m m₁ m₂ r z e v k = absurd (clash cc)
+    branch-noted (flagged o n x′ y′ l) x y w p i u m m₁ m₂ r z e v k =
+        let ep : p ≡ at + 1 + length o = cc in
+        let ex : x′ ≡ x = cc in
+        let ey : y′ ≡ y = cc in
+        let en : n ≡ w = cc in
+        let (a, h) = flags-exact (own s t) (drop (at + 1) row) o n x′ y′ l z in
+        let el : l ≡ drop p row = flags-at (own s t) row (at + 1) o n x′ y′ l z ∙ ap (λ n. drop n row) (sym ep) in
+        let len : length o ≡ p - (at + 1) = omega arith in
+        let ew : take (p - (at + 1)) (drop (at + 1) row) ≡ o = ap (λ n. take (p - (at + 1)) n) a ∙ take-at o l (p - (at + 1)) len in
+        rw (ex, ey, en, el) (decls-printed o _ x y p i u m m₁ m₂ r ep (rw ew at v) k)
+    branch-noted bad x y w p i u m m₁ m₂ r z e v k = absurd (clash cc)
+
+  within-noted : (k : ℕ) (z : Head) (p x y w : ℕ) → at < length row → read (own s k) (drop (at + 1) row) ≡ z → headAt (at + 1) z ≡ Noted p x y w → (at < p) × (p ≤ length row)
+  unfolding headAt
+  within-noted k (head o ds x′ y′ l) p x y w low q e = absurd (clash cc)
+  within-noted k (flagged o n′ x′ y′ l) p x y w low q e =
+      let ep : p ≡ at + 1 + length o = cc in
+      let (a, h) = flags-exact (own s k) (drop (at + 1) row) o n′ x′ y′ l q in
+      let n = length-drop (at + 1) row in
+      let m = ap length a ∙ length-append o l in
+      (omega arith, omega arith)
+  within-noted k bad p x y w low q e = absurd (clash cc)
 
   module _ {h : code.Head} (low : at < length row) (hd : h ≡ headAt (at + 1) (read (own s (getD row at 0)) (drop (at + 1) row))) where
     pub no-own : (d o : ℕ) (a b : List ℕ) → (d ≡ 0 → ⊥) → h ≡ None → Printed at o (decode d s (drop at row)) a b Bad
@@ -159,6 +217,15 @@ module _ (s : Sort) (row : List ℕ) (at : ℕ) where
     a-form zero p x y w i j k u q m m₁ m₂ m₃ r ne e v t c f = absurd (ne refl)
     a-form (suc d) p x y w i j k u q m m₁ m₂ m₃ r ne e v t c f =
         rw (node-here d s row at low) (branch-printed d (getD row at 0) _ x y w p i j k u q m m₁ m₂ m₃ r refl (sym hd ∙ e) v (rw sub-one at t) c f)
+
+    pub a-noted : (d p x y w i u : ℕ) (m m₁ m₂ : List ℕ) (r : Ends) → (d ≡ 0 → ⊥) → h ≡ Noted p x y w
+        → Wrote u (opening (getD row at 0) (take (p - (at + 1)) (drop (at + 1) row))) m m₁ i
+        → PrintedNoted p i (decls (λ s l. decode (d - 1) s l) w (drop p row)) (λ l. decodeAll (λ s l. decode (d - 1) s l) (sorts x y) l) m₁ m₂ r → Printed at u (decode d s (drop at row)) m m₂ r
+    a-noted zero p x y w i u m m₁ m₂ r ne e v t = absurd (ne refl)
+    a-noted (suc d) p x y w i u m m₁ m₂ r ne e v t = rw (node-here d s row at low) (branch-noted d (getD row at 0) _ x y w p i u m m₁ m₂ r refl (sym hd ∙ e) v (rw sub-one at t))
+
+    pub flags-within : (p x y w : ℕ) → h ≡ Noted p x y w → (at < p) × (p ≤ length row)
+    flags-within p x y w e = within-noted (getD row at 0) _ p x y w low refl (sym hd ∙ e)
 
     pub kids-within : (p x y w : ℕ) → h ≡ Kids p x y w → (at < p) × (p ≤ length row)
     kids-within p x y w e = within (getD row at 0) _ p x y w low refl (sym hd ∙ e)

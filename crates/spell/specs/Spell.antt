@@ -5,7 +5,7 @@ use mathlib.Core.Option.{Option, none as absent, some}
 use Prim.Native.Nat.{ℕ, zero, suc, _+_, _/_, _%_}
 use lib.Dec.{leb, ltb, eqb}
 use lib.ListN.{length}
-use Rattle.tree.specs.Form.{Leaf, free, bound, Form, leaf, node, Forms, none, more, pick}
+use Rattle.tree.specs.Form.{Leaf, free, bound, Form, leaf, node, noted, Decls, undeclared, bare, typed, Forms, none, more, pick}
 use Rattle.form.specs.Decode.{Found, found, missing, formOf}
 use Rattle.form.specs.Lists.{kept, filled, Entry, entry, listOf}
 use Rattle.form.specs.Answer.{Outcome, answer, withForm, needs}
@@ -39,6 +39,13 @@ unfoldable mutual
   pub spell : Form → List ℕ
   spell (leaf x) = spellLeaf x
   spell (node t o ds ks) = bracket t (o ++ ds) (spellAll ks)
+  spell (noted t o ds ks) = bracket t o (spellDecls ds ++ spellAll ks)
+
+  -- declarations: name and flag, and the annotation after a space
+  pub spellDecls : Decls → List ℕ
+  spellDecls undeclared = []
+  spellDecls (bare n ds) = spaced (n ∷ 0 ∷ []) ++ spellDecls ds
+  spellDecls (typed n f ds) = spaced (n ∷ 1 ∷ []) ++ (32 ∷ (spell f ++ spellDecls ds))
 
   -- children, each after a space
   pub spellAll : Forms → List ℕ

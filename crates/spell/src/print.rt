@@ -2,7 +2,10 @@
 use crate::decimal::put_byte;
 use crate::decimal::put_decimal;
 use crate::decimal::put_spaced;
+use form::answer::Limit;
 use form::head::Head;
+use form::head::Word;
+use form::head::asked;
 use form::head::expr_head;
 use form::head::is_leaf;
 use form::head::pred_head;
@@ -10,9 +13,9 @@ ghost use mathlib.Core.List.{[], _∷_, _++_};
 ghost use Prim.Native.Nat.{_+_, _-_, _*_, _^_, _<_, _≤_};
 ghost use lib.ListN.{length, getD, take, drop, replicate};
 ghost use Rattle.tree.specs.Tag.{expr, pred, sorts};
-ghost use Rattle.form.specs.Decode.{decode, decodeAll};
+ghost use Rattle.form.specs.Decode.{decode, decodeAll, declAt, decls};
 ghost use Rattle.spell.specs.Spell.{decimal, spaced, bracket};
-ghost use Rattle.spell.specs.Internal.Writes.{Wrote, Printed, PrintedAll};
+ghost use Rattle.spell.specs.Internal.Writes.{Wrote, Printed, PrintedAll, PrintedDecl, PrintedDecls, PrintedNoted};
 
 // Where a part ends, in the row and in the output, or that it is no such part.
 pub enum Ends {
@@ -42,14 +45,21 @@ pub(crate) fn print_expr(row: &[u32], out: &mut [u8], at: usize, depth: u32, o: 
         return Ends::Bad;
     }
     let tag = row[at];
-    let Head::Kids(p, preds, exprs, binds) = expr_head(row, at + 1, tag) else {
-        return Ends::Bad;
-    };
-    let i = put_head(row, out, at, p, o);
-    let Ends::End(q, j) = print_kids(row, out, p, preds, exprs, depth - 1, i) else {
-        return Ends::Bad;
-    };
-    Ends::End(q, put_byte(out, j, b']'))
+    let head = expr_head(row, at + 1, tag);
+    match head {
+        Head::Kids(p, preds, exprs, binds) => {
+            let i = put_head(row, out, at, p, o);
+            let Ends::End(q, j) = print_kids(row, out, p, preds, exprs, depth - 1, i) else {
+                return Ends::Bad;
+            };
+            Ends::End(q, put_byte(out, j, b']'))
+        }
+        Head::Noted(p, preds, exprs, binds) => {
+            let i = put_head(row, out, at, p, o);
+            print_noted(row, out, p, preds, exprs, binds, depth - 1, i)
+        }
+        Head::None => Ends::Bad,
+    }
 }
 
 // A predicate at `at`, written at `o`.
@@ -64,11 +74,85 @@ pub(crate) fn print_pred(row: &[u32], out: &mut [u8], at: usize, depth: u32, o: 
         return Ends::Bad;
     }
     let tag = row[at];
-    let Head::Kids(p, preds, exprs, binds) = pred_head(row, at + 1, tag) else {
+    let head = pred_head(row, at + 1, tag);
+    match head {
+        Head::Kids(p, preds, exprs, binds) => {
+            let i = put_head(row, out, at, p, o);
+            let Ends::End(q, j) = print_kids(row, out, p, preds, exprs, depth - 1, i) else {
+                return Ends::Bad;
+            };
+            Ends::End(q, put_byte(out, j, b']'))
+        }
+        Head::Noted(p, preds, exprs, binds) => {
+            let i = put_head(row, out, at, p, o);
+            print_noted(row, out, p, preds, exprs, binds, depth - 1, i)
+        }
+        Head::None => Ends::Bad,
+    }
+}
+
+// A declaration with its flag at `at`, after a space: a name and 0, or a name, 1 and an annotation.
+fn print_decl(row: &[u32], out: &mut [u8], at: usize, depth: u32, o: usize) -> Ends
+    requires { ⌜ o + 1 + 13 * (length (now row) - at) < 2 ^ 64 ⌝ }
+    ensures { λ r. ⌜ PrintedDecl at o (declAt (λ s l. decode depth s l) (drop at (now (row .entry)))) (now (out .entry)) (now (out .exit)) r ⌝ }
+{
+    let Word::Is(w) = asked(row, at, 0, Limit::NAME) else {
         return Ends::Bad;
     };
-    let i = put_head(row, out, at, p, o);
-    let Ends::End(q, j) = print_kids(row, out, p, preds, exprs, depth - 1, i) else {
+    let Word::Is(flag) = asked(row, at + 1, 0, 1) else {
+        return Ends::Bad;
+    };
+    let i = put_spaced(row, out, at, at + 2, o);
+    if flag == 0 {
+        return Ends::End(at + 2, i);
+    }
+    let k = put_byte(out, i, b' ');
+    print_child(row, out, at + 2, depth, k)
+}
+
+// n declarations with flags.
+fn print_decls(row: &[u32], out: &mut [u8], at: usize, n: u32, depth: u32, o: usize) -> Ends
+    requires { ⌜ o + 1 + 13 * (length (now row) - at) < 2 ^ 64 ⌝ }
+    ensures { λ r. ⌜ PrintedDecls at o (decls (λ s l. decode depth s l) n (drop at (now (row .entry)))) (now (out .entry)) (now (out .exit)) r ⌝ }
+{
+    let mut p = at;
+    let mut i = o;
+    let mut left = n;
+    while 0 < left {
+        let Ends::End(q, j) = print_decl(row, out, p, depth, i) else {
+            return Ends::Bad;
+        };
+        p = q;
+        i = j;
+        left -= 1;
+    }
+    Ends::End(p, i)
+}
+
+// Declarations with flags, one of which at least has an annotation, the children under them, and the bracket.
+fn print_noted(
+    row: &[u32],
+    out: &mut [u8],
+    at: usize,
+    preds: u32,
+    exprs: u32,
+    binds: u32,
+    depth: u32,
+    o: usize,
+) -> Ends
+    requires { ⌜ o + 1 + 13 * (length (now row) - at) < 2 ^ 64 ⌝ }
+    ensures { λ r. ⌜ PrintedNoted at o (decls (λ s l. decode depth s l) binds (drop at (now (row .entry)))) (λ l. decodeAll (λ s l. decode depth s l) (sorts preds exprs) l) (now (out .entry)) (now (out .exit)) r ⌝ }
+{
+    let Ends::End(p, i) = print_decls(row, out, at, binds, depth, o) else {
+        return Ends::Bad;
+    };
+    if p - at == 2 * (binds as usize) {
+        return Ends::Bad;
+    }
+    let Ends::End(s, k) = print_preds(row, out, p, preds, depth, i) else {
+        return Ends::Bad;
+    };
+    let Ends::End(q, j) = print_exprs(row, out, s, exprs, depth, k) else {
         return Ends::Bad;
     };
     Ends::End(q, put_byte(out, j, b']'))

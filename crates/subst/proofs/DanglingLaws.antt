@@ -10,13 +10,13 @@ use borrow.Author.Tests.{eq-eqb, ne-eqb, le-leb, lt-leb, lt-ltb, le-ltb, ltb-tru
 use lib.Dec.{leb, ltb, eqb}
 use lib.Seq.{set-out}
 use lib.ListN.{length, getD, drop, set, replicate, length-append, length-set}
-use Rattle.tree.specs.Form.{Leaf, free, bound, Form, leaf, node, Forms, none, more, pick}
+use Rattle.tree.specs.Form.{Leaf, free, bound, Form, leaf, node, noted, Decls, undeclared, bare, typed, namesOf, Forms, none, more, pick}
 use Rattle.form.specs.Answer.{stop, refusal, told, written, checkOutcome}
 use Rattle.form.specs.declared.answer.Kind.the-variants.{Either}
 use Rattle.form.specs.declared.answer.Answer.{Answer}
 use Rattle.form.specs.declared.answer.Answer.the-variants.{Done, No}
 use Rattle.form.proofs.HeadLaws.{here, gone}
-use Rattle.rules.specs.Walk.{Binding, inside, outside, binding, Outer, named, dangling, collectIndex, collectLeaf, collect, collectAll}
+use Rattle.rules.specs.Walk.{Binding, inside, outside, binding, Outer, named, dangling, collectIndex, collectLeaf, collect, collectDecls, collectAll}
 use Rattle.rules.specs.Dangling.{indexOf, insert, insertAll, danglingSet, danglingOutcome}
 use Rattle.shift.specs.Internal.Items.{items, sizeOf, itemAt, rewritten, allItems, itemIn, store}
 use Rattle.subst.specs.Internal.Flags.{indexWords, flagAll, flagWords, selected, Flagging, setWords}
@@ -25,7 +25,7 @@ use Rattle.shift.specs.declared.items.Item.the-variants.{Plain, Ident}
 use Rattle.rules.proofs.WalkLaws.{binding-inside, binding-back, and-left, and-right, each-all}
 use Rattle.rules.proofs.LimitLaws.{small, ok-small}
 use Rattle.shift.proofs.CheckedLaws.{Checked, check-refuses}
-use Rattle.shift.proofs.RowLaws.{identOf, plain, itemsOf, itemsAll, marked-items, rewritten-append, each-items}
+use Rattle.shift.proofs.RowLaws.{identOf, plain, itemsOf, itemsDecls, itemsAll, marked-items, rewritten-append, each-items}
 use Rattle.shift.proofs.ItemLaws.{next, store-append, stored}
 use Rattle.shift.proofs.ShiftLaws.{inRange, range-leaf, range-word, between-high}
 
@@ -42,6 +42,13 @@ module _ (g : Item → List ℕ) (p : ℕ → Outer → List ℕ) (skip : (w : �
     pub collect-items : (k : ℕ) (f : Form) → rewritten g (itemsOf k f) ≡ collect [] _++_ p k f
     collect-items k (leaf x) = append-nil (g (identOf k x)) ∙ does k x
     collect-items k (node t o ds ks) = rw (skip t, rewritten-none o, rewritten-none ds, collect-itemsAll (length ds + k) ks)
+    collect-items k (noted t o ds ks) =
+        rw (skip t, rewritten-none o, rewritten-append g (itemsDecls k ds), collect-itemsDecls k ds, collect-itemsAll (length (namesOf ds) + k) ks)
+
+    collect-itemsDecls : (k : ℕ) (ds : Decls) → rewritten g (itemsDecls k ds) ≡ collectDecls [] _++_ p k ds
+    collect-itemsDecls k undeclared = refl
+    collect-itemsDecls k (bare n ds) = rw (skip n, skip 0, collect-itemsDecls k ds)
+    collect-itemsDecls k (typed n f ds) = rw (skip n, skip 1, rewritten-append g (itemsOf k f), collect-items k f, collect-itemsDecls k ds)
 
     collect-itemsAll : (k : ℕ) (fs : Forms) → rewritten g (itemsAll k fs) ≡ collectAll [] _++_ p k fs
     collect-itemsAll k none = refl

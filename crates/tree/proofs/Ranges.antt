@@ -9,7 +9,7 @@ use lib.Dec.{T, leb, ltb, leb→le, ltb→lt}
 use borrow.Author.Tests.{lt-leb, le-leb, ltb-true, ltb-false, leb-true}
 use Rattle.tree.specs.Form.{pick}
 use Rattle.tree.specs.declared.tag.Shape.{Shape}
-use Rattle.tree.specs.declared.tag.Shape.the-variants.{Unknown, Plain, Name, Value, Exprs, Preds, Apply, Compr, Quant}
+use Rattle.tree.specs.declared.tag.Shape.the-variants.{Unknown, Plain, Name, Value, Exprs, Preds, Apply, Compr, Quant, NotedCompr, NotedQuant}
 use Rattle.tree.specs.Tag.{expr, pred, Tags, find, exprTags, predTags, shapeOf}
 
 -- the interval from lo to hi lies below a range, above it or in it
@@ -92,6 +92,8 @@ isUnknown (Preds m) = false
 isUnknown Apply = false
 isUnknown Compr = false
 isUnknown Quant = false
+isUnknown NotedCompr = false
+isUnknown NotedQuant = false
 
 is-unknown : (x : Shape) → T (isUnknown x) → x ≡ Unknown
 is-unknown Unknown h = refl
@@ -103,6 +105,8 @@ is-unknown (Preds m) h = absurd h
 is-unknown Apply h = absurd h
 is-unknown Compr h = absurd h
 is-unknown Quant h = absurd h
+is-unknown NotedCompr h = absurd h
+is-unknown NotedQuant h = absurd h
 
 abbrev foreign : Tags → Tags → Bool
 foreign [] fs = true

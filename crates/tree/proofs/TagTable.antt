@@ -6,14 +6,15 @@ use mathlib.Core.List.{List, [], _∷_, _++_}
 use Prim.Native.Nat.{ℕ, zero, suc, _+_, _≤_}
 use lib.Dec.{T, eqb}
 use Rattle.tree.specs.Form.{pick, member}
-use Rattle.tree.specs.Tag.{Sort, expr, pred, Own, ask, kids, wrong, ownOf, exprTags, predTags, shapeOf, own}
+use Rattle.tree.specs.Tag.{Sort, expr, pred, Own, ask, kids, flags, wrong, ownOf, exprTags, predTags, shapeOf, own}
 use Rattle.tree.proofs.Ranges.{expr-on, pred-on}
 
 -- what follows a tag, as numbers. A word: 1, its limits, then what follows its least value, and the value after that. Children: 2, the
--- numbers of declared names, of predicates and of expressions. A tag that is none has no numbers.
+-- numbers of declared names, of predicates and of expressions; 3 in place of 2 where the names have flags. A tag that is none has no numbers.
 abbrev pub probe : Own → List ℕ
 probe (ask lo hi k) = 1 ∷ lo ∷ hi ∷ (probe (k lo) ++ probe (k (lo + 1)))
 probe (kids n p e) = 2 ∷ n ∷ p ∷ e ∷ []
+probe (flags n p e) = 3 ∷ n ∷ p ∷ e ∷ []
 probe wrong = []
 
 -- the tags of expressions: name and index; literal; set extension; bool; ascription; the binary, associative, atomic and unary ones;
@@ -30,6 +31,7 @@ exprList =
     ∷ (401 ∷ 402 ∷ 403 ∷ 404 ∷ 405 ∷ 406 ∷ 407 ∷ 408 ∷ 409 ∷ 410 ∷ 411 ∷ 412 ∷ [], 2 ∷ 0 ∷ 0 ∷ 0 ∷ [])
     ∷ (751 ∷ 752 ∷ 753 ∷ 754 ∷ 755 ∷ 756 ∷ 757 ∷ 761 ∷ 762 ∷ 763 ∷ 764 ∷ [], 2 ∷ 0 ∷ 0 ∷ 1 ∷ [])
     ∷ (801 ∷ 802 ∷ 803 ∷ [], 1 ∷ 0 ∷ 3 ∷ 1 ∷ 1 ∷ 32 ∷ 2 ∷ 1 ∷ 1 ∷ 1 ∷ 2 ∷ 2 ∷ 1 ∷ 1 ∷ 1 ∷ 1 ∷ 32 ∷ 2 ∷ 1 ∷ 1 ∷ 1 ∷ 2 ∷ 2 ∷ 1 ∷ 1 ∷ [])
+    ∷ (871 ∷ 872 ∷ 873 ∷ [], 1 ∷ 0 ∷ 3 ∷ 1 ∷ 1 ∷ 32 ∷ 3 ∷ 1 ∷ 1 ∷ 1 ∷ 3 ∷ 2 ∷ 1 ∷ 1 ∷ 1 ∷ 1 ∷ 32 ∷ 3 ∷ 1 ∷ 1 ∷ 1 ∷ 3 ∷ 2 ∷ 1 ∷ 1 ∷ [])
     ∷ []
 
 -- the tags of predicates: true and false; predicate variable; not; simple; multiple; application; relational; implies and equivalent; and,
@@ -46,6 +48,7 @@ predList =
     ∷ (251 ∷ 252 ∷ [], 2 ∷ 0 ∷ 2 ∷ 0 ∷ [])
     ∷ (351 ∷ 352 ∷ [], 1 ∷ 2 ∷ 4294967295 ∷ 2 ∷ 0 ∷ 2 ∷ 0 ∷ 2 ∷ 0 ∷ 3 ∷ 0 ∷ [])
     ∷ (851 ∷ 852 ∷ [], 1 ∷ 1 ∷ 32 ∷ 2 ∷ 1 ∷ 1 ∷ 0 ∷ 2 ∷ 2 ∷ 1 ∷ 0 ∷ [])
+    ∷ (861 ∷ 862 ∷ [], 1 ∷ 1 ∷ 32 ∷ 3 ∷ 1 ∷ 1 ∷ 0 ∷ 3 ∷ 2 ∷ 1 ∷ 0 ∷ [])
     ∷ []
 
 abbrev tagsOf : Sort → List (List ℕ × List ℕ)

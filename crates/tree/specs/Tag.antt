@@ -5,15 +5,17 @@ use lib.Dec.{leb}
 use lib.ListN.{replicate}
 use Rattle.tree.specs.Form.{pick}
 use Rattle.tree.specs.declared.tag.Shape.{Shape}
-use Rattle.tree.specs.declared.tag.Shape.the-variants.{Unknown, Plain, Name, Value, Exprs, Preds, Apply, Compr, Quant}
+use Rattle.tree.specs.declared.tag.Shape.the-variants.{Unknown, Plain, Name, Value, Exprs, Preds, Apply, Compr, Quant, NotedCompr, NotedQuant}
 
 pub data Sort : Type 0 where
   expr pred : Sort
 
--- what follows a tag: own words, each between its limits; then n declared names, p predicates and e expressions
+-- what follows a tag: own words, each between its limits; then n declared names (with flags: each with 0, or 1 and an annotation), p
+-- predicates and e expressions
 pub data Own : Type 0 where
   ask : ℕ → ℕ → (ℕ → Own) → Own
   kids : ℕ → ℕ → ℕ → Own
+  flags : ℕ → ℕ → ℕ → Own
   wrong : Own
 
 -- names and indices are at most 65,535, a literal is any word
@@ -27,6 +29,8 @@ ownOf (Preds m) = ask m 4294967295 (λ n. kids 0 n 0)
 ownOf Apply = ask 0 65535 (λ name. ask 0 4294967295 (λ n. kids 0 0 n))
 ownOf Compr = ask 0 3 (λ form. ask 1 32 (λ n. kids n 1 1))
 ownOf Quant = ask 1 32 (λ n. kids n 1 0)
+ownOf NotedCompr = ask 0 3 (λ form. ask 1 32 (λ n. flags n 1 1))
+ownOf NotedQuant = ask 1 32 (λ n. flags n 1 0)
 
 -- tables of ranges: the first tag, the last, their shape
 abbrev pub Tags : Type 0
@@ -49,6 +53,7 @@ exprTags =
     ∷ (751, 757, Plain 0 1)
     ∷ (761, 764, Plain 0 1)
     ∷ (801, 803, Compr)
+    ∷ (871, 873, NotedCompr)
     ∷ []
 
 unfoldable pub predTags : Tags
@@ -63,6 +68,7 @@ predTags =
     ∷ (351, 352, Preds 2)
     ∷ (610, 611, Plain 0 0)
     ∷ (851, 852, Quant)
+    ∷ (861, 862, NotedQuant)
     ∷ []
 
 unfoldable pub shapeOf : Sort → ℕ → Shape

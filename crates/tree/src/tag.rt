@@ -21,6 +21,9 @@ pub enum Shape {
     Compr,
     // Declarations and a predicate.
     Quant,
+    // The same two, with annotations on declarations.
+    NotedCompr,
+    NotedQuant,
 }
 
 // The tags that have a name of their own, and the ends of their ranges.
@@ -96,6 +99,14 @@ impl Tag {
     pub const FOR_ALL: u32 = 851;
 
     pub const EXISTS: u32 = 852;
+
+    pub const NOTED_FOR_ALL: u32 = 861;
+
+    pub const NOTED_EXISTS: u32 = 862;
+
+    pub const FIRST_NOTED_COMPREHENSION: u32 = 871;
+
+    pub const NOTED_COMPREHENSION_SET: u32 = 873;
 }
 
 pub fn expr_shape(tag: u32) -> Shape
@@ -113,6 +124,7 @@ pub fn expr_shape(tag: u32) -> Shape
         Tag::FIRST_UNARY..=Tag::LAST_UNARY => Shape::Plain(0, 1),
         Tag::FIRST_LATER_UNARY..=Tag::LAST_LATER_UNARY => Shape::Plain(0, 1),
         Tag::FIRST_COMPREHENSION..=Tag::COMPREHENSION_SET => Shape::Compr,
+        Tag::FIRST_NOTED_COMPREHENSION..=Tag::NOTED_COMPREHENSION_SET => Shape::NotedCompr,
         _ => Shape::Unknown,
     }
 }
@@ -131,6 +143,7 @@ pub fn pred_shape(tag: u32) -> Shape
         Tag::AND..=Tag::OR => Shape::Preds(2),
         Tag::TRUE..=Tag::FALSE => Shape::Plain(0, 0),
         Tag::FOR_ALL..=Tag::EXISTS => Shape::Quant,
+        Tag::NOTED_FOR_ALL..=Tag::NOTED_EXISTS => Shape::NotedQuant,
         _ => Shape::Unknown,
     }
 }

@@ -7,8 +7,8 @@ use native.Mathlib.Omega.{arith}
 use borrow.Author.Tests.{ne-eqb}
 use lib.Dec.{eqb, ltb}
 use lib.ListN.{length, length-append}
-use Rattle.tree.specs.Form.{Leaf, free, bound, Form, leaf, node, Forms, none, more, pick}
-use Rattle.spell.specs.Spell.{digits, decimal, spaced, bracket, spellLeaf, spell, spellAll, ending, spellNo}
+use Rattle.tree.specs.Form.{Leaf, free, bound, Form, leaf, node, noted, Decls, undeclared, bare, typed, Forms, none, more, pick}
+use Rattle.spell.specs.Spell.{digits, decimal, spaced, bracket, spellLeaf, spell, spellDecls, spellAll, ending, spellNo}
 use Rattle.reply.specs.Split.{newlineIn}
 use Rattle.reply.proofs.GoodLaws.{reply-answers}
 use Rattle.turns.specs.Output.{answerTo}
@@ -51,11 +51,18 @@ plain-leaf (free n) = plain-bracket 1 (n ∷ []) [] tt
 plain-leaf (bound i) = plain-bracket 2 (i ∷ []) [] tt
 
 mutual
-  unfolding spell spellAll
+  unfolding spell spellDecls spellAll
 
   plain-spell : (f : Form) → Plain (spell f)
   plain-spell (leaf x) = plain-leaf x
   plain-spell (node t o ds ks) = plain-bracket t (o ++ ds) (spellAll ks) (plain-all ks)
+  plain-spell (noted t o ds ks) = plain-bracket t o (spellDecls ds ++ spellAll ks) (plain-both (spellDecls ds) (spellAll ks) (plain-decls ds) (plain-all ks))
+
+  plain-decls : (ds : Decls) → Plain (spellDecls ds)
+  plain-decls undeclared = tt
+  plain-decls (bare n ds) = plain-both (spaced (n ∷ 0 ∷ [])) (spellDecls ds) (plain-spaced (n ∷ 0 ∷ [])) (plain-decls ds)
+  plain-decls (typed n f ds) =
+      plain-both (spaced (n ∷ 1 ∷ [])) (32 ∷ (spell f ++ spellDecls ds)) (plain-spaced (n ∷ 1 ∷ [])) (omega arith, plain-both (spell f) (spellDecls ds) (plain-spell f) (plain-decls ds))
 
   plain-all : (fs : Forms) → Plain (spellAll fs)
   plain-all none = tt

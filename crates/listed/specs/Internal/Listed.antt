@@ -2,7 +2,8 @@
 -- contract.
 use mathlib.Core.Bool.{Bool, true, false}
 use mathlib.Core.List.{List}
-use Prim.Native.Nat.{ℕ, _+_}
+use Prim.Native.Nat.{ℕ, _+_, _-_}
+use lib.Dec.{ltb}
 use lib.ListN.{getD, take, drop}
 use Rattle.tree.specs.Form.{pick}
 use Rattle.tree.specs.Tag.{expr, pred}
@@ -13,6 +14,7 @@ use Rattle.form.specs.declared.answer.Kind.the-variants.{Expression, Predicate}
 use Rattle.reader.specs.Internal.Reads.{asExpr}
 use Rattle.reader.specs.declared.lists.Table.{Table}
 use Rattle.replace.specs.Internal.Pieces.{replaced, fillPlan, keptWords, headWords}
+use Rattle.decls.specs.Internal.Noted.{bodyStart, notedHead}
 use Rattle.listed.specs.declared.marks.Reading.{Reading}
 use Rattle.listed.specs.declared.marks.Reading.the-variants.{Taken, Refused}
 
@@ -30,7 +32,16 @@ abbrev pub kindFor : Bool → Kind
 kindFor true = Expression
 kindFor false = Predicate
 
--- a quantified row filled by the places of a table
-unfoldable pub filledRow : Bool → List ℕ → List ℕ → List ℕ → List ℕ → Table → ℕ → Outcome
-filledRow sure list lm row marks t room =
+-- a quantified row without annotations, filled by the places of a table
+unfoldable pub plainRow : Bool → List ℕ → List ℕ → List ℕ → List ℕ → Table → ℕ → Outcome
+plainRow sure list lm row marks t room =
     replaced sure Predicate (headWords (getD row 0 0) (keptWords (take (t .n) (t .words)) (drop 2 row))) (fillPlan t) list lm (drop (2 + t .n) row) (drop (2 + t .n) marks) room
+
+-- one with annotations; and either
+unfoldable pub notedRow : List ℕ → List ℕ → List ℕ → List ℕ → Table → ℕ → Outcome
+notedRow list lm row marks t room =
+    let from = bodyStart row (t .n) in
+    replaced false Predicate (notedHead (getD row 0 0 - 10) (take (t .n) (t .words)) row 8192) (fillPlan t) list lm (drop from row) (drop from marks) room
+
+unfoldable pub filledRow : Bool → List ℕ → List ℕ → List ℕ → List ℕ → Table → ℕ → Outcome
+filledRow sure list lm row marks t room = pick (ltb (getD row 0 0) 860) (plainRow sure list lm row marks t room) (notedRow list lm row marks t room)

@@ -1,13 +1,13 @@
 -- Membership by words. The element stands in the row as it is; a part of it is shifted where it is written. No index of the shifted element
 -- is below the number of declarations, so that a part fills a place exactly if its side of the value is the index of a free one.
 use mathlib.Core.Path.{_≡_}
-use mathlib.Core.Bool.{Bool, true}
+use mathlib.Core.Bool.{Bool, true, _||_}
 use mathlib.Core.List.{List, [], _∷_, _++_, map}
 use mathlib.Core.Option.{Option, none as absent, some}
 use Prim.Native.Nat.{ℕ, suc, _+_, _-_, _≤_, _<_}
 use lib.Dec.{leb, ltb, eqb}
 use lib.ListN.{length, getD, take, drop, set, replicate}
-use Rattle.tree.specs.Form.{Form, node, Forms, none, more, pick, count, encode, encodeAll}
+use Rattle.tree.specs.Form.{Form, node, noted, Forms, none, more, pick, count, encode, encodeDecls, encodeAll}
 use Rattle.tree.specs.Tag.{expr, pred}
 use Rattle.form.specs.Decode.{got, decode}
 use Rattle.form.specs.Lists.{Place, kept, filled}
@@ -15,8 +15,9 @@ use Rattle.reader.specs.Internal.Reads.{mark}
 use Rattle.reader.specs.declared.lists.Table.{Table}
 use Rattle.rules.specs.Walk.{lift, each}
 use Rattle.shift.specs.Internal.Items.{items, rewritten, movedWords}
-use Rattle.rules.specs.Fill.{quantify}
+use Rattle.rules.specs.Fill.{Decl, nameOf, unlisted, anyNoted, quantify}
 use Rattle.replace.specs.Internal.Pieces.{part}
+use Rattle.decls.specs.Internal.Noted.{declsEnd}
 use Rattle.rules.specs.Replacement.{indexOf}
 use Rattle.rules.specs.Split.{equal, parts}
 use Rattle.rules.specs.Partial.{noPlaces, instantiatePartial}
@@ -102,25 +103,42 @@ pub record Sharing (row lm : List ℕ) (p q n u w words : ℕ) : Type 0 where
   pub few : n ≤ 32
   pub low : u ≤ 32
 
+-- a comprehension and the words before its guard, by whether there is an annotation
+abbrev pub setOf : ℕ → List Decl → Form → Form → Form
+setOf form ds g v =
+    pick (anyNoted ds) (noted 873 (form ∷ length ds ∷ []) (unlisted ds) (more g (more v none)))
+    (node 803 (form ∷ length ds ∷ []) (map nameOf ds) (more g (more v none)))
+
+abbrev pub setHead : ℕ → List Decl → List ℕ
+setHead form ds = pick (anyNoted ds) (873 ∷ form ∷ length ds ∷ encodeDecls (unlisted ds)) (803 ∷ form ∷ length ds ∷ map nameOf ds)
+
+-- the tags of these; where the guard of one at a position of a row starts, behind n declarations
+abbrev pub setTag : ℕ → Bool
+setTag t = eqb t 803 || eqb t 873
+
+unfoldable pub guardAt : List ℕ → ℕ → ℕ → ℕ
+guardAt row at n = pick (eqb (getD row at 0) 803) (at + (3 + n)) (declsEnd row (at + 3) n)
+
 -- the row is an element in a comprehension
 pub record SetIn (row : List ℕ) (c : Comprehension) : Type 0 where
   pub element : Form
   pub form : ℕ
-  pub names : List ℕ
+  pub decls : List Decl
   pub guard : Form
   pub value : Form
-  pub words : row ≡ 107 ∷ (encode element ++ (803 ∷ form ∷ c .n ∷ (names ++ (encode guard ++ encode value))))
-  pub number : c .n ≡ length names
-  pub least : 1 ≤ length names
-  pub most : length names ≤ 32
+  pub words : row ≡ 107 ∷ (encode element ++ (setHead form decls ++ (encode guard ++ encode value)))
+  pub number : c .n ≡ length decls
+  pub least : 1 ≤ length decls
+  pub most : length decls ≤ 32
   pub at : c .at ≡ 1 + length (encode element)
-  pub guard-at : c .guard ≡ c .at + (3 + c .n)
+  pub guard-at : c .guard ≡ c .at + length (setHead form decls)
   pub value-at : c .value ≡ c .guard + length (encode guard)
   pub is-element : decode 63 expr (encode element) ≡ got element []
+  pub is-set : decode 63 expr (encode (setOf form decls guard value)) ≡ got (setOf form decls guard value) []
   pub is-guard : decode 62 pred (encode guard) ≡ got guard []
   pub is-value : decode 62 expr (encode value) ≡ got value []
   pub shape : (f : Form) → decode 64 pred row ≡ got f [] → (r : Form) × (f ≡ node 107 [] [] (more element (more r none)))
-  pub is : (f : Form) → decode 64 pred row ≡ got f [] → membership f ≡ some (memberOf element names guard value)
+  pub is : (f : Form) → decode 64 pred row ≡ got f [] → membership f ≡ some (memberOf element decls guard value)
 
 unfoldable pub SetTold : List ℕ → Membership → Type 0
 SetTold row (In c) = SetIn row c
@@ -138,13 +156,13 @@ pub record Membering (row lm : List ℕ) (c : Comprehension) (work : ℕ) : Type
   pub long : length row ≤ length lm
   pub enough : work ≡ 16384
 
--- the declarations ns round g, with the places ps filled by expressions from outside
+-- the declarations ds round g, with the places ps filled by expressions from outside
 abbrev pub lifted : ℕ → Place → Place
 lifted n kept = kept
 lifted n (filled e) = filled (lift n e)
 
-abbrev pub filledBody : List ℕ → List Place → Form → Form
-filledBody ns ps g = pick (anyFilled ps) (instantiatePartial 852 ns (map (lifted (length ns)) ps) g) (quantify 852 ns g)
+abbrev pub filledBody : List Decl → List Place → Form → Form
+filledBody ds ps g = pick (anyFilled ps) (instantiatePartial 852 ds (map (lifted (length ds)) ps) g) (quantify 852 ds g)
 
 -- at most so many declarations are open anywhere in a form
 abbrev pub shallow : ℕ → Form → Bool
@@ -155,17 +173,22 @@ pub data Shaped : Form → Type 0 where
   well-formed : {f : Form} → decode 62 pred (encode f) ≡ got f [] → Shaped f
   conjunction : {o : List ℕ} {ks : Forms} → Shaped (node 351 o [] ks)
 
-pub record Filling (row lm names : List ℕ) (t : Table) (row′ marks : List ℕ) : Type 0 where
+-- the body as its row, marked under n declarations, with a table of places for them
+pub record Filling (n : ℕ) (row lm : List ℕ) (t : Table) (row′ marks : List ℕ) : Type 0 where
   pub places : List Place
-  pub table : TableIs row lm (length names) t places
+  pub table : TableIs row lm n t places
   pub body : Form
   pub words : row′ ≡ encode body
-  pub marked : marks ≡ mark body 0 (length names) (replicate (length marks) 0)
+  pub marked : marks ≡ mark body 0 n (replicate (length marks) 0)
   pub enough : length row′ ≤ length marks
   pub flat : shallow 4096 body ≡ true
   pub shape : Shaped body
-  pub most : length names ≤ 32
+  pub most : n ≤ 32
   pub long : length row ≤ length lm
+
+-- where the body does not begin with an annotated existence
+abbrev pub Unannotated : List ℕ → Type 0
+Unannotated body = getD body 0 0 ≡ 862 → ⊥
 
 -- how many words stand before the first that is not 0, with those before; 0 where each is 0
 unfoldable pub frontOf : ℕ → List ℕ → ℕ

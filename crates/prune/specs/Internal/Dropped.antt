@@ -1,30 +1,19 @@
 -- Declarations that a body never uses are dropped, and the indices that are left fall. Nothing here is needed to read a public contract.
 use mathlib.Core.Path.{_≡_}
-use mathlib.Core.Bool.{Bool, true, not}
-use mathlib.Core.List.{List, [], _∷_, _++_}
-use Prim.Native.Nat.{ℕ, zero, suc, _+_, _-_, _≤_}
+use mathlib.Core.Bool.{true, not}
+use mathlib.Core.List.{List, _++_}
+use Prim.Native.Nat.{ℕ, zero, suc, _-_, _≤_, _<_}
 use lib.Dec.{leb, ltb, eqb}
-use lib.ListN.{length, getD, drop, replicate}
+use lib.ListN.{length, getD, drop}
 use Rattle.tree.specs.Form.{pick}
 use Rattle.form.specs.Answer.{Outcome, answer, needs}
-use Rattle.shift.specs.Internal.Items.{items, wordsOf, rewritten, allItems}
+use Rattle.shift.specs.Internal.Items.{items, apart, wordsOf, rewritten}
 use Rattle.shift.specs.declared.items.Item.{Item}
 use Rattle.shift.specs.declared.items.Item.the-variants.{Plain, Ident}
-use Rattle.replace.specs.Internal.Pieces.{filledWords, keptWords, headWords}
-
--- an item that is not index j of a body round which n declarations are open
-unfoldable pub notIndex : ℕ → ℕ → Item → Bool
-notIndex n j (Plain w) = true
-notIndex n j (Ident k t v) = pick (eqb t 2) (pick (ltb v (k - n)) true (not (eqb j (v - (k - n))))) true
-
--- words of the inner ones of n declarations, from the outermost on: 0 where the items use it
-unfoldable pub cleared : ℕ → List ℕ → List Item → List ℕ
-cleared n [] xs = []
-cleared n (w ∷ ws) xs = pick (allItems (notIndex n (length ws)) xs) w 0 ∷ cleared n ws xs
-
--- 1 for each of n declarations that the items never use
-unfoldable pub usedWords : ℕ → List Item → List ℕ
-usedWords n xs = cleared n (replicate n 1) xs
+use Rattle.replace.specs.Internal.Pieces.{filledWords, keptHead}
+use Rattle.rules.specs.Prune.{pruneOutcome}
+use Rattle.decls.specs.Internal.Noted.{notedHead}
+use Rattle.decls.specs.Internal.Used.{usedWords}
 
 -- of the words of declarations, from the outermost on, those that are inside index j and not 0
 unfoldable pub fallsAt : List ℕ → ℕ → ℕ
@@ -47,10 +36,24 @@ fallItem ws (Ident k t v) = let b = k - length ws in Ident k t (pick (eqb t 2) (
 abbrev pub fallenWords : List ℕ → Item → List ℕ
 fallenWords ws x = wordsOf (fallItem ws x)
 
--- a quantified row without the declarations whose word is not 0, and the answer: 9 where no word is
-unfoldable pub droppedRow : List ℕ → List ℕ → List ℕ → List ℕ
-droppedRow ws row marks =
-    headWords (getD row 0 0) (keptWords ws (drop 2 row)) ++ rewritten (fallenWords ws) (items (drop (2 + length ws) row) (drop (2 + length ws) marks))
+-- the head of what is left, and the row from a position on without the declarations whose word is not 0; and the answer: 9 where no word is
+unfoldable pub droppedRow : List ℕ → List ℕ → List ℕ → List ℕ → ℕ → List ℕ
+droppedRow head ws row marks at = head ++ rewritten (fallenWords ws) (items (drop at row) (drop at marks))
 
-unfoldable pub droppedOutcome : List ℕ → List ℕ → List ℕ → ℕ → Outcome
-droppedOutcome ws row marks room = needs 9 (not (eqb (filledWords ws) 0)) (needs 14 (leb (length (droppedRow ws row marks)) room) (answer (droppedRow ws row marks)))
+unfoldable pub droppedOutcome : List ℕ → List ℕ → List ℕ → List ℕ → ℕ → ℕ → Outcome
+droppedOutcome head ws row marks at room =
+    needs 9 (not (eqb (filledWords ws) 0)) (needs 14 (leb (length (droppedRow head ws row marks at)) room) (answer (droppedRow head ws row marks at)))
+
+-- the head of what is left, by the first word of the row
+unfoldable pub leftHead : List ℕ → List ℕ → List ℕ
+leftHead ws row = pick (ltb (getD row 0 0) 860) (keptHead ws row 34) (notedHead (getD row 0 0 - 10) ws row 8192)
+
+-- a quantified row with n declarations that was checked and marked, and whose body starts at a position: what is dropped of it by the words of the
+-- declarations that the body never uses is its prune
+pub record Pruning (row marks : List ℕ) (n start : ℕ) : Type 0 where
+  pub few : n ≤ 32
+  pub short : length row ≤ 8192
+  pub long : length row ≤ length marks
+  pub more : start < length row
+  pub is-apart : apart n (drop start row) (drop start marks) ≡ true
+  pub prunes : (ws : List ℕ) (room : ℕ) → ws ≡ usedWords n (items (drop start row) (drop start marks)) → droppedOutcome (leftHead ws row) ws row marks start room ≡ pruneOutcome row room

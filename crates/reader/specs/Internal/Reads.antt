@@ -7,14 +7,14 @@ use mathlib.Core.Bool.{Bool, true, false, _&&_}
 use mathlib.Core.Option.{Option, none as absent, some}
 use lib.Dec.{leb}
 use lib.ListN.{length, set, take, replicate}
-use Rattle.tree.specs.Form.{Form, leaf, node, Forms, none, more, pick, member, encode, encodeAll}
-use Rattle.form.specs.Decode.{Got, got, no-form, Gots, gots, no-forms, isLeaf, decode, Found, found, missing}
+use Rattle.tree.specs.Form.{Form, leaf, node, noted, Decls, undeclared, bare, typed, namesOf, anyTyped, Forms, none, more, pick, member, encode, encodeDecls, encodeAll}
+use Rattle.form.specs.Decode.{Got, got, no-form, Gots, gots, no-forms, GotDecl, gotBare, gotTyped, no-decl, GotDecls, declared, no-decls, isLeaf, decode, Found, found, missing}
 use Rattle.tree.specs.Tag.{Sort, expr, shapeOf}
 use Rattle.form.specs.Lists.{Place, kept, filled, Entry, entry, wordOf, entryWords, distinct}
 use Rattle.form.specs.declared.answer.Kind.{Kind}
 use Rattle.form.specs.declared.answer.Kind.the-variants.{Expression, Predicate, Either}
 use Rattle.tree.specs.declared.tag.Shape.{Shape}
-use Rattle.tree.specs.declared.tag.Shape.the-variants.{Unknown, Plain, Name, Value, Exprs, Preds, Apply, Compr, Quant}
+use Rattle.tree.specs.declared.tag.Shape.the-variants.{Unknown, Plain, Name, Value, Exprs, Preds, Apply, Compr, Quant, NotedCompr, NotedQuant}
 use Rattle.reader.specs.declared.lists.Table.{Table}
 use Rattle.form.specs.declared.head.Step.{Step}
 use Rattle.form.specs.declared.head.Step.the-variants.{End, Bad}
@@ -24,6 +24,13 @@ unfoldable mutual
   pub mark : Form → ℕ → ℕ → List ℕ → List ℕ
   mark (leaf x) at u l = set l at (suc u)
   mark (node t o ds ks) at u l = markAll ks (at + suc (length o + length ds)) (length ds + u) l
+  mark (noted t o ds ks) at u l =
+      markAll ks (at + suc (length o + length (encodeDecls ds))) (length (namesOf ds) + u) (markDecls ds (at + suc (length o)) u l)
+
+  pub markDecls : Decls → ℕ → ℕ → List ℕ → List ℕ
+  markDecls undeclared at u l = l
+  markDecls (bare n ds) at u l = markDecls ds (at + 2) u l
+  markDecls (typed n f ds) at u l = markDecls ds (at + 2 + length (encode f)) u (mark f (at + 2) u l)
 
   pub markAll : Forms → ℕ → ℕ → List ℕ → List ℕ
   markAll none at u l = l
@@ -40,6 +47,21 @@ Told at u no-form a b r = r ≡ Bad
 unfoldable pub ToldAll : ℕ → ℕ → Gots → List ℕ → List ℕ → Step → Type 0
 ToldAll at u (gots fs x) a b r = (r ≡ End (at + length (encodeAll fs))) × (b ≡ markAll fs at u a)
 ToldAll at u no-forms a b r = r ≡ Bad
+
+-- a declaration with its flag; several; several, one of which at least has an annotation, and what k reads after them
+unfoldable pub ToldDecl : ℕ → ℕ → GotDecl → List ℕ → List ℕ → Step → Type 0
+ToldDecl at u (gotBare w x) a b r = (r ≡ End (at + 2)) × (b ≡ a)
+ToldDecl at u (gotTyped w f x) a b r = (r ≡ End (at + 2 + length (encode f))) × (b ≡ mark f (at + 2) u a)
+ToldDecl at u no-decl a b r = r ≡ Bad
+
+unfoldable pub ToldDecls : ℕ → ℕ → GotDecls → List ℕ → List ℕ → Step → Type 0
+ToldDecls at u (declared ds x) a b r = (r ≡ End (at + length (encodeDecls ds))) × (b ≡ markDecls ds at u a)
+ToldDecls at u no-decls a b r = r ≡ Bad
+
+unfoldable pub ToldNoted : ℕ → ℕ → GotDecls → (List ℕ → Gots) → List ℕ → List ℕ → Step → Type 0
+ToldNoted at u (declared ds x) k a b r =
+    pick (anyTyped ds) (ToldAll (at + length (encodeDecls ds)) (u + length (namesOf ds)) (k x) (markDecls ds at u a) b r) (r ≡ Bad)
+ToldNoted at u no-decls k a b r = r ≡ Bad
 
 -- no form is read where the depth or the number of open declarations is over 65,535
 unfoldable pub decodeIn : ℕ → ℕ → Sort → List ℕ → Got
@@ -65,6 +87,8 @@ known (Preds m) = true
 known Apply = true
 known Compr = true
 known Quant = true
+known NotedCompr = true
+known NotedQuant = true
 
 abbrev pub knownAt : List ℕ → Bool
 knownAt [] = false

@@ -4,9 +4,6 @@ use Rattle.broken.proofs.DueLaws.{least-none, least-some}
 use borrow.Author.Needs.{needs}
 use Rattle.broken.proofs.due.least_kids.Statement.{statement}
 use Rattle.broken.proofs.due.least_kids.Tie as tie
-use Rattle.broken.proofs.due.least_kids.Reads as reads
-use Rattle.broken.proofs.due.least_kids.Lts as lts
-use Rattle.broken.proofs.due.wide.Reads as wide-reads
 
 wide-requires : tie.Need-wide-requires
 wide-requires c κs = search needs

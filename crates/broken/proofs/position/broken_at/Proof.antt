@@ -1,54 +1,51 @@
 -- `broken::position::broken_at` meets its contract. Assumes nothing.
 use native.Mathlib.Omega.{arith}
 use Rattle.form.specs.Break.{least, breakAt}
-use Rattle.broken.specs.Internal.Seeks.{ownDue}
+use Rattle.broken.specs.Internal.Seeks.{nextDue}
 use Rattle.broken.proofs.PositionLaws.{either-pred, either-expr}
 use borrow.Author.Needs.{needs}
 use Rattle.broken.proofs.position.broken_at.Statement.{statement}
 use Rattle.broken.proofs.position.broken_at.Tie as tie
-use Rattle.broken.proofs.position.broken_at.Reads as reads
-use Rattle.broken.proofs.position.broken_at.Lts as lts
-use Rattle.broken.proofs.position.broken_due.Reads as broken-due-reads
 
 enum-told : tie.Need-enum-told
 enum-told c = search needs
 
 broken-due-requires : tie.Need-broken-due-requires
-unfolding ownDue least
+unfolding nextDue least
 broken-due-requires c κs = omega arith
 
 enum-told-2 : tie.Need-enum-told-2
 enum-told-2 c = search needs
 
 broken-due-requires-2 : tie.Need-broken-due-requires-2
-unfolding ownDue least
+unfolding nextDue least
 broken-due-requires-2 c κs = omega arith
 
 enum-told-3 : tie.Need-enum-told-3
 enum-told-3 c = search needs
 
 broken-due-requires-3 : tie.Need-broken-due-requires-3
-unfolding ownDue least
+unfolding nextDue least
 broken-due-requires-3 c κs = omega arith
 
 returns : tie.Need-returns
-unfolding ownDue
+unfolding nextDue
 returns c = let enum-told3 = c .before .before .enum-told3 in let broken-due3 = c .before .broken-due3 in let if1 = c .if1 in rw (enum-told3 .given .1) (either-pred _ _ (broken-due3 .ensures) (if1 .taken))
 
 broken-due-requires-4 : tie.Need-broken-due-requires-4
-unfolding ownDue least
+unfolding nextDue least
 broken-due-requires-4 c κs = omega arith
 
 returns-2 : tie.Need-returns-2
-unfolding ownDue breakAt
+unfolding nextDue breakAt
 returns-2 c = let enum-told = c .before .enum-told in let broken-due = c .broken-due in rw (enum-told .given .1) (broken-due .ensures)
 
 returns-3 : tie.Need-returns-3
-unfolding ownDue breakAt
+unfolding nextDue breakAt
 returns-3 c = let enum-told2 = c .before .enum-told2 in let broken-due2 = c .broken-due2 in rw (enum-told2 .given .1) (broken-due2 .ensures)
 
 returns-4 : tie.Need-returns-4
-unfolding ownDue
+unfolding nextDue
 returns-4 c = let enum-told3 = c .before .before .before .enum-told3 in let broken-due3 = c .before .before .broken-due3 in let if1 = c .before .if1 in let broken-due4 = c .broken-due4 in rw (enum-told3 .given .1) (either-expr _ _ (broken-due3 .ensures) (if1 .left) _ (broken-due4 .ensures))
 
 pub broken-at-spec : {M : Type 1} → statement M

@@ -3,9 +3,6 @@ use native.Mathlib.Omega.{arith}
 use Rattle.broken.proofs.PositionLaws.{whole-at}
 use Rattle.broken.proofs.position.broken_due.Statement.{statement}
 use Rattle.broken.proofs.position.broken_due.Tie as tie
-use Rattle.broken.proofs.position.broken_due.Reads as reads
-use Rattle.broken.proofs.position.broken_due.Lts as lts
-use Rattle.broken.proofs.seek.seek.Reads as seek-reads
 
 seek-requires : tie.Need-seek-requires
 seek-requires c κs = let pre = c .before .pre in let room = pre in omega arith

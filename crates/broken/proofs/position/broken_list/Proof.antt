@@ -8,12 +8,6 @@ use Rattle.broken.proofs.SeekLaws.{told-true, told-false}
 use Rattle.broken.proofs.EntryLaws.{Lists, no-entry, list-over, entry-stop, entry-broken, entry-go, quick-go}
 use Rattle.broken.proofs.position.broken_list.Statement.{statement}
 use Rattle.broken.proofs.position.broken_list.Tie as tie
-use Rattle.broken.proofs.position.broken_list.Reads as reads
-use Rattle.broken.proofs.position.broken_list.Lts as lts
-use Rattle.broken.proofs.position.entry_due.Reads as entry-due-reads
-use Rattle.broken.proofs.position.quick_entry.Reads as quick-entry-reads
-use Rattle.broken.proofs.seek.fits.Reads as fits-reads
-use Rattle.broken.proofs.seek.seek.Reads as seek-reads
 
 abbrev Inv-loop : tie.InvT-loop
 Inv-loop row kind p₀ p = Lists kind row p

@@ -3,9 +3,6 @@ use Rattle.broken.proofs.EntryLaws.{no-leaf-room, leaf-there, leaf-abse
 use borrow.Author.Needs.{needs}
 use Rattle.broken.proofs.position.leaf_entry.Statement.{statement}
 use Rattle.broken.proofs.position.leaf_entry.Tie as tie
-use Rattle.broken.proofs.position.leaf_entry.Reads as reads
-use Rattle.broken.proofs.position.leaf_entry.Lts as lts
-use Rattle.form.proofs.head.is_leaf.Reads as is-leaf-reads
 
 add-if1 : tie.Need-add-if1
 add-if1 c = search needs

@@ -3,9 +3,6 @@ use Rattle.broken.proofs.EntryLaws.{quick-wide, quick-one, quick-full, 
 use borrow.Author.Needs.{needs}
 use Rattle.broken.proofs.position.quick_entry.Statement.{statement}
 use Rattle.broken.proofs.position.quick_entry.Tie as tie
-use Rattle.broken.proofs.position.quick_entry.Reads as reads
-use Rattle.broken.proofs.position.quick_entry.Lts as lts
-use Rattle.broken.proofs.position.leaf_entry.Reads as leaf-entry-reads
 
 enum-told : tie.Need-enum-told
 enum-told c = search needs

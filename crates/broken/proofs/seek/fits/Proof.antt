@@ -2,9 +2,6 @@
 use borrow.Author.Needs.{needs}
 use Rattle.broken.proofs.seek.fits.Statement.{statement}
 use Rattle.broken.proofs.seek.fits.Tie as tie
-use Rattle.broken.proofs.seek.fits.Reads as reads
-use Rattle.broken.proofs.seek.fits.Lts as lts
-use Rattle.broken.proofs.due.least_words.Reads as least-words-reads
 
 least-words-requires : tie.Need-least-words-requires
 least-words-requires c κs = search needs

@@ -3,22 +3,13 @@ use Prim.Native.Nat.{_-_}
 use borrow.Author.Needs.{needs}
 use native.Mathlib.Omega.{arith}
 use lib.ListN.{length}
-use Rattle.broken.specs.Internal.Seeks.{ownDue, Reaches}
+use Rattle.broken.specs.Internal.Seeks.{nextDue, Reaches}
 use Rattle.broken.proofs.SeekLaws.{start, out-of-words, own-stop, own-go, own-stopped, own-ended, is-true, is-false, told-true, told-false}
-use Rattle.broken.proofs.NameLaws.{own-past}
 use Rattle.broken.proofs.seek.seek_own.Statement.{statement}
 use Rattle.broken.proofs.seek.seek_own.Tie as tie
-use Rattle.broken.proofs.seek.seek_own.Reads as reads
-use Rattle.broken.proofs.seek.seek_own.Lts as lts
-use Rattle.broken.proofs.due.after_names.Reads as after-names-reads
-use Rattle.broken.proofs.due.after_word.Reads as after-word-reads
-use Rattle.broken.proofs.due.is_own.Reads as is-own-reads
-use Rattle.broken.proofs.due.names_of.Reads as names-of-reads
-use Rattle.broken.proofs.seek.fits.Reads as fits-reads
-use Rattle.broken.proofs.seek.names_there.Reads as names-there-reads
 
 abbrev Inv-loop : tie.InvT-loop
-Inv-loop row at depth need p₀ rest₀ p rest = Reaches row at depth (ownDue rest₀) need p (ownDue rest)
+Inv-loop row at depth need p₀ rest₀ p rest = Reaches row at depth (nextDue rest₀) need p (nextDue rest)
 
 abbrev μ-loop : tie.MeasureT-loop
 μ-loop row at depth need p₀ rest₀ p rest = length row - p
@@ -50,32 +41,14 @@ fits-requires c κs = let loop = c .before .before .before .before .before .loop
 returns-2 : tie.Need-returns-2 Inv-loop μ-loop
 returns-2 c = let loop = c .before .before .before .before .before .before .before .loop in let if2 = c .before .before .before .before .if2 in let is-own = c .before .before .before .before .before .before .is-own in let if1 = c .before .before .before .before .before .if1 in let after-word = c .before .before .after-word in let fits2 = c .before .fits2 in let if3 = c .if3 in own-stopped _ _ _ _ _ _ _ (own-stop _ _ _ _ _ _ _ (loop .inv) (if2 .left) (is-true (is-own .ensures) (if1 .taken)) _ (after-word .ensures) (told-false (fits2 .ensures) (if3 .taken)))
 
-add-names-there : tie.Need-add-names-there Inv-loop μ-loop
-add-names-there c = search needs
-
-names-of-requires : tie.Need-names-of-requires Inv-loop μ-loop
-names-of-requires c κs = search needs
-
-names-there-requires : tie.Need-names-there-requires Inv-loop μ-loop
-names-there-requires c κs = let loop = c .before .before .before .before .before .before .before .before .loop in let if2 = c .before .before .before .before .before .if2 in let is-own = c .before .before .before .before .before .before .before .is-own in let if1 = c .before .before .before .before .before .before .if1 in let after-word = c .before .before .before .after-word in let fits2 = c .before .before .fits2 in let if3 = c .before .if3 in let r = (own-go _ _ _ _ _ _ _ (loop .inv) (if2 .left) (is-true (is-own .ensures) (if1 .taken)) _ (after-word .ensures) (told-true (fits2 .ensures) (if3 .left))) .room in omega arith
-
-after-names-requires : tie.Need-after-names-requires Inv-loop μ-loop
-after-names-requires c κs = search needs
-
-cast-p : tie.Need-cast-p Inv-loop μ-loop
-cast-p c = search needs
-
 add-p : tie.Need-add-p Inv-loop μ-loop
 add-p c = search needs
-
-add-p-2 : tie.Need-add-p-2 Inv-loop μ-loop
-add-p-2 c = let loop = c .before .before .before .before .before .before .before .before .before .before .loop in let r = loop .inv .room in omega arith
 
 loop-less : tie.Need-loop-less Inv-loop μ-loop
 loop-less c = search needs
 
 loop-again : tie.Need-loop-again Inv-loop μ-loop
-loop-again c = let loop = c .before .before .before .before .before .before .before .before .before .before .loop in let if2 = c .before .before .before .before .before .before .before .if2 in let is-own = c .before .before .before .before .before .before .before .before .before .is-own in let if1 = c .before .before .before .before .before .before .before .before .if1 in let after-word = c .before .before .before .before .before .after-word in let fits2 = c .before .before .before .before .fits2 in let if3 = c .before .before .before .if3 in let names-of = c .before .before .names-of in let names-there = c .before .names-there in let after-names = c .after-names in own-past _ _ _ (own-go _ _ _ _ _ _ _ (loop .inv) (if2 .left) (is-true (is-own .ensures) (if1 .taken)) _ (after-word .ensures) (told-true (fits2 .ensures) (if3 .left))) (names-of .ensures) (names-there .ensures) (after-names .ensures)
+loop-again c = let loop = c .before .before .before .before .before .before .before .loop in let if2 = c .before .before .before .before .if2 in let is-own = c .before .before .before .before .before .before .is-own in let if1 = c .before .before .before .before .before .if1 in let after-word = c .before .before .after-word in let fits2 = c .before .fits2 in let if3 = c .if3 in own-go _ _ _ _ _ _ _ (loop .inv) (if2 .left) (is-true (is-own .ensures) (if1 .taken)) _ (after-word .ensures) (told-true (fits2 .ensures) (if3 .left))
 
 returns-3 : tie.Need-returns-3 Inv-loop μ-loop
 returns-3 c = let loop = c .before .before .loop in let is-own = c .before .is-own in let if1 = c .if1 in own-ended _ _ _ _ _ _ _ (loop .inv) (is-false (is-own .ensures) (if1 .left))
@@ -95,13 +68,7 @@ seek-own-spec =
     add-fits
     fits-requires
     returns-2
-    add-names-there
-    names-of-requires
-    names-there-requires
-    after-names-requires
-    cast-p
     add-p
-    add-p-2
     loop-less
     loop-again
     returns-3)

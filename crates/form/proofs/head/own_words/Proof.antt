@@ -13,6 +13,8 @@ use Rattle.form.proofs.head.apply_head.Reads as apply-head-reads
 use Rattle.form.proofs.head.bound_head.Reads as bound-head-reads
 use Rattle.form.proofs.head.compr_head.Reads as compr-head-reads
 use Rattle.form.proofs.head.exprs_head.Reads as exprs-head-reads
+use Rattle.form.proofs.head.flags_head.Reads as flags-head-reads
+use Rattle.form.proofs.head.flags_compr_head.Reads as flags-compr-head-reads
 use Rattle.form.proofs.head.preds_head.Reads as preds-head-reads
 use Rattle.form.proofs.head.word_head.Reads as word-head-reads
 
@@ -64,6 +66,18 @@ enum-told-6 c = search needs
 bound-head-requires : tie.Need-bound-head-requires
 bound-head-requires c κs = search needs
 
+enum-told-7 : tie.Need-enum-told-7
+enum-told-7 c = search needs
+
+flags-compr-head-requires : tie.Need-flags-compr-head-requires
+flags-compr-head-requires c κs = search needs
+
+enum-told-8 : tie.Need-enum-told-8
+enum-told-8 c = search needs
+
+flags-head-requires : tie.Need-flags-head-requires
+flags-head-requires c κs = search needs
+
 returns : tie.Need-returns
 unfolding ownOf headAt read
 returns c = rw (c .enum-told .given .1)
@@ -100,6 +114,14 @@ returns-9 : tie.Need-returns-9
 unfolding ownOf
 returns-9 c = rw (c .before .enum-told6 .given .1, c .bound-head .ensures)
 
+returns-10 : tie.Need-returns-10
+unfolding ownOf
+returns-10 c = rw (c .before .enum-told7 .given .1, c .flags-compr-head .ensures)
+
+returns-11 : tie.Need-returns-11
+unfolding ownOf
+returns-11 c = rw (c .before .enum-told8 .given .1, c .flags-head .ensures)
+
 pub own-words-spec : {M : Type 1} → statement M
 own-words-spec =
     tie.close
@@ -120,6 +142,10 @@ own-words-spec =
     compr-head-requires
     enum-told-6
     bound-head-requires
+    enum-told-7
+    flags-compr-head-requires
+    enum-told-8
+    flags-head-requires
     returns
     returns-2
     returns-3
@@ -128,4 +154,6 @@ own-words-spec =
     returns-6
     returns-7
     returns-8
-    returns-9)
+    returns-9
+    returns-10
+    returns-11)

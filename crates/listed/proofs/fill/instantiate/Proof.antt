@@ -16,8 +16,8 @@ use Rattle.listed.proofs.ShallowLaws.{reading-missing, reading-checked,
 use Rattle.replace.proofs.SmallLaws.{leaves-by}
 use Rattle.form.specs.declared.answer.Kind.the-variants.{Predicate}
 use Rattle.form.specs.declared.answer.ListKind.the-variants.{Places}
-use Rattle.replace.proofs.QuantLaws.{the-quant, the-count, the-length}
 use Rattle.listed.proofs.FillLaws.{fill-small, fill-long, fill-missing, fill-list-long, fill-no-list, fill-other, fill-count, placing, places-ready, fill-row}
+use Rattle.decls.proofs.RowHeads.{the-quant, the-count, the-length}
 use borrow.Author.Needs.{needs}
 use Rattle.listed.proofs.fill.instantiate.Statement.{statement}
 use Rattle.listed.proofs.fill.instantiate.Tie as tie
@@ -197,7 +197,7 @@ returns-8 c =
     let nc = the-count _ _ _ x _ (b10 .declared .ensures) q in
     let few : b10 .declared .result ≤ 32 = omega arith in
     let y = placing (b37 .args .list .now) (b18 .mark-row .last .1 .1 .1 .0) _ _ _ (listing-kept Places (b37 .args .list .now) (b25 .mark-entries .last .1 .1 .0) (b18 .mark-row .last .1 .1 .1 .0) _ _ _ (b18 .mark-row .ensures .1 .1) (b25 .mark-entries .ensures)) (not-false _ (b11 .if4 .left)) (b8 .if6 .left) in
-    passed _ _ _ _ _ (fill-row (b37 .args .list .now) _ (b18 .mark-row .last .1 .1 .1 .0) _ y few (b37 .args .row .now) _ _ (b32 .if1 .left) (b30 .if3 .left) x (b10 .declared .ensures) (b9 .if5 .left) _ left _ (reading-shallow _ (left .most) _ _ _ _ x _ _ (b18 .mark-row .ensures .0) (b14 .sure .given .1))) (c .before .before .fill-marked .ensures)
+    passed _ _ _ _ _ (fill-row (b37 .args .list .now) _ (b18 .mark-row .last .1 .1 .1 .0) _ y few (b37 .args .row .now) _ _ (b32 .if1 .left) (b30 .if3 .left) (b31 .if2 .left) x (b10 .declared .ensures) (b9 .if5 .left) _ left _ (reading-shallow _ (left .most) _ _ _ _ x _ _ (b18 .mark-row .ensures .0) (b14 .sure .given .1))) (c .before .before .fill-marked .ensures)
 
 pub instantiate-spec : {M : Type 1} → statement M
 instantiate-spec =

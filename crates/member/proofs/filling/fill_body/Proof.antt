@@ -1,73 +1,81 @@
 -- `member::filling::fill_body` meets its contract. Assumes nothing.
-use borrow.Author.Needs.{needs}
 use native.Mathlib.Omega.{arith}
-use mathlib.Core.Path.{refl, sym, _∙_}
-use lib.ListN.{length}
-use lib.Seq.{length-take-le}
-use Rattle.shift.proofs.CheckedLaws.{passed}
-use Rattle.replace.proofs.BuildLaws.{built-fits}
-use Rattle.member.proofs.FillBodyLaws.{stay-names, stay-front, kept-told, stay-low}
+use Rattle.member.proofs.BodyLaws.{places, names-all}
+use Rattle.member.proofs.FillBodyLaws.{plain-filling, body-some}
 use borrow.Author.Needs.{needs}
 use Rattle.member.proofs.filling.fill_body.Statement.{statement}
 use Rattle.member.proofs.filling.fill_body.Tie as tie
 
-array-share-prefix-words : tie.Need-array-share-prefix-words
-array-share-prefix-words c = let m = c .before .before .before .before .before .before .before .pre .most in omega arith
+mul-if1 : tie.Need-mul-if1
+mul-if1 c = let at-pre = c .before .before .before .before .before .pre in let p = places (at-pre .0) in let p0 = p .0 in let p1 = p .1 in let p2 = p .2 in let p4 = p .4 in let p5 = p .5 in let sh = at-pre .2 in omega arith
 
-slice-aggregate-keep-names : tie.Need-slice-aggregate-keep-names
-slice-aggregate-keep-names c = sym (length-take-le _ _ (let m = c .before .before .before .before .before .before .before .before .pre .most in let w = c .before .before .before .before .before .before .before .before .pre .table .words in omega arith))
+shared-slice-read-if1 : tie.Need-shared-slice-read-if1
+shared-slice-read-if1 c = let at-pre = c .before .before .before .before .before .before .pre in let p = places (at-pre .0) in let p0 = p .0 in let p1 = p .1 in let p2 = p .2 in let p4 = p .4 in let p5 = p .5 in let sh = at-pre .2 in omega arith
 
-slice-aggregate-keep-names-2 : tie.Need-slice-aggregate-keep-names-2
-slice-aggregate-keep-names-2 c = search needs
-
-keep-names-requires : tie.Need-keep-names-requires
-keep-names-requires c κs =
-    let b9 = c .before .before .before .before .before .before .before .before .before in
-    let m = b9 .pre .most in let w = b9 .pre .table .words in (length-take-le (length (b9 .args .names .now)) (b9 .args .table .words) (omega arith), omega arith)
-
-array-share-prefix-words-2 : tie.Need-array-share-prefix-words-2
-array-share-prefix-words-2 c = let m = c .before .before .before .before .before .before .before .before .before .before .before .pre .most in omega arith
-
-slice-aggregate-front-of : tie.Need-slice-aggregate-front-of
-slice-aggregate-front-of c =
-    let b12 = c .before .before .before .before .before .before .before .before .before .before .before .before in
-    sym (length-take-le _ _ (let m = b12 .pre .most in let w = b12 .pre .table .words in omega arith))
-
-front-of-requires : tie.Need-front-of-requires
-front-of-requires c κs = search needs
-
-array-share-prefix-stays : tie.Need-array-share-prefix-stays
-array-share-prefix-stays c = search needs
-
-slice-aggregate-fill-kept : tie.Need-slice-aggregate-fill-kept
-slice-aggregate-fill-kept c = sym (length-take-le _ _ (built-fits (c .before .before .before .before .keep-names .kept .1 .1 .0) refl (c .before .before .before .before .keep-names .ensures .0)))
-
-fill-kept-requires : tie.Need-fill-kept-requires
-fill-kept-requires c κs =
-    let b5 = c .before .before .before .before .before in let b15 = b5 .before .before .before .before .before .before .before .before .before .before in
-    let s = stay-low (b15 .pre) _ _ (b5 .keep-names .ensures .1 ∙ stay-names (b15 .pre) _ refl) (c .before .before .front-of .ensures ∙ stay-front (b15 .pre) _ refl) in s
+fill-noted-requires : tie.Need-fill-noted-requires
+fill-noted-requires c κs = search needs
 
 same-length : tie.Need-same-length
 same-length c = search needs
 
 returns : tie.Need-returns
-returns c =
-    let b2 = c .before .before in let b5 = b2 .before .before .before in let b8 = b5 .before .before .before in
-    (λ x. passed _ _ _ _ _ (kept-told x _ _ _ (b8 .keep-names .ensures .1 ∙ stay-names x _ refl) (b5 .front-of .ensures ∙ stay-front x _ refl)) (b2 .fill-kept .ensures) .0, λ x. passed _ _ _ _ _ (kept-told x _ _ _ (b8 .keep-names .ensures .1 ∙ stay-names x _ refl) (b5 .front-of .ensures ∙ stay-front x _ refl)) (b2 .fill-kept .ensures) .1)
+returns c = search needs
+
+shared-slice-read-if2 : tie.Need-shared-slice-read-if2
+shared-slice-read-if2 c = let at-pre = c .before .before .before .before .before .before .before .before .pre in body-some (at-pre .1)
+
+fill-noted-requires-2 : tie.Need-fill-noted-requires-2
+fill-noted-requires-2 c κs = search needs
+
+same-length-2 : tie.Need-same-length-2
+same-length-2 c = search needs
+
+returns-2 : tie.Need-returns-2
+returns-2 c = search needs
+
+add-from : tie.Need-add-from
+add-from c = let at-pre = c .before .before .before .before .before .before .before .before .before .pre in let p = places (at-pre .0) in let p0 = p .0 in let p1 = p .1 in let p2 = p .2 in let p4 = p .4 in let p5 = p .5 in let sh = at-pre .2 in omega arith
+
+mul-fill-plain : tie.Need-mul-fill-plain
+mul-fill-plain c = let at-pre = c .before .before .before .before .before .before .before .before .before .pre in let p = places (at-pre .0) in let p0 = p .0 in let p1 = p .1 in let p2 = p .2 in let p4 = p .4 in let p5 = p .5 in let sh = at-pre .2 in omega arith
+
+sub-fill-plain : tie.Need-sub-fill-plain
+sub-fill-plain c = let at-pre = c .before .before .before .before .before .before .before .before .before .pre in let p = places (at-pre .0) in let p0 = p .0 in let p1 = p .1 in let p2 = p .2 in let p4 = p .4 in let p5 = p .5 in let sh = at-pre .2 in omega arith
+
+part-fill-plain-start : tie.Need-part-fill-plain-start
+part-fill-plain-start c = let at-pre = c .before .before .before .before .before .before .before .before .before .pre in let p = places (at-pre .0) in let p0 = p .0 in let p1 = p .1 in let p2 = p .2 in let p4 = p .4 in let p5 = p .5 in let sh = at-pre .2 in omega arith
+
+part-fill-plain-end : tie.Need-part-fill-plain-end
+part-fill-plain-end c = let at-pre = c .before .before .before .before .before .before .before .before .before .pre in let p = places (at-pre .0) in let p0 = p .0 in let p1 = p .1 in let p2 = p .2 in let p4 = p .4 in let p5 = p .5 in let sh = at-pre .2 in omega arith
+
+fill-plain-requires : tie.Need-fill-plain-requires
+fill-plain-requires c κs = let at-pre = c .before .before .before .before .before .before .before .before .before .before .before .pre in let at-if1 = c .before .before .before .before .if1 in let at-if2 = c .before .before .if2 in (plain-filling (at-pre .0) (at-if1 .left) (at-pre .1), at-if2 .left)
+
+same-length-3 : tie.Need-same-length-3
+same-length-3 c = search needs
+
+returns-3 : tie.Need-returns-3
+unfolding plain-filling
+returns-3 c = let at-if1 = c .before .before .before .before .before .before .before .if1 in let at-fill-plain = c .before .before .fill-plain in (λ x y. rw (names-all x (at-if1 .left)) at (at-fill-plain .ensures .0 (plain-filling x (at-if1 .left) y)), λ x y. rw (names-all x (at-if1 .left)) at (at-fill-plain .ensures .1 (plain-filling x (at-if1 .left) y)))
 
 pub fill-body-spec : {M : Type 1} → statement M
 fill-body-spec =
     tie.close
     (tie.spec
-    array-share-prefix-words
-    slice-aggregate-keep-names
-    slice-aggregate-keep-names-2
-    keep-names-requires
-    array-share-prefix-words-2
-    slice-aggregate-front-of
-    front-of-requires
-    array-share-prefix-stays
-    slice-aggregate-fill-kept
-    fill-kept-requires
+    mul-if1
+    shared-slice-read-if1
+    fill-noted-requires
     same-length
-    returns)
+    returns
+    shared-slice-read-if2
+    fill-noted-requires-2
+    same-length-2
+    returns-2
+    add-from
+    mul-fill-plain
+    sub-fill-plain
+    part-fill-plain-start
+    part-fill-plain-end
+    fill-plain-requires
+    same-length-3
+    returns-3)

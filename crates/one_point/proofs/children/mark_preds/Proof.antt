@@ -13,9 +13,6 @@ use Rattle.one_point.proofs.ChildrenLaws.{end-next, end-bad, end-none, 
 use Rattle.one_point.proofs.MarkLaws.{marks-told, plain-marks}
 use Rattle.one_point.proofs.children.mark_preds.Statement.{statement}
 use Rattle.one_point.proofs.children.mark_preds.Tie as tie
-use Rattle.one_point.proofs.children.mark_preds.Reads as reads
-use Rattle.one_point.proofs.children.mark_preds.Lts as lts
-use Rattle.one_point.proofs.marks.mark_pred.Reads as mark-pred-reads
 
 abbrev Inv-loop : tie.InvT-loop
 Inv-loop row at n depth marks₀ pos p₀ left₀ marks p left = (endOfAll p (readKids row depth p left) ≡ endOfAll at (readKids row depth at n)) × (areKids row depth at n ≡ areKids row depth p left) × (areKids row depth p left ≡ true → markAll (kidsAt row depth p left) (pos + (p - at)) 0 marks ≡ markAll (kidsAt row depth at n) pos 0 marks₀) × (at ≤ p) × (p - at ≤ length row - at) × (length marks ≡ length marks₀)

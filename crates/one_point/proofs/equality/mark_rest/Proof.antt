@@ -6,9 +6,6 @@ use Rattle.one_point.proofs.MarkLaws.{plain-marks}
 use borrow.Author.Needs.{needs}
 use Rattle.one_point.proofs.equality.mark_rest.Statement.{statement}
 use Rattle.one_point.proofs.equality.mark_rest.Tie as tie
-use Rattle.one_point.proofs.equality.mark_rest.Reads as reads
-use Rattle.one_point.proofs.equality.mark_rest.Lts as lts
-use Rattle.one_point.proofs.marks.mark_pred.Reads as mark-pred-reads
 
 mark-pred-requires : tie.Need-mark-pred-requires
 mark-pred-requires c κs = search needs

@@ -12,13 +12,6 @@ use Rattle.one_point.proofs.MarkLaws.{no-marks, tell-marks}
 use borrow.Author.Needs.{needs}
 use Rattle.one_point.proofs.equality.scan_equality.Statement.{statement}
 use Rattle.one_point.proofs.equality.scan_equality.Tie as tie
-use Rattle.one_point.proofs.equality.scan_equality.Reads as reads
-use Rattle.one_point.proofs.equality.scan_equality.Lts as lts
-use Rattle.one_point.proofs.scanned.no_pred.Reads as no-pred-reads
-use Rattle.one_point.proofs.equality.scan_part.Reads as scan-part-reads
-use Rattle.one_point.proofs.equality.scan_parts.Reads as scan-parts-reads
-use Rattle.places.proofs.positions.both_pairs.Reads as both-pairs-reads
-use Rattle.places.proofs.positions.skip_expr.Reads as skip-expr-reads
 
 add-skip-expr : tie.Need-add-skip-expr
 add-skip-expr c = search needs

@@ -11,12 +11,6 @@ use Rattle.one_point.proofs.MarkLaws.{marks-told, plain-marks}
 use borrow.Author.Needs.{needs}
 use Rattle.one_point.proofs.equality.scan_part.Statement.{statement}
 use Rattle.one_point.proofs.equality.scan_part.Tie as tie
-use Rattle.one_point.proofs.equality.scan_part.Reads as reads
-use Rattle.one_point.proofs.equality.scan_part.Lts as lts
-use Rattle.one_point.proofs.marks.mark_pred.Reads as mark-pred-reads
-use Rattle.one_point.proofs.parts.accept.Reads as accept-reads
-use Rattle.one_point.proofs.parts.is_taken.Reads as is-taken-reads
-use Rattle.one_point.proofs.writes.copy_part.Reads as copy-part-reads
 
 add-t12 : tie.Need-add-t12
 add-t12 c = search needs

@@ -9,12 +9,6 @@ use Rattle.one_point.proofs.EqualityMarks.{rest-marks}
 use borrow.Author.Needs.{needs}
 use Rattle.one_point.proofs.equality.scan_parts.Statement.{statement}
 use Rattle.one_point.proofs.equality.scan_parts.Tie as tie
-use Rattle.one_point.proofs.equality.scan_parts.Reads as reads
-use Rattle.one_point.proofs.equality.scan_parts.Lts as lts
-use Rattle.one_point.proofs.parts.copy_parts.Reads as copy-parts-reads
-use Rattle.one_point.proofs.parts.search_parts.Reads as search-parts-reads
-use Rattle.one_point.proofs.equality.mark_rest.Reads as mark-rest-reads
-use Rattle.one_point.proofs.writes.finish_junction.Reads as finish-junction-reads
 
 add-search-parts : tie.Need-add-search-parts
 add-search-parts c = search needs

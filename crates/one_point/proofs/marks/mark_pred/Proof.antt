@@ -4,9 +4,6 @@ use Rattle.one_point.proofs.MarkLaws.{past-row, bad-end, rest-none, no-
 use borrow.Author.Needs.{needs}
 use Rattle.one_point.proofs.marks.mark_pred.Statement.{statement}
 use Rattle.one_point.proofs.marks.mark_pred.Tie as tie
-use Rattle.one_point.proofs.marks.mark_pred.Reads as reads
-use Rattle.one_point.proofs.marks.mark_pred.Lts as lts
-use Rattle.reader.proofs.reader.pred_at.Reads as pred-at-reads
 
 returns : tie.Need-returns
 returns c =

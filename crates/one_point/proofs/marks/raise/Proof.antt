@@ -6,9 +6,6 @@ use native.Mathlib.Omega.{arith}
 use Rattle.one_point.proofs.RaiseLaws.{raisedTo, raise-here, raise-more, raise-all}
 use Rattle.one_point.proofs.marks.raise.Statement.{statement}
 use Rattle.one_point.proofs.marks.raise.Tie as tie
-use Rattle.one_point.proofs.marks.raise.Reads as reads
-use Rattle.one_point.proofs.marks.raise.Lts as lts
-use Rattle.one_point.proofs.marks.raise_mark.Reads as raise-mark-reads
 
 abbrev Inv-loop : tie.InvT-loop
 Inv-loop marks₀ k i₀ marks i = (marks ≡ raisedTo k i marks₀) × (i ≤ length marks₀) × (length marks ≡ length marks₀)

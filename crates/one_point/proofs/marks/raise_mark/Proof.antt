@@ -5,8 +5,6 @@ use Rattle.one_point.specs.Internal.Marks.{raiseMark}
 use borrow.Author.Needs.{needs}
 use Rattle.one_point.proofs.marks.raise_mark.Statement.{statement}
 use Rattle.one_point.proofs.marks.raise_mark.Tie as tie
-use Rattle.one_point.proofs.marks.raise_mark.Reads as reads
-use Rattle.one_point.proofs.marks.raise_mark.Lts as lts
 
 returns : tie.Need-returns
 unfolding raiseMark

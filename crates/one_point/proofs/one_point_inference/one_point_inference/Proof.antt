@@ -1,20 +1,22 @@
 -- `one_point::one_point_inference/one_point_inference` meets its contract. Assumes nothing.
+use borrow.Author.Needs.{needs}
 use mathlib.Core.Path.{refl, sym, ap, _∙_}
 use native.Mathlib.Omega.{arith}
 use lib.ListN.{length}
+use lib.Seq.{length-take-le}
 use Rattle.shift.proofs.CheckedLaws.{refused, refused-up, passed}
 use Rattle.places.proofs.PlacesLaws.{pred-row}
-use Rattle.one_point.proofs.QuantifierLaws.{point-small, point-long, point-refused, point-other, head-read, reducing, point-body, point-bad}
+use Rattle.one_point.proofs.QuantifierLaws.{point-small, point-long, point-refused, point-other, checked-row, head-read, reducing, point-body, point-bad}
 use Rattle.one_point.specs.Internal.Reduce.{isBad}
 use borrow.Author.Needs.{needs}
 use Rattle.one_point.proofs.one_point_inference.one_point_inference.Statement.{statement}
 use Rattle.one_point.proofs.one_point_inference.one_point_inference.Tie as tie
 
 returns : tie.Need-returns
-returns c = let b4 = c .before .before .before .before in refused _ _ _ _ (point-small (b4 .args .row .now) (length (b4 .args .work .now)) (length (b4 .args .out .now)) (c .if1 .taken)) refl
+returns c = let at-args = c .before .before .before .before .args in let at-if1 = c .if1 in refused _ _ _ _ (point-small (at-args .row .now) (length (at-args .work .now)) (length (at-args .out .now)) (at-if1 .taken)) refl
 
 returns-2 : tie.Need-returns-2
-returns-2 c = let b5 = c .before .before .before .before .before in refused _ _ _ _ (point-long (b5 .args .row .now) (length (b5 .args .work .now)) (length (b5 .args .out .now)) (c .before .if1 .left) (c .if2 .taken)) refl
+returns-2 c = let at-args = c .before .before .before .before .before .args in let at-if1 = c .before .if1 in let at-if2 = c .if2 in refused _ _ _ _ (point-long (at-args .row .now) (length (at-args .work .now)) (length (at-args .out .now)) (at-if1 .left) (at-if2 .taken)) refl
 
 quantifier-of-requires : tie.Need-quantifier-of-requires
 quantifier-of-requires c κs = search needs
@@ -35,40 +37,13 @@ enum-told-2 : tie.Need-enum-told-2
 enum-told-2 c = search needs
 
 returns-3 : tie.Need-returns-3
-returns-3 c = let b6 = c .before .before .before .before .before .before in let b7 = b6 .before in let b11 = b7 .before .before .before .before in refused-up _ _ _ _ _ (c .enum-told2 .given .1) (point-refused (b11 .args .row .now) (length (b11 .args .work .now)) (length (b11 .args .out .now)) (b7 .if1 .left) (b6 .if2 .left) _ _ _ (c .before .before .check .ensures) (c .enum-told2 .given .1))
+returns-3 c = let at-enum-told2 = c .enum-told2 in let at-args = c .before .before .before .before .before .before .before .before .before .before .before .args in let at-if1 = c .before .before .before .before .before .before .before .if1 in let at-if2 = c .before .before .before .before .before .before .if2 in let at-check = c .before .before .check in refused-up _ _ _ _ _ (at-enum-told2 .given .1) (point-refused (at-args .row .now) (length (at-args .work .now)) (length (at-args .out .now)) (at-if1 .left) (at-if2 .left) _ _ _ (at-check .ensures) (at-enum-told2 .given .1))
 
-returns-4 : tie.Need-returns-4
-returns-4 c = let b3 = c .before .before .before in let b4 = b3 .before in let b6 = b4 .before .before in let b7 = b6 .before in let b8 = b7 .before in let b12 = b8 .before .before .before .before in refused _ _ _ _ (point-other (b12 .args .row .now) (length (b12 .args .work .now)) (length (b12 .args .out .now)) (b8 .if1 .left) (b7 .if2 .left) (pred-row (b12 .args .row .now) _ _ (b7 .if2 .left) (b3 .check .ensures) (c .before .checked .given .1)) _ (b6 .quantifier-of .ensures) (b4 .enum-told .given .1)) refl
+begins-noted-requires : tie.Need-begins-noted-requires
+begins-noted-requires c κs = search needs
 
-sub-reduce : tie.Need-sub-reduce
-sub-reduce c = let b3 = c .before .before .before in let b9 = b3 .before .before .before .before .before .before in let h = head-read (b9 .args .row .now) _ (b3 .quantifier-of .ensures) _ _ (c .before .tag .given .1) in let f = h .fits in let s = h .start in omega arith
-
-part-reduce-start : tie.Need-part-reduce-start
-part-reduce-start c = let b3 = c .before .before .before in let b9 = b3 .before .before .before .before .before .before in let h = head-read (b9 .args .row .now) _ (b3 .quantifier-of .ensures) _ _ (c .before .tag .given .1) in let f = h .fits in let s = h .start in omega arith
-
-part-reduce-end : tie.Need-part-reduce-end
-part-reduce-end c = let b3 = c .before .before .before in let b9 = b3 .before .before .before .before .before .before in let h = head-read (b9 .args .row .now) _ (b3 .quantifier-of .ensures) _ _ (c .before .tag .given .1) in let f = h .fits in let s = h .start in omega arith
-
-mul-reduce : tie.Need-mul-reduce
-mul-reduce c = let b4 = c .before .before .before .before in let b10 = b4 .before .before .before .before .before .before in let h = head-read (b10 .args .row .now) _ (b4 .quantifier-of .ensures) _ _ (c .before .before .tag .given .1) in let f = h .fits in let s = h .start in omega arith
-
-sub-reduce-2 : tie.Need-sub-reduce-2
-sub-reduce-2 c = let b4 = c .before .before .before .before in let b10 = b4 .before .before .before .before .before .before in let h = head-read (b10 .args .row .now) _ (b4 .quantifier-of .ensures) _ _ (c .before .before .tag .given .1) in let f = h .fits in let s = h .start in omega arith
-
-part-reduce-start-2 : tie.Need-part-reduce-start-2
-part-reduce-start-2 c = let b4 = c .before .before .before .before in let b10 = b4 .before .before .before .before .before .before in let h = head-read (b10 .args .row .now) _ (b4 .quantifier-of .ensures) _ _ (c .before .before .tag .given .1) in let f = h .fits in let s = h .start in omega arith
-
-part-reduce-end-2 : tie.Need-part-reduce-end-2
-part-reduce-end-2 c = search needs
-
-reduce-requires : tie.Need-reduce-requires
-reduce-requires c κs = let b5 = c .before .before .before .before .before in let b7 = b5 .before .before in let b8 = b7 .before in let b9 = b8 .before in let b13 = b9 .before .before .before .before in reducing (b13 .args .row .now) (length (b13 .args .work .now)) (length (b13 .args .out .now)) (b9 .if1 .left) (b8 .if2 .left) _ _ (head-read (b13 .args .row .now) _ (b7 .quantifier-of .ensures) _ _ (b5 .tag .given .1))
-
-is-bad-requires : tie.Need-is-bad-requires
-is-bad-requires c κs = search needs
-
-broken-at-requires : tie.Need-broken-at-requires
-broken-at-requires c κs = search needs
+reduce-noted-requires : tie.Need-reduce-noted-requires
+reduce-noted-requires c κs = let at-args = c .before .before .before .before .before .before .before .before .before .before .before .before .before .before .before .before .args in let at-if2 = c .before .before .before .before .before .before .before .before .before .before .before .if2 in let at-check = c .before .before .before .before .before .before .before .check in let at-checked = c .before .before .before .before .before .checked in let at-if1 = c .before .before .before .before .before .before .before .before .before .before .before .before .if1 in let at-begins-noted = c .before .before .before .begins-noted in let at-if3 = c .before .before .if3 in (checked-row (at-args .row .now) (length (at-args .work .now)) (pred-row (at-args .row .now) _ _ (at-if2 .left) (at-check .ensures) (at-checked .given .1)) (at-if2 .left) (at-if1 .left), sym (at-begins-noted .ensures) ∙ at-if3 .taken)
 
 same-length : tie.Need-same-length
 same-length c = search needs
@@ -76,8 +51,35 @@ same-length c = search needs
 same-length-2 : tie.Need-same-length-2
 same-length-2 c = search needs
 
+returns-4 : tie.Need-returns-4
+returns-4 c = let at-reduce-noted = c .before .before .before .before .reduce-noted in at-reduce-noted .ensures
+
 returns-5 : tie.Need-returns-5
-returns-5 c = let x = c .before .before .before in let b4 = x .before .before .before .before in let b10 = b4 .before .before .before .before .before .before in let b12 = b10 .before .before in let b13 = b12 .before in let b14 = b13 .before in let b18 = b14 .before .before .before .before in point-bad (b18 .args .row .now) (length (b18 .args .work .now)) (length (b18 .args .out .now)) (b14 .if1 .left) (b13 .if2 .left) _ _ (head-read (b18 .args .row .now) _ (b12 .quantifier-of .ensures) _ _ (b10 .tag .given .1)) _ _ _ (b4 .reduce .ensures) (sym (c .before .before .is-bad .ensures) ∙ c .before .if3 .taken) _ (c .broken-at .ensures)
+returns-5 c = let at-args = c .before .before .before .before .before .before .before .before .before .before .before .before .before .before .args in let at-if1 = c .before .before .before .before .before .before .before .before .before .before .if1 in let at-if2 = c .before .before .before .before .before .before .before .before .before .if2 in let at-check = c .before .before .before .before .before .check in let at-checked = c .before .before .before .checked in let at-begins-noted = c .before .begins-noted in let at-if3 = c .if3 in let at-quantifier-of = c .before .before .before .before .before .before .before .before .quantifier-of in let at-enum-told = c .before .before .before .before .before .before .enum-told in refused _ _ _ _ (point-other (at-args .row .now) (length (at-args .work .now)) (length (at-args .out .now)) (at-if1 .left) (at-if2 .left) (pred-row (at-args .row .now) _ _ (at-if2 .left) (at-check .ensures) (at-checked .given .1)) (sym (at-begins-noted .ensures) ∙ at-if3 .left) _ (at-quantifier-of .ensures) (at-enum-told .given .1)) refl
+
+slice-aggregate-reduce : tie.Need-slice-aggregate-reduce
+slice-aggregate-reduce c = let at-args = c .before .before .before .before .before .before .before .before .before .before .args in let at-quantifier-of = c .before .before .before .before .quantifier-of in let at-tag = c .before .before .tag in let h = head-read (at-args .row .now) _ (at-quantifier-of .ensures) _ _ (at-tag .given .1) in sym (length-take-le _ _ (h .fits))
+
+mul-reduce : tie.Need-mul-reduce
+mul-reduce c = let at-args = c .before .before .before .before .before .before .before .before .before .before .args in let at-quantifier-of = c .before .before .before .before .quantifier-of in let at-tag = c .before .before .tag in let at-if2 = c .before .before .before .before .before .if2 in let h = head-read (at-args .row .now) _ (at-quantifier-of .ensures) _ _ (at-tag .given .1) in let f = h .fits in let s = h .start in let l = at-if2 .left in omega arith
+
+sub-reduce : tie.Need-sub-reduce
+sub-reduce c = let at-args = c .before .before .before .before .before .before .before .before .before .before .args in let at-quantifier-of = c .before .before .before .before .quantifier-of in let at-tag = c .before .before .tag in let at-if2 = c .before .before .before .before .before .if2 in let h = head-read (at-args .row .now) _ (at-quantifier-of .ensures) _ _ (at-tag .given .1) in let f = h .fits in let s = h .start in let l = at-if2 .left in omega arith
+
+part-reduce-start : tie.Need-part-reduce-start
+part-reduce-start c = let at-args = c .before .before .before .before .before .before .before .before .before .before .args in let at-quantifier-of = c .before .before .before .before .quantifier-of in let at-tag = c .before .before .tag in let at-if2 = c .before .before .before .before .before .if2 in let h = head-read (at-args .row .now) _ (at-quantifier-of .ensures) _ _ (at-tag .given .1) in let f = h .fits in let s = h .start in let l = at-if2 .left in omega arith
+
+part-reduce-end : tie.Need-part-reduce-end
+part-reduce-end c = search needs
+
+reduce-requires : tie.Need-reduce-requires
+reduce-requires c κs = let at-args = c .before .before .before .before .before .before .before .before .before .before .before .before .before .args in let at-if1 = c .before .before .before .before .before .before .before .before .before .if1 in let at-if2 = c .before .before .before .before .before .before .before .before .if2 in let at-quantifier-of = c .before .before .before .before .before .before .before .quantifier-of in let at-tag = c .before .before .before .before .before .tag in reducing (at-args .row .now) (length (at-args .work .now)) (length (at-args .out .now)) (at-if1 .left) (at-if2 .left) _ _ (head-read (at-args .row .now) _ (at-quantifier-of .ensures) _ _ (at-tag .given .1))
+
+is-bad-requires : tie.Need-is-bad-requires
+is-bad-requires c κs = search needs
+
+broken-at-requires : tie.Need-broken-at-requires
+broken-at-requires c κs = search needs
 
 same-length-3 : tie.Need-same-length-3
 same-length-3 c = search needs
@@ -86,7 +88,16 @@ same-length-4 : tie.Need-same-length-4
 same-length-4 c = search needs
 
 returns-6 : tie.Need-returns-6
-returns-6 c = let x = c .before .before in let b4 = x .before .before .before .before in let b10 = b4 .before .before .before .before .before .before in let b12 = b10 .before .before in let b13 = b12 .before in let b14 = b13 .before in let b18 = b14 .before .before .before .before in passed _ _ _ _ _ (point-body (b18 .args .row .now) (length (b18 .args .work .now)) (length (b18 .args .out .now)) (b14 .if1 .left) (b13 .if2 .left) _ _ (head-read (b18 .args .row .now) _ (b12 .quantifier-of .ensures) _ _ (b10 .tag .given .1)) (sym (ap isBad (b4 .reduce .ensures .0)) ∙ (sym (c .before .is-bad .ensures) ∙ c .if3 .left))) (b4 .reduce .ensures)
+returns-6 c = let at-args = c .before .before .before .before .before .before .before .before .before .before .before .before .before .before .before .before .before .before .before .before .before .args in let at-if1 = c .before .before .before .before .before .before .before .before .before .before .before .before .before .before .before .before .before .if1 in let at-if2 = c .before .before .before .before .before .before .before .before .before .before .before .before .before .before .before .before .if2 in let at-quantifier-of = c .before .before .before .before .before .before .before .before .before .before .before .before .before .before .before .quantifier-of in let at-tag = c .before .before .before .before .before .before .before .before .before .before .before .before .before .tag in let at-reduce = c .before .before .before .before .before .before .before .reduce in let at-is-bad = c .before .before .is-bad in let at-if4 = c .before .if4 in let at-broken-at = c .broken-at in point-bad (at-args .row .now) (length (at-args .work .now)) (length (at-args .out .now)) (at-if1 .left) (at-if2 .left) _ _ (head-read (at-args .row .now) _ (at-quantifier-of .ensures) _ _ (at-tag .given .1)) _ _ _ (at-reduce .ensures) (sym (at-is-bad .ensures) ∙ at-if4 .taken) _ (at-broken-at .ensures)
+
+same-length-5 : tie.Need-same-length-5
+same-length-5 c = search needs
+
+same-length-6 : tie.Need-same-length-6
+same-length-6 c = search needs
+
+returns-7 : tie.Need-returns-7
+returns-7 c = let at-args = c .before .before .before .before .before .before .before .before .before .before .before .before .before .before .before .before .before .before .before .before .args in let at-if1 = c .before .before .before .before .before .before .before .before .before .before .before .before .before .before .before .before .if1 in let at-if2 = c .before .before .before .before .before .before .before .before .before .before .before .before .before .before .before .if2 in let at-quantifier-of = c .before .before .before .before .before .before .before .before .before .before .before .before .before .before .quantifier-of in let at-tag = c .before .before .before .before .before .before .before .before .before .before .before .before .tag in let at-reduce = c .before .before .before .before .before .before .reduce in let at-is-bad = c .before .is-bad in let at-if4 = c .if4 in passed _ _ _ _ _ (point-body (at-args .row .now) (length (at-args .work .now)) (length (at-args .out .now)) (at-if1 .left) (at-if2 .left) _ _ (head-read (at-args .row .now) _ (at-quantifier-of .ensures) _ _ (at-tag .given .1)) (sym (ap isBad (at-reduce .ensures .0)) ∙ (sym (at-is-bad .ensures) ∙ at-if4 .left))) (at-reduce .ensures)
 
 pub one-point-inference-spec : {M : Type 1} → statement M
 one-point-inference-spec =
@@ -101,20 +112,23 @@ one-point-inference-spec =
     enum-known-checked
     enum-told-2
     returns-3
+    begins-noted-requires
+    reduce-noted-requires
+    same-length
+    same-length-2
     returns-4
+    returns-5
+    slice-aggregate-reduce
+    mul-reduce
     sub-reduce
     part-reduce-start
     part-reduce-end
-    mul-reduce
-    sub-reduce-2
-    part-reduce-start-2
-    part-reduce-end-2
     reduce-requires
     is-bad-requires
     broken-at-requires
-    same-length
-    same-length-2
-    returns-5
     same-length-3
     same-length-4
-    returns-6)
+    returns-6
+    same-length-5
+    same-length-6
+    returns-7)

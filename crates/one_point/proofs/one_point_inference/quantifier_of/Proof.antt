@@ -1,6 +1,7 @@
 -- `one_point::one_point_inference/quantifier_of` meets its contract. Assumes nothing.
+use borrow.Author.Needs.{needs}
 use native.Mathlib.Omega.{arith}
-use Rattle.one_point.proofs.PlaceLaws.{head-none, head-word, head-bad, head-of}
+use Rattle.one_point.proofs.PlaceLaws.{head-none, head-word, head-bad, head-noted, head-of}
 use borrow.Author.Needs.{needs}
 use Rattle.one_point.proofs.one_point_inference.quantifier_of.Statement.{statement}
 use Rattle.one_point.proofs.one_point_inference.quantifier_of.Tie as tie
@@ -9,25 +10,31 @@ declared-requires : tie.Need-declared-requires
 declared-requires c κs = search needs
 
 returns : tie.Need-returns
-returns c = head-none _ _ (c .before .declared .ensures) (c .if1 .taken)
+returns c = let at-declared = c .before .declared in let at-if1 = c .if1 in head-none _ _ (at-declared .ensures) (at-if1 .taken)
 
 shared-slice-read-tag : tie.Need-shared-slice-read-tag
-shared-slice-read-tag c = let b4 = c .before .before .before .before in let h = head-word (b4 .args .row .now) _ (c .before .before .declared .ensures) (c .before .if1 .left) in omega arith
+shared-slice-read-tag c = let at-args = c .before .before .before .before .args in let at-declared = c .before .before .declared in let at-if1 = c .before .if1 in let h = head-word (at-args .row .now) _ (at-declared .ensures) (at-if1 .left) in omega arith
 
 pred-head-requires : tie.Need-pred-head-requires
 pred-head-requires c κs = search needs
 
-enum-known-start : tie.Need-enum-known-start
-enum-known-start c = search needs
+enum-known-head : tie.Need-enum-known-head
+enum-known-head c = search needs
+
+enum-known-head-2 : tie.Need-enum-known-head-2
+enum-known-head-2 c = search needs
 
 enum-told : tie.Need-enum-told
 enum-told c = search needs
 
 returns-2 : tie.Need-returns-2
-returns-2 c = let b4 = c .before .before .before .before in let b5 = b4 .before in head-bad _ _ (b5 .declared .ensures) (b4 .if1 .left) _ (c .before .before .pred-head .ensures) (c .enum-told .given .1)
+returns-2 c = let at-declared = c .before .before .before .before .before .before .declared in let at-if1 = c .before .before .before .before .before .if1 in let at-pred-head = c .before .before .before .pred-head in let at-head = c .before .head in head-of _ _ (at-declared .ensures) (at-if1 .left) _ (at-pred-head .ensures) _ _ _ _ (at-head .given .1)
 
 returns-3 : tie.Need-returns-3
-returns-3 c = let b3 = c .before .before .before in let b5 = b3 .before .before in let b6 = b5 .before in head-of _ _ (b6 .declared .ensures) (b5 .if1 .left) _ (b3 .pred-head .ensures) _ _ _ _ (c .before .start .given .1)
+returns-3 c = let at-declared = c .before .before .before .before .before .before .declared in let at-if1 = c .before .before .before .before .before .if1 in let at-pred-head = c .before .before .before .pred-head in let at-head2 = c .before .head2 in head-noted _ _ (at-declared .ensures) (at-if1 .left) _ (at-pred-head .ensures) _ _ _ _ (at-head2 .given .1)
+
+returns-4 : tie.Need-returns-4
+returns-4 c = let at-declared = c .before .before .before .before .before .declared in let at-if1 = c .before .before .before .before .if1 in let at-pred-head = c .before .before .pred-head in let at-enum-told = c .enum-told in head-bad _ _ (at-declared .ensures) (at-if1 .left) _ (at-pred-head .ensures) (at-enum-told .given .1)
 
 pub quantifier-of-spec : {M : Type 1} → statement M
 quantifier-of-spec =
@@ -37,7 +44,9 @@ quantifier-of-spec =
     returns
     shared-slice-read-tag
     pred-head-requires
-    enum-known-start
+    enum-known-head
+    enum-known-head-2
     enum-told
     returns-2
-    returns-3)
+    returns-3
+    returns-4)

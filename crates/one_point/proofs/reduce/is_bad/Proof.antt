@@ -5,8 +5,6 @@ use mathlib.Core.Path.{refl}
 use borrow.Author.Needs.{needs}
 use Rattle.one_point.proofs.reduce.is_bad.Statement.{statement}
 use Rattle.one_point.proofs.reduce.is_bad.Tie as tie
-use Rattle.one_point.proofs.reduce.is_bad.Reads as reads
-use Rattle.one_point.proofs.reduce.is_bad.Lts as lts
 
 enum-known-r : tie.Need-enum-known-r
 enum-known-r c = search needs

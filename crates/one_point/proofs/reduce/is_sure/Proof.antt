@@ -3,10 +3,6 @@ use Rattle.one_point.proofs.PlaceLaws.{sure-deep, sure-none, sure-not, 
 use borrow.Author.Needs.{needs}
 use Rattle.one_point.proofs.reduce.is_sure.Statement.{statement}
 use Rattle.one_point.proofs.reduce.is_sure.Tie as tie
-use Rattle.one_point.proofs.reduce.is_sure.Reads as reads
-use Rattle.one_point.proofs.reduce.is_sure.Lts as lts
-use Rattle.places.proofs.positions.skip_pred.Reads as skip-pred-reads
-use Rattle.replace.proofs.small.depth_left.Reads as depth-left-reads
 
 depth-left-requires : tie.Need-depth-left-requires
 depth-left-requires c κs = search needs

@@ -3,17 +3,12 @@ use mathlib.Core.Path.{ap, sym, _∙_}
 use lib.ListN.{length}
 use native.Mathlib.Omega.{arith}
 use Rattle.shift.proofs.CheckedLaws.{passed}
-use Rattle.one_point.specs.Internal.Reduce.{bodyOutcome, isBad}
+use Rattle.one_point.specs.Internal.Reduce.{operatorIn, declsIn, bodyOutcome, isBad}
 use Rattle.one_point.proofs.PointLaws.{told-again, bad-refusal, same-deeper, still-reducing, fresh-reading}
 use Rattle.one_point.proofs.PlaceLaws.{fresh-cleared}
 use borrow.Author.Needs.{needs}
 use Rattle.one_point.proofs.reduce.reduce.Statement.{statement}
 use Rattle.one_point.proofs.reduce.reduce.Tie as tie
-use Rattle.one_point.proofs.reduce.reduce.Reads as reads
-use Rattle.one_point.proofs.reduce.reduce.Lts as lts
-use Rattle.one_point.proofs.reduce.is_bad.Reads as is-bad-reads
-use Rattle.one_point.proofs.reduce.reduce_in.Reads as reduce-in-reads
-use Rattle.one_point.proofs.reduce.reduce_long.Reads as reduce-long-reads
 
 slice-aggregate-reduce-in : tie.Need-slice-aggregate-reduce-in
 slice-aggregate-reduce-in c = search needs
@@ -34,7 +29,7 @@ reduce-long-requires : tie.Need-reduce-long-requires
 reduce-long-requires c κs =
     let b10 = c .before .before .before .before .before .before .before .before .before .before in
     let b20 = b10 .before .before .before .before .before .before .before .before .before .before in
-    still-reducing (b20 .args .tag) (b20 .args .names .now) (b20 .args .body .now) _ _ (b10 .reduce-in .kept .1 .1 .1 .1 .0) (b20 .pre)
+    still-reducing (b20 .args .head .now) (b20 .args .body .now) _ _ (b10 .reduce-in .kept .1 .1 .1 .0) (b20 .pre)
 
 same-length : tie.Need-same-length
 same-length c = search needs
@@ -49,7 +44,7 @@ returns c =
     let b8 = b7 .before in
     let b15 = b8 .before .before .before .before .before .before .before in
     let b25 = b15 .before .before .before .before .before .before .before .before .before .before in
-    told-again (bodyOutcome 63 (b25 .args .tag) (b25 .args .names .now) (b25 .args .body .now)) _ (b25 .args .out .now) (b15 .reduce-in .last .1 .1 .1 .1 .1 .1 .1 .0) _ (b15 .reduce-in .ensures .1 ∙ bad-refusal (bodyOutcome 61 (b25 .args .tag) (b25 .args .names .now) (b25 .args .body .now) (length (b25 .args .out .now))) _ (b15 .reduce-in .ensures .0) (sym (b8 .is-bad .ensures) ∙ b7 .if2 .taken) _) (b4 .reduce-long .ensures)
+    told-again (bodyOutcome 63 (operatorIn (b25 .args .head .now)) (declsIn (b25 .args .head .now)) (b25 .args .body .now)) _ (b25 .args .out .now) (b15 .reduce-in .last .1 .1 .1 .1 .1 .1 .0) _ (b15 .reduce-in .ensures .1 ∙ bad-refusal (bodyOutcome 61 (operatorIn (b25 .args .head .now)) (declsIn (b25 .args .head .now)) (b25 .args .body .now) (length (b25 .args .out .now))) _ (b15 .reduce-in .ensures .0) (sym (b8 .is-bad .ensures) ∙ b7 .if2 .taken) _) (b4 .reduce-long .ensures)
 
 same-length-3 : tie.Need-same-length-3
 same-length-3 c = search needs
@@ -61,7 +56,7 @@ returns-2 : tie.Need-returns-2
 returns-2 c =
     let b8 = c .before .before .before .before .before .before .before .before in
     let b18 = b8 .before .before .before .before .before .before .before .before .before .before in
-    passed _ _ _ _ _ (same-deeper 61 (omega arith) (b18 .args .tag) (b18 .args .names .now) (b18 .args .body .now) _ (sym (ap isBad (b8 .reduce-in .ensures .0)) ∙ (sym (c .before .is-bad .ensures) ∙ c .if2 .left))) (b8 .reduce-in .ensures)
+    passed _ _ _ _ _ (same-deeper 61 (omega arith) (operatorIn (b18 .args .head .now)) (declsIn (b18 .args .head .now)) (b18 .args .body .now) _ (sym (ap isBad (b8 .reduce-in .ensures .0)) ∙ (sym (c .before .is-bad .ensures) ∙ c .if2 .left))) (b8 .reduce-in .ensures)
 
 slice-aggregate-reduce-in-3 : tie.Need-slice-aggregate-reduce-in-3
 slice-aggregate-reduce-in-3 c = search needs
@@ -82,7 +77,7 @@ reduce-long-requires-2 : tie.Need-reduce-long-requires-2
 reduce-long-requires-2 c κs =
     let b10 = c .before .before .before .before .before .before .before .before .before .before in
     let b21 = b10 .before .before .before .before .before .before .before .before .before .before .before in
-    still-reducing (b21 .args .tag) (b21 .args .names .now) (b21 .args .body .now) _ _ (b10 .reduce-in2 .kept .1 .1 .1 .1 .0) (b21 .pre)
+    still-reducing (b21 .args .head .now) (b21 .args .body .now) _ _ (b10 .reduce-in2 .kept .1 .1 .1 .0) (b21 .pre)
 
 same-length-5 : tie.Need-same-length-5
 same-length-5 c = search needs
@@ -97,7 +92,7 @@ returns-3 c =
     let b8 = b7 .before in
     let b15 = b8 .before .before .before .before .before .before .before in
     let b26 = b15 .before .before .before .before .before .before .before .before .before .before .before in
-    told-again (bodyOutcome 63 (b26 .args .tag) (b26 .args .names .now) (b26 .args .body .now)) _ (b26 .args .out .now) (b15 .reduce-in2 .last .1 .1 .1 .1 .1 .1 .1 .0) _ (b15 .reduce-in2 .ensures .1 ∙ bad-refusal (bodyOutcome 61 (b26 .args .tag) (b26 .args .names .now) (b26 .args .body .now) (length (b26 .args .out .now))) _ (b15 .reduce-in2 .ensures .0) (sym (b8 .is-bad2 .ensures) ∙ b7 .if4 .taken) _) (b4 .reduce-long2 .ensures)
+    told-again (bodyOutcome 63 (operatorIn (b26 .args .head .now)) (declsIn (b26 .args .head .now)) (b26 .args .body .now)) _ (b26 .args .out .now) (b15 .reduce-in2 .last .1 .1 .1 .1 .1 .1 .0) _ (b15 .reduce-in2 .ensures .1 ∙ bad-refusal (bodyOutcome 61 (operatorIn (b26 .args .head .now)) (declsIn (b26 .args .head .now)) (b26 .args .body .now) (length (b26 .args .out .now))) _ (b15 .reduce-in2 .ensures .0) (sym (b8 .is-bad2 .ensures) ∙ b7 .if4 .taken) _) (b4 .reduce-long2 .ensures)
 
 same-length-7 : tie.Need-same-length-7
 same-length-7 c = search needs
@@ -109,7 +104,7 @@ returns-4 : tie.Need-returns-4
 returns-4 c =
     let b8 = c .before .before .before .before .before .before .before .before in
     let b19 = b8 .before .before .before .before .before .before .before .before .before .before .before in
-    passed _ _ _ _ _ (same-deeper 61 (omega arith) (b19 .args .tag) (b19 .args .names .now) (b19 .args .body .now) _ (sym (ap isBad (b8 .reduce-in2 .ensures .0)) ∙ (sym (c .before .is-bad2 .ensures) ∙ c .if4 .left))) (b8 .reduce-in2 .ensures)
+    passed _ _ _ _ _ (same-deeper 61 (omega arith) (operatorIn (b19 .args .head .now)) (declsIn (b19 .args .head .now)) (b19 .args .body .now) _ (sym (ap isBad (b8 .reduce-in2 .ensures .0)) ∙ (sym (c .before .is-bad2 .ensures) ∙ c .if4 .left))) (b8 .reduce-in2 .ensures)
 
 reduce-long-requires-3 : tie.Need-reduce-long-requires-3
 reduce-long-requires-3 c κs = search needs

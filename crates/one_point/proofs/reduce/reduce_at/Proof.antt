@@ -5,9 +5,6 @@ use Rattle.one_point.proofs.PointLaws.{fresh-reading}
 use borrow.Author.Needs.{needs}
 use Rattle.one_point.proofs.reduce.reduce_at.Statement.{statement}
 use Rattle.one_point.proofs.reduce.reduce_at.Tie as tie
-use Rattle.one_point.proofs.reduce.reduce_at.Reads as reads
-use Rattle.one_point.proofs.reduce.reduce_at.Lts as lts
-use Rattle.one_point.proofs.reduce.reduce_in.Reads as reduce-in-reads
 
 slice-aggregate-reduce-in : tie.Need-slice-aggregate-reduce-in
 slice-aggregate-reduce-in c = search needs

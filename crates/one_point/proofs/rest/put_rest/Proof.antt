@@ -1,68 +1,59 @@
--- `one_point::rest::put_rest` meets its contract. Assumes nothing.
-use mathlib.Core.Path.{sym}
-use Prim.Native.Nat.{_≤_}
+-- `one_point::rest/put_rest` meets its contract. Assumes nothing.
+use borrow.Author.Needs.{needs}
+use mathlib.Core.Path.{sym, _∙_}
 use native.Mathlib.Omega.{arith}
-use lib.ListN.{length}
-use lib.Seq.{length-take-le}
 use Rattle.shift.proofs.CheckedLaws.{passed}
-use Rattle.one_point.proofs.PlaceLaws.{rest-same}
+use Rattle.one_point.proofs.HeadedLaws.{head-two}
+use Rattle.one_point.proofs.PlaceLaws.{rest-word, named-place, rest-named, rest-noted}
 use borrow.Author.Needs.{needs}
 use Rattle.one_point.proofs.rest.put_rest.Statement.{statement}
 use Rattle.one_point.proofs.rest.put_rest.Tie as tie
 
-sub-n : tie.Need-sub-n
-sub-n c = search needs
+is-simple-requires : tie.Need-is-simple-requires
+is-simple-requires c κs = let at-args = c .before .before .before .before .before .before .args in let at-pre = c .before .before .before .before .before .before .pre in let h = head-two (at-args .head .now) (at-pre .placing .heading) in (omega arith, rest-word (at-args .head .now) (at-args .p) (at-args .part .now) (at-args .part-marks .now) (at-args .body .now) (at-args .marks .now) (at-pre))
 
-array-write-words : tie.Need-array-write-words
-array-write-words c = search needs
+shared-slice-read-put-named : tie.Need-shared-slice-read-put-named
+shared-slice-read-put-named c = let at-args = c .before .before .before .before .before .before .before .before .before .args in let at-pre = c .before .before .before .before .before .before .before .before .before .pre in let h = head-two (at-args .head .now) (at-pre .placing .heading) in omega arith
 
-slice-aggregate-instantiate-partial : tie.Need-slice-aggregate-instantiate-partial
-slice-aggregate-instantiate-partial c =
-    let b7 = c .before .before .before .before .before .before .before in
-    let h : b7 .args .p ≤ length (b7 .args .names .now) = omega arith in sym (length-take-le _ _ h)
+sub-put-named : tie.Need-sub-put-named
+sub-put-named c = let at-args = c .before .before .before .before .before .before .before .before .before .args in let at-pre = c .before .before .before .before .before .before .before .before .before .pre in let h = head-two (at-args .head .now) (at-pre .placing .heading) in omega arith
 
-add-instantiate-partial : tie.Need-add-instantiate-partial
-add-instantiate-partial c = search needs
+part-put-named-start : tie.Need-part-put-named-start
+part-put-named-start c = let at-args = c .before .before .before .before .before .before .before .before .before .args in let at-pre = c .before .before .before .before .before .before .before .before .before .pre in let h = head-two (at-args .head .now) (at-pre .placing .heading) in omega arith
 
-mul-instantiate-partial : tie.Need-mul-instantiate-partial
-mul-instantiate-partial c = search needs
+part-put-named-end : tie.Need-part-put-named-end
+part-put-named-end c = search needs
 
-sub-instantiate-partial : tie.Need-sub-instantiate-partial
-sub-instantiate-partial c = search needs
-
-part-instantiate-partial-start : tie.Need-part-instantiate-partial-start
-part-instantiate-partial-start c = search needs
-
-part-instantiate-partial-end : tie.Need-part-instantiate-partial-end
-part-instantiate-partial-end c = search needs
-
-cast-instantiate-partial : tie.Need-cast-instantiate-partial
-cast-instantiate-partial c = search needs
-
-instantiate-partial-requires : tie.Need-instantiate-partial-requires
-instantiate-partial-requires c κs = search needs
+put-named-requires : tie.Need-put-named-requires
+put-named-requires c κs = let at-args = c .before .before .before .before .before .before .before .before .before .before .before .args in let at-pre = c .before .before .before .before .before .before .before .before .before .before .before .pre in let at-is-simple = c .before .before .before .before .is-simple in let at-if1 = c .before .before .before .if1 in named-place (at-args .head .now) (at-args .p) (at-args .part .now) (at-args .part-marks .now) (at-args .body .now) (at-args .marks .now) (at-pre) (sym (at-is-simple .ensures) ∙ at-if1 .taken)
 
 same-length : tie.Need-same-length
 same-length c = search needs
 
 returns : tie.Need-returns
-returns c =
-    let b15 = c .before .before .before .before .before .before .before .before .before .before .before .before .before .before .before in
-    passed _ _ _ _ _ (rest-same _ _ (b15 .args .names .now) (b15 .args .p) _ _ _ _ _ _ _) (c .before .before .instantiate-partial .ensures)
+returns c = let at-args = c .before .before .before .before .before .before .before .before .before .before .before .before .before .before .args in let at-is-simple = c .before .before .before .before .before .before .before .is-simple in let at-if1 = c .before .before .before .before .before .before .if1 in let at-put-named = c .before .before .put-named in passed _ _ _ _ _ (rest-named (at-args .head .now) (at-args .p) (at-args .part .now) (at-args .part-marks .now) (at-args .body .now) (at-args .marks .now) (at-args .sure) _ (sym (at-is-simple .ensures) ∙ at-if1 .taken)) (at-put-named .ensures)
+
+put-noted-requires : tie.Need-put-noted-requires
+put-noted-requires c κs = search needs
+
+same-length-2 : tie.Need-same-length-2
+same-length-2 c = search needs
+
+returns-2 : tie.Need-returns-2
+returns-2 c = let at-args = c .before .before .before .before .before .before .before .before .before .before .before .before .args in let at-is-simple = c .before .before .before .before .before .is-simple in let at-if1 = c .before .before .before .before .if1 in let at-put-noted = c .before .before .put-noted in passed _ _ _ _ _ (rest-noted (at-args .head .now) (at-args .p) (at-args .part .now) (at-args .part-marks .now) (at-args .body .now) (at-args .marks .now) (at-args .sure) _ (sym (at-is-simple .ensures) ∙ at-if1 .left)) (at-put-noted .ensures)
 
 pub put-rest-spec : {M : Type 1} → statement M
 put-rest-spec =
     tie.close
     (tie.spec
-    sub-n
-    array-write-words
-    slice-aggregate-instantiate-partial
-    add-instantiate-partial
-    mul-instantiate-partial
-    sub-instantiate-partial
-    part-instantiate-partial-start
-    part-instantiate-partial-end
-    cast-instantiate-partial
-    instantiate-partial-requires
+    is-simple-requires
+    shared-slice-read-put-named
+    sub-put-named
+    part-put-named-start
+    part-put-named-end
+    put-named-requires
     same-length
-    returns)
+    returns
+    put-noted-requires
+    same-length-2
+    returns-2)

@@ -4,8 +4,6 @@ use lib.ListN.{List·getD-eq-default}
 use borrow.Author.Needs.{needs}
 use Rattle.one_point.proofs.scan.is_not.Statement.{statement}
 use Rattle.one_point.proofs.scan.is_not.Tie as tie
-use Rattle.one_point.proofs.scan.is_not.Reads as reads
-use Rattle.one_point.proofs.scan.is_not.Lts as lts
 
 returns : tie.Need-returns
 returns c = rw (List·getD-eq-default (c .before .args .row .now) 0 {n = c .before .args .at} (c .if1 .taken)) refl

@@ -8,11 +8,6 @@ use Rattle.one_point.proofs.MarkLaws.{no-marks, plain-marks}
 use borrow.Author.Needs.{needs}
 use Rattle.one_point.proofs.scanned.copy_pred.Statement.{statement}
 use Rattle.one_point.proofs.scanned.copy_pred.Tie as tie
-use Rattle.one_point.proofs.scanned.copy_pred.Reads as reads
-use Rattle.one_point.proofs.scanned.copy_pred.Lts as lts
-use Rattle.one_point.proofs.marks.mark_pred.Reads as mark-pred-reads
-use Rattle.one_point.proofs.scanned.no_pred.Reads as no-pred-reads
-use Rattle.one_point.proofs.writes.copy_part.Reads as copy-part-reads
 
 mark-pred-requires : tie.Need-mark-pred-requires
 mark-pred-requires c κs =

@@ -5,9 +5,6 @@ use Rattle.one_point.proofs.WriteLaws.{join-none, join-one, join-more}
 use borrow.Author.Needs.{needs}
 use Rattle.one_point.proofs.writes.finish_junction.Statement.{statement}
 use Rattle.one_point.proofs.writes.finish_junction.Tie as tie
-use Rattle.one_point.proofs.writes.finish_junction.Reads as reads
-use Rattle.one_point.proofs.writes.finish_junction.Lts as lts
-use Rattle.one_point.proofs.writes.move_down.Reads as move-down-reads
 
 returns : tie.Need-returns
 returns c = λ fs e w. join-none (c .before .before .args .pos) (c .before .before .args .end) (c .before .before .args .tag) (c .before .before .args .out .now) (omega arith) _ (c .if1 .taken) fs e

@@ -3,9 +3,6 @@ use Rattle.one_point.proofs.WriteMarks.{join-marks-one, join-marks}
 use borrow.Author.Needs.{needs}
 use Rattle.one_point.proofs.writes.finish_marks.Statement.{statement}
 use Rattle.one_point.proofs.writes.finish_marks.Tie as tie
-use Rattle.one_point.proofs.writes.finish_marks.Reads as reads
-use Rattle.one_point.proofs.writes.finish_marks.Lts as lts
-use Rattle.one_point.proofs.writes.move_marks_down.Reads as move-marks-down-reads
 
 move-marks-down-requires : tie.Need-move-marks-down-requires
 move-marks-down-requires c κs = search needs

@@ -5,10 +5,6 @@ use Rattle.one_point.proofs.WriteMarks.{unsay-marks, say-marks}
 use borrow.Author.Needs.{needs}
 use Rattle.one_point.proofs.writes.finish_not.Statement.{statement}
 use Rattle.one_point.proofs.writes.finish_not.Tie as tie
-use Rattle.one_point.proofs.writes.finish_not.Reads as reads
-use Rattle.one_point.proofs.writes.finish_not.Lts as lts
-use Rattle.one_point.proofs.writes.move_down.Reads as move-down-reads
-use Rattle.one_point.proofs.writes.move_marks_down.Reads as move-marks-down-reads
 
 add-if1 : tie.Need-add-if1
 add-if1 c = search needs

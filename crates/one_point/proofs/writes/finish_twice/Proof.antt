@@ -4,10 +4,6 @@ use Rattle.one_point.proofs.WriteMarks.{twice-other, twice-other-marks,
 use borrow.Author.Needs.{needs}
 use Rattle.one_point.proofs.writes.finish_twice.Statement.{statement}
 use Rattle.one_point.proofs.writes.finish_twice.Tie as tie
-use Rattle.one_point.proofs.writes.finish_twice.Reads as reads
-use Rattle.one_point.proofs.writes.finish_twice.Lts as lts
-use Rattle.one_point.proofs.writes.move_down.Reads as move-down-reads
-use Rattle.one_point.proofs.writes.move_marks_down.Reads as move-marks-down-reads
 
 mul-if1 : tie.Need-mul-if1
 mul-if1 c = search needs

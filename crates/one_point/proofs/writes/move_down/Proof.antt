@@ -7,8 +7,6 @@ use native.Mathlib.Omega.{arith}
 use Rattle.one_point.proofs.WriteLaws.{copy-none, copy-more, copy-all, move-word, move-rest}
 use Rattle.one_point.proofs.writes.move_down.Statement.{statement}
 use Rattle.one_point.proofs.writes.move_down.Tie as tie
-use Rattle.one_point.proofs.writes.move_down.Reads as reads
-use Rattle.one_point.proofs.writes.move_down.Lts as lts
 
 abbrev Inv-loop : tie.InvT-loop
 Inv-loop out₀ pos end from n i₀ out i = (take (pos + i) out ≡ take pos out₀ ++ take i (drop from out₀)) × (drop (from + i) out ≡ drop (from + i) out₀) × (i ≤ n) × (n ≡ end - from) × (from ≡ pos + 2) × (length out ≡ length out₀)

@@ -6,9 +6,6 @@ use Rattle.one_point.proofs.MarkLaws.{moved-marks}
 use borrow.Author.Needs.{needs}
 use Rattle.one_point.proofs.writes.move_marks_down.Statement.{statement}
 use Rattle.one_point.proofs.writes.move_marks_down.Tie as tie
-use Rattle.one_point.proofs.writes.move_marks_down.Reads as reads
-use Rattle.one_point.proofs.writes.move_marks_down.Lts as lts
-use Rattle.one_point.proofs.writes.move_down.Reads as move-down-reads
 
 move-down-requires : tie.Need-move-down-requires
 move-down-requires c κs = search needs

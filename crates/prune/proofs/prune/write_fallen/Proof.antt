@@ -9,8 +9,7 @@ use Rattle.shift.specs.Internal.Items.{wordwise, store}
 use Rattle.prune.specs.Internal.Dropped.{fallAt}
 use Rattle.shift.proofs.SlotLaws.{slot-most}
 use Rattle.shift.proofs.WordwiseLaws.{back-one, word-more, word-none}
-use Rattle.prune.proofs.ClearLaws.{slot-here}
-use Rattle.prune.proofs.FallLaws.{fallen, unfallen, fallen-items}
+use Rattle.prune.proofs.FallLaws.{slot-here, fallen, unfallen, fallen-items}
 use Rattle.prune.proofs.prune.write_fallen.Statement.{statement}
 use Rattle.prune.proofs.prune.write_fallen.Tie as tie
 use Rattle.prune.proofs.prune.write_fallen.Reads as reads

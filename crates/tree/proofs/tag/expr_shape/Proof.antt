@@ -53,35 +53,43 @@ returns-11 c = expr-on 801 803 tt (omega arith) (omega arith)
 
 returns-12 : tie.Need-returns-12
 unfolding exprTags
-returns-12 c = expr-on 0 0 tt (omega arith) (omega arith)
+returns-12 c = expr-on 871 873 tt (omega arith) (omega arith)
 
 returns-13 : tie.Need-returns-13
 unfolding exprTags
-returns-13 c = expr-on 7 200 tt (omega arith) (omega arith)
+returns-13 c = expr-on 0 0 tt (omega arith) (omega arith)
 
 returns-14 : tie.Need-returns-14
 unfolding exprTags
-returns-14 c = expr-on 228 300 tt (omega arith) (omega arith)
+returns-14 c = expr-on 7 200 tt (omega arith) (omega arith)
 
 returns-15 : tie.Need-returns-15
 unfolding exprTags
-returns-15 c = expr-on 308 400 tt (omega arith) (omega arith)
+returns-15 c = expr-on 228 300 tt (omega arith) (omega arith)
 
 returns-16 : tie.Need-returns-16
 unfolding exprTags
-returns-16 c = expr-on 413 750 tt (omega arith) (omega arith)
+returns-16 c = expr-on 308 400 tt (omega arith) (omega arith)
 
 returns-17 : tie.Need-returns-17
 unfolding exprTags
-returns-17 c = expr-on 758 760 tt (omega arith) (omega arith)
+returns-17 c = expr-on 413 750 tt (omega arith) (omega arith)
 
 returns-18 : tie.Need-returns-18
 unfolding exprTags
-returns-18 c = expr-on 765 800 tt (omega arith) (omega arith)
+returns-18 c = expr-on 758 760 tt (omega arith) (omega arith)
 
 returns-19 : tie.Need-returns-19
 unfolding exprTags
-returns-19 c = expr-on 804 4294967295 tt (omega arith) (omega arith)
+returns-19 c = expr-on 765 800 tt (omega arith) (omega arith)
+
+returns-20 : tie.Need-returns-20
+unfolding exprTags
+returns-20 c = expr-on 804 870 tt (omega arith) (omega arith)
+
+returns-21 : tie.Need-returns-21
+unfolding exprTags
+returns-21 c = expr-on 874 4294967295 tt (omega arith) (omega arith)
 
 pub expr-shape-spec : {M : Type 1} → statement M
-expr-shape-spec = tie.close (tie.spec returns returns-2 returns-3 returns-4 returns-5 returns-6 returns-7 returns-8 returns-9 returns-10 returns-11 returns-12 returns-13 returns-14 returns-15 returns-16 returns-17 returns-18 returns-19)
+expr-shape-spec = tie.close (tie.spec returns returns-2 returns-3 returns-4 returns-5 returns-6 returns-7 returns-8 returns-9 returns-10 returns-11 returns-12 returns-13 returns-14 returns-15 returns-16 returns-17 returns-18 returns-19 returns-20 returns-21)

@@ -1,0 +1,9 @@
+pub mod DeclLaws
+pub mod NotedLaws
+pub mod CountLaws
+pub mod HeadLaws
+pub mod ClearLaws
+pub mod UsedLaws
+pub mod RowHeads
+pub mod PlainAnswers
+pub mod RoundTree

@@ -1,0 +1,3 @@
+-- What the contracts of this crate cite. Nothing here is needed to read the contract of a rule.
+pub mod Noted
+pub mod Used
