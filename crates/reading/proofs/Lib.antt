@@ -8,4 +8,5 @@ pub mod FillLaws
 pub mod OnePointLaws
 pub mod PointTruth
 pub mod PointOutput
+pub mod Notes
 pub mod Worked
