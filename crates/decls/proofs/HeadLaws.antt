@@ -142,6 +142,11 @@ module _ (n words room : ℕ) where
       unfolding headFits
       last-fits h = rw (le-leb n 32 few, le-leb (2 + n) words long, le-leb words 8192 h)
 
+-- room for the row is enough
+pub room-enough : (op : ℕ) (ws row : List ℕ) (r s : ℕ) → length row ≤ r → length row ≤ s → notedHead op ws row r ≡ notedHead op ws row s
+unfolding notedHead headFits
+room-enough op ws row r s h k = rw (le-leb (length row) r h, le-leb (length row) s k)
+
 -- the answer of the test
 pub fit-test : (n words room : ℕ) (r b : Bool) → r ≡ headFits n words room → r ≡ b → headFits n words room ≡ b
 fit-test n words room r b e h = sym e ∙ h

@@ -7,3 +7,4 @@ pub mod UsedLaws
 pub mod RowHeads
 pub mod PlainAnswers
 pub mod RoundTree
+pub mod EndLaws

@@ -1,6 +1,6 @@
 -- Which declarations the words of a form or of annotations use, as on the tree. Assumes nothing.
 use mathlib.Core.Path.{_≡_, refl, ap, sym, _∙_}
-use mathlib.Core.Bool.{Bool, true, false, _&&_}
+use mathlib.Core.Bool.{true, _&&_, and-true}
 use mathlib.Core.List.{List, [], _++_, append-nil}
 use Prim.Native.Nat.{ℕ, _+_, _-_, _≤_}
 use native.Mathlib.Nat.{zero-add, le-refl}
@@ -44,10 +44,6 @@ pub unused-items : (n j : ℕ) (f : Form) → allItems (notIndex n j) (itemsOf n
 unused-items n j f = rw zero-add at (each-items-in n (notIndex n j) (isNot j) (not-plain n j) (not-leaf n j) 0 f)
 
 -- the annotations of declarations, as those of a form with no words of its own
-and-true : (a : Bool) → (a && true) ≡ a
-and-true true = refl
-and-true false = refl
-
 abbrev notesOnly : Decls → Form
 notesOnly ds = noted 0 [] ds none
 

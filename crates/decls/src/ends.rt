@@ -1,7 +1,19 @@
 // How many declarations a row has, where they end and where the body starts.
+use form::head::Step;
 use places::positions::expr_end;
+use reader::reader::decls_at;
 ghost use mathlib.Core.Path.{_≡_};
-ghost use Rattle.decls.specs.Internal.Noted.{countIn, declEnd, declsEnd, bodyStart};
+ghost use lib.ListN.{drop};
+ghost use Rattle.reader.specs.Internal.Reads.{declsWithin};
+ghost use Rattle.decls.specs.Internal.Noted.{endDecls, countIn, declEnd, declsEnd, bodyStart};
+
+// Where n declarations with flags at `at` end, one of which at least has an annotation and none has one more than so deep.
+pub fn skip_decls(row: &[u32], at: usize, n: u32, depth: u32) -> Step
+    ensures { λ r. ⌜ r ≡ endDecls at (declsWithin depth 0 n (drop at (now (row .entry)))) ⌝ }
+{
+    let mut marks = [0u32; 1];
+    decls_at(row, &mut marks, at, n, depth, 0)
+}
 
 // The number of declarations of a row that is a quantified predicate, with or without annotations; 0 for any other.
 pub fn declared(row: &[u32]) -> u32

@@ -11,7 +11,7 @@ use lib.Dec.{leb}
 use lib.ListN.{length, getD, drop, drop-of-length-le}
 use lib.Seq.{drop-cons, drop-drop}
 use Rattle.tree.specs.Form.{pick, between}
-use Rattle.tree.specs.Tag.{Sort, Own, ask, kids, flags, wrong, own, ownOf, shapeOf}
+use Rattle.tree.specs.Tag.{Sort, expr, pred, Own, ask, kids, flags, wrong, own, ownOf, shapeOf}
 use Rattle.form.specs.Decode.{Head, head, flagged, bad, addWord, addName, only, names, read}
 use Rattle.form.specs.Internal.Heads.{wordAt, headAt, namesAt}
 use Rattle.tree.specs.declared.tag.Shape.{Shape}
@@ -245,6 +245,13 @@ few b p x y z s t l e k = few-head b p x y z (read (own s t) l) (few-read (ownOf
 pub few-flags : (b p x y z : ℕ) (s : Sort) (t : ℕ) (l : List ℕ) {h : code.Head} → h ≡ headAt b (read (own s t) l) → h ≡ Noted p x y z → z ≤ 32
 unfolding own
 few-flags b p x y z s t l e k = few-noted b p x y z (read (own s t) l) (few-read (ownOf (shapeOf s t)) l (few-own (shapeOf s t))) (sym e ∙ k)
+
+-- the shape of a tag whose sort a flag says
+pub shape-yes : (b : Bool) (tag : ℕ) (r : Shape) → b ≡ true → r ≡ shapeOf expr tag → r ≡ shapeOf (pick b expr pred) tag
+shape-yes b tag r h e = rw h e
+
+pub shape-not : (b : Bool) (tag : ℕ) (r : Shape) → b ≡ false → r ≡ shapeOf pred tag → r ≡ shapeOf (pick b expr pred) tag
+shape-not b tag r h e = rw h e
 
 -- the head of a tag from the head of its shape
 pub shape-head : (b : ℕ) (s : Sort) (t : ℕ) (l : List ℕ) {sh : Shape} {h : code.Head} → sh ≡ shapeOf s t → h ≡ headAt b (read (ownOf sh) l) → h ≡ headAt b (read (own s t) l)

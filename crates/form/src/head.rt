@@ -6,7 +6,8 @@ use tree::tag::expr_shape;
 use tree::tag::pred_shape;
 ghost use mathlib.Core.Path.{_≡_};
 ghost use lib.ListN.{drop};
-ghost use Rattle.tree.specs.Tag.{expr, pred, own, ownOf, ask, kids, flags};
+ghost use Rattle.tree.specs.Form.{pick};
+ghost use Rattle.tree.specs.Tag.{expr, pred, own, ownOf, shapeOf, ask, kids, flags};
 ghost use Rattle.form.specs.Decode.{read, names};
 ghost use Rattle.form.specs.Internal.Heads.{wordAt, headAt, namesAt, startsLeaf};
 
@@ -166,13 +167,30 @@ fn own_words(row: &[u32], at: usize, shape: Shape) -> Head
     }
 }
 
+// The shape of an expression's tag, or of a predicate's.
+fn shape_of(tag: u32, expression: bool) -> Shape
+    ensures { λ r. ⌜ r ≡ shapeOf (pick expression expr pred) tag ⌝ }
+{
+    if expression {
+        return expr_shape(tag);
+    }
+    pred_shape(tag)
+}
+
+// What stands after the tag of an expression, or of a predicate. The shape is looked up here, so that no caller keeps one in memory.
+fn tag_words(row: &[u32], at: usize, tag: u32, expression: bool) -> Head
+    ensures { λ r. ⌜ r ≡ headAt at (read (own (pick expression expr pred) tag) (drop at (now (row .entry)))) ⌝ }
+{
+    let shape = shape_of(tag, expression);
+    own_words(row, at, shape)
+}
+
 // What stands after the tag of an expression; a node without own words, the common case, is answered without a call.
 pub fn expr_head(row: &[u32], at: usize, tag: u32) -> Head
     ensures { λ r. ⌜ r ≡ headAt at (read (own expr tag) (drop at (now (row .entry)))) ⌝ }
 {
-    let shape = expr_shape(tag);
-    let Shape::Plain(preds, exprs) = shape else {
-        return own_words(row, at, shape);
+    let Shape::Plain(preds, exprs) = expr_shape(tag) else {
+        return tag_words(row, at, tag, true);
     };
     Head::Kids(at, preds, exprs, 0)
 }
@@ -181,9 +199,8 @@ pub fn expr_head(row: &[u32], at: usize, tag: u32) -> Head
 pub fn pred_head(row: &[u32], at: usize, tag: u32) -> Head
     ensures { λ r. ⌜ r ≡ headAt at (read (own pred tag) (drop at (now (row .entry)))) ⌝ }
 {
-    let shape = pred_shape(tag);
-    let Shape::Plain(preds, exprs) = shape else {
-        return own_words(row, at, shape);
+    let Shape::Plain(preds, exprs) = pred_shape(tag) else {
+        return tag_words(row, at, tag, false);
     };
     Head::Kids(at, preds, exprs, 0)
 }

@@ -19,6 +19,7 @@ use Rattle.form.specs.declared.answer.Kind.the-variants.{Predicate}
 use Rattle.form.specs.declared.answer.ListKind.the-variants.{Places}
 use Rattle.reader.specs.declared.lists.Table.{Table}
 use Rattle.form.proofs.DecodeLaws.{clash, Ok}
+use Rattle.form.proofs.RowLaws.{row-encode}
 use Rattle.form.proofs.ListLaws.{GoodAll, list-sound}
 use Rattle.reader.proofs.TableLaws.{listed-words, listed-n, rows-n, listing-yes}
 use Rattle.shift.proofs.CheckedLaws.{Checked}
@@ -26,20 +27,21 @@ use Rattle.rules.specs.Walk.{subst}
 use Rattle.rules.specs.Fill.{unnoted, quantified, ofQuantified, keptDecls, fillFor, fill, fillOutcome}
 use Rattle.shift.specs.Internal.Items.{items, rewritten}
 use Rattle.shift.proofs.RowLaws.{itemsOf, marksOf, only-mark}
-use Rattle.shift.proofs.AroundLaws.{headOf, body-items, Quant}
+use Rattle.shift.proofs.AroundLaws.{headOf, body-items, Quant, quant-of}
 use Rattle.replace.specs.Internal.Pieces.{InRow, Ready, planned, replaced, fillPlan, keptWords, headWords, placedRow, isFound}
 use Rattle.decls.specs.Internal.Noted.{countIn, bodyStart, notedHead}
-use Rattle.decls.proofs.CountLaws.{body-start}
+use Rattle.decls.proofs.DeclLaws.{good-kept, few-kept, decls-ok}
+use Rattle.decls.proofs.CountLaws.{quant-good, body-start}
 use Rattle.decls.proofs.HeadLaws.{quantHead, encode-head}
-use Rattle.decls.proofs.RowHeads.{plain-first, plain-start, plain-head, noted-row-head, no-quant, the-quant, the-count}
+use Rattle.decls.proofs.RowHeads.{plain-start, plain-head, noted-row-head, no-quant, the-quant, the-count}
 use Rattle.listed.specs.Internal.Listed.{plainRow, notedRow, filledRow}
 use Rattle.replace.proofs.EntryLaws.{PlaceAt, listed-places, listed-in-row, listed-full}
 use Rattle.replace.proofs.BuildLaws.{emit-sure}
-use Rattle.replace.proofs.InsideLaws.{SmallPlaces, some-deep, fill-fits}
+use Rattle.replace.proofs.InsideLaws.{SmallPlaces, some-deep, filled-body}
 use Rattle.replace.proofs.SmallLaws.{LeavesBy, listed-small}
 use Rattle.listed.proofs.CallLaws.{call-small, call-long, call-missing, call-list-long, call-no-list, call-read}
 use Rattle.replace.proofs.FillTree.{wordFor, fill-tree}
-use Rattle.replace.proofs.QuantLaws.{Quant as Plain, pred-sort, form-ok, quant-by-tag}
+use Rattle.replace.proofs.QuantLaws.{pred-sort, form-ok}
 use Rattle.replace.proofs.ReadyLaws.{ready-is}
 
 -- what the code writes under a head
@@ -51,10 +53,10 @@ plain-placed sure hd list lm row marks t room r e = rw (ready-is t list lm 0 r, 
 pub same-filled : (sure : Bool) (list lm lm′ row marks : List ℕ) (t : Table) (room : ℕ) → lm ≡ lm′ → filledRow sure list lm row marks t room ≡ filledRow sure list lm′ row marks t room
 same-filled sure list lm lm′ row marks t room e = rw e
 
-pub noted-placed : (hd list lm row marks : List ℕ) (t : Table) (room from : ℕ) → Ready (fillPlan t) list lm → hd ≡ notedHead (getD row 0 0 - 10) (take (t .n) (t .words)) row 8192 → from ≡ bodyStart row (t .n)
-    → placedRow false hd t 0 list lm (drop from row) (drop from marks) room ≡ notedRow list lm row marks t room
+pub noted-placed : (sure : Bool) (hd list lm row marks : List ℕ) (t : Table) (room from op : ℕ) → Ready (fillPlan t) list lm → op ≡ getD row 0 0 - 10 → hd ≡ notedHead op (take (t .n) (t .words)) row 8192 → from ≡ bodyStart row (t .n)
+    → placedRow sure hd t 0 list lm (drop from row) (drop from marks) room ≡ notedRow sure list lm row marks t room
 unfolding notedRow placedRow
-noted-placed hd list lm row marks t room from r e k = rw (ready-is t list lm 0 r, e, k)
+noted-placed sure hd list lm row marks t room from op r o e k = rw (ready-is t list lm 0 r, e, ← o, k)
 
 -- by the first word
 module _ (sure : Bool) (list lm row marks : List ℕ) (t : Table) (room : ℕ) where
@@ -62,7 +64,7 @@ module _ (sure : Bool) (list lm row marks : List ℕ) (t : Table) (room : ℕ) w
   unfolding filledRow
   filled-plain h = rw (lt-ltb (getD row 0 0) 860 h)
 
-  pub filled-noted : 860 ≤ getD row 0 0 → notedRow list lm row marks t room ≡ filledRow sure list lm row marks t room
+  pub filled-noted : 860 ≤ getD row 0 0 → notedRow sure list lm row marks t room ≡ filledRow sure list lm row marks t room
   unfolding filledRow
   filled-noted h = rw (le-ltb (getD row 0 0) 860 h)
 
@@ -71,7 +73,7 @@ module _ (f : Form) (y : Quant 63 f) (t : Table) (list lm : List ℕ) (ps : List
     (placed : (i : ℕ) → i < length ps → PlaceAt (Unit {0}) list lm (getD (t .starts) i 0) (getD (t .ends) i 0) (getD ps i kept)) (all : length ps ≡ length (y .decls))
     (ok : Ok 64 pred f) (short : length (encode f) ≤ 8192)
     (m : List ℕ) (marks : take (length (encode f)) m ≡ mark f 0 0 (replicate (length (encode f)) 0)) (room : ℕ)
-    (sure : Bool) (inside : sure ≡ true → ltb (getD (encode f) 0 0) 860 ≡ true → length (encode (fill (y .op) (y .decls) ps (y .body))) ≤ 8192 → isOne (rowForm pred (encode (fill (y .op) (y .decls) ps (y .body)))) ≡ true) where
+    (sure : Bool) (inside : sure ≡ true → length (encode (fill (y .op) (y .decls) ps (y .body))) ≤ 8192 → isOne (rowForm pred (encode (fill (y .op) (y .decls) ps (y .body)))) ≡ true) where
   row-marks-are : m ≡ marksOf 0 f ++ drop (length (encode f)) m
   row-marks-are = sym (take-append-drop (length (encode f)) m) ∙ ap (λ z. z ++ drop (length (encode f)) m) (marks ∙ only-mark f)
 
@@ -85,37 +87,39 @@ module _ (f : Form) (y : Quant 63 f) (t : Table) (list lm : List ℕ) (ps : List
       ∙ (body-items (y .op) 0 (y .decls) (y .body) from (drop (length (encode f)) m) e ∙ ap (λ z. itemsOf z (y .body)) n) in
       ap (λ z. rewritten (planned (fillPlan t) list lm) (items (drop from (encode f)) (drop from z))) row-marks-are ∙ (rw i (fill-tree t list lm ps words count placed (omega arith) {d = 63} (omega arith) (y .ok)))
 
-  under-head : (hd : List ℕ) (from : ℕ) (b : Bool) → hd ≡ quantHead (y .op) (keptDecls ps (y .decls)) → from ≡ length (headOf (y .op) (y .decls))
-      → (b ≡ true → length (encode (fill (y .op) (y .decls) ps (y .body))) ≤ 8192 → isOne (rowForm pred (encode (fill (y .op) (y .decls) ps (y .body)))) ≡ true)
-      → replaced b Predicate hd (fillPlan t) list lm (drop from (encode f)) (drop from m) room ≡ finish pred room (fill (y .op) (y .decls) ps (y .body))
+  under-head : (hd : List ℕ) (from : ℕ) → hd ≡ quantHead (y .op) (keptDecls ps (y .decls)) → from ≡ length (headOf (y .op) (y .decls))
+      → replaced sure Predicate hd (fillPlan t) list lm (drop from (encode f)) (drop from m) room ≡ finish pred room (fill (y .op) (y .decls) ps (y .body))
   unfolding replaced fill
-  under-head hd from b h k i = rw (body-filled from k, h, ← encode-head (y .op) (keptDecls ps (y .decls)) (subst (fillFor ps) (y .body))) (emit-sure b pred room _ i)
+  under-head hd from h k = rw (body-filled from k, h, ← encode-head (y .op) (keptDecls ps (y .decls)) (subst (fillFor ps) (y .body))) (emit-sure sure pred room _ inside)
 
   pub filled-tree : filledRow sure list lm (encode f) m t room ≡ finish pred room (fill (y .op) (y .decls) ps (y .body))
   unfolding filledRow plainRow notedRow
   filled-tree = go (ltb (getD (encode f) 0 0) 860) refl
     where
-      go : (b : Bool) → ltb (getD (encode f) 0 0) 860 ≡ b → pick b (plainRow sure list lm (encode f) m t room) (notedRow list lm (encode f) m t room) ≡ finish pred room (fill (y .op) (y .decls) ps (y .body))
+      go : (b : Bool) → ltb (getD (encode f) 0 0) 860 ≡ b → pick b (plainRow sure list lm (encode f) m t room) (notedRow sure list lm (encode f) m t room) ≡ finish pred room (fill (y .op) (y .decls) ps (y .body))
       go true q =
-          under-head (headWords (getD (encode f) 0 0) (keptWords (take (t .n) (t .words)) (drop 2 (encode f)))) (2 + t .n) sure
-          (rw words (plain-head y ps all q)) (rw (count ∙ all) (plain-start y q)) (λ s. inside s q)
+          under-head (headWords (getD (encode f) 0 0) (keptWords (take (t .n) (t .words)) (drop 2 (encode f)))) (2 + t .n) (rw words (plain-head y ps all q)) (rw (count ∙ all) (plain-start y q))
       go false q =
-          under-head (notedHead (getD (encode f) 0 0 - 10) (take (t .n) (t .words)) (encode f) 8192) (bodyStart (encode f) (t .n)) false
-          (rw words (noted-row-head y ps all ok short q)) (rw (count ∙ all) (body-start f ok y)) (λ s. absurd (clash cc))
+          under-head (notedHead (getD (encode f) 0 0 - 10) (take (t .n) (t .words)) (encode f) 8192) (bodyStart (encode f) (t .n)) (rw words (noted-row-head y ps all ok short q)) (rw (count ∙ all) (body-start f ok y))
 
--- without annotations the result is a form where the row is shallow enough for the expressions
-fill-plain-fits : (m : ℕ) (f : Form) (d : ℕ) → Ok (suc d) pred f → d + m ≤ 63 → Ok 64 pred f → (y : Quant 63 f) → ltb (getD (encode f) 0 0) 860 ≡ true → (ps : List Place) → length ps ≡ length (y .decls) → SmallPlaces m ps
-    → length (encode (fill (y .op) (y .decls) ps (y .body))) ≤ 8192 → isOne (rowForm pred (encode (fill (y .op) (y .decls) ps (y .body)))) ≡ true
-fill-plain-fits m f d o h ok y w ps all small l = same (quant-by-tag ok (rw (plain-first y w .1) (y .which)))
-  where
-    same : Plain f → isOne (rowForm pred (encode (fill (y .op) (y .decls) ps (y .body)))) ≡ true
-    same z =
-        let i = sym (y .is) ∙ z .is in
-        let t : y .op ≡ z .tag = cc in
-        let n : y .decls ≡ map unnoted (z .decls) = cc in
-        let b : y .body ≡ z .body = cc in
-        let c : length ps ≡ length (z .decls) = all ∙ (ap length n ∙ length-map (z .decls) unnoted) in
-        rw (t, n, b) (fill-fits m f d o h z ps c small (rw (t, n, b) at l))
+-- the result is a form where the row is shallow enough for the expressions
+module _ (m : ℕ) (f : Form) (d : ℕ) (o : Ok (suc d) pred f) (deep : d + m ≤ 63) (ok : Ok 64 pred f) (y : Quant 63 f) (ps : List Place) (all : length ps ≡ length (y .decls)) (small : SmallPlaces m ps) where
+  body-ok : Ok 63 pred (subst (fillFor ps) (y .body))
+  body-ok = go (quant-of o (y .op) (y .decls) (y .body) (y .is))
+    where
+      go : Quant d f → Ok 63 pred (subst (fillFor ps) (y .body))
+      go z =
+          let i = sym (y .is) ∙ z .is in
+          let b : y .body ≡ z .body = cc in
+          let l = y .most in
+          rw b (filled-body m ps (omega arith) small (z .ok) deep)
+
+  fill-fits : length (encode (fill (y .op) (y .decls) ps (y .body))) ≤ 8192 → isOne (rowForm pred (encode (fill (y .op) (y .decls) ps (y .body)))) ≡ true
+  unfolding fill
+  fill-fits l =
+      let k = few-kept ps (y .decls) in
+      let n = y .most in
+      ap isOne (row-encode (decls-ok (y .op) (y .which) (subst (fillFor ps) (y .body)) (keptDecls ps (y .decls)) (good-kept ps (y .decls) (quant-good f ok y)) (omega arith) body-ok) l)
 
 -- the whole call
 abbrev fillGo : ℕ → Sort → Form → List Entry → Outcome
@@ -225,14 +229,14 @@ module _ (list : List ℕ) (t : Table) (work : List ℕ) (n : ℕ) (y : Placing 
       abbrev result : Form
       result = fill (q .op) (q .decls) (map placeOf (y .es)) (q .body)
 
-      within : (k : ℕ) → k ≡ d → Ok k pred (x .form) → ltb (getD (encode (x .form)) 0 0) 860 ≡ true → length (encode result) ≤ 8192 → isOne (rowForm pred (encode result)) ≡ true
-      within zero e o w l = absurd (let h = some-deep o in omega arith)
-      within (suc k) e o w l =
+      within : (k : ℕ) → k ≡ d → Ok k pred (x .form) → length (encode result) ≤ 8192 → isOne (rowForm pred (encode result)) ≡ true
+      within zero e o l = absurd (let h = some-deep o in omega arith)
+      within (suc k) e o l =
           let a = left .most in
-          fill-plain-fits (64 - d) (x .form) k o (omega arith) (form-ok row (take (length row) work) (length row) x) q w (map placeOf (y .es)) ps-count (listed-small Places list (y .es) (y .is) es-few d (rw (y .table) at left) (omega arith)) l
+          fill-fits (64 - d) (x .form) k o (omega arith) (form-ok row (take (length row) work) (length row) x) q (map placeOf (y .es)) ps-count (listed-small Places list (y .es) (y .is) es-few d (rw (y .table) at left) (omega arith)) l
 
-      fill-within : b ≡ true → ltb (getD (encode (x .form)) 0 0) 860 ≡ true → length (encode result) ≤ 8192 → isOne (rowForm pred (encode result)) ≡ true
-      fill-within s w l = within d refl (rw (pred-sort row (x .sort) (x .form) (x .is-found)) at (shallow s)) w l
+      fill-within : b ≡ true → length (encode result) ≤ 8192 → isOne (rowForm pred (encode result)) ≡ true
+      fill-within s l = within d refl (rw (pred-sort row (x .sort) (x .form) (x .is-found)) at (shallow s)) l
 
       fill-built : filledRow b list (drop 8192 work) (encode (x .form)) work (tabled (y .es) 0 emptyTable) room ≡ finish pred room result
       fill-built =

@@ -15,8 +15,9 @@ use form::answer::ListKind;
 use replace::heads::write_head;
 use replace::small::depth_left_by;
 use replace::tables::fill_places;
+use tree::tag::Tag;
 ghost use mathlib.Core.Path.{_≡_};
-ghost use Prim.Native.Nat.{_+_, _≤_};
+ghost use Prim.Native.Nat.{_+_, _-_, _≤_};
 ghost use lib.ListN.{length, getD, take, drop};
 ghost use Rattle.form.specs.Answer.{told, written};
 ghost use Rattle.rules.specs.Fill.{fillOutcome};
@@ -79,9 +80,11 @@ fn write_first_noted(op: u32, words: &[u32], n: usize, row: &[u32], head: &mut [
     write_noted(op, &words[..n], row, head)
 }
 
-// The same with annotations: those of the declarations that are kept stay as they are. Its head may be as long as a row, so the result is
-// checked.
+// The same with annotations: those of the declarations that are kept stay as they are, so the head may be as long as the row. Called from two
+// places, this stays a function of its own when compiled, so that a row without annotations lays out no row for a long head.
 fn fill_noted(
+    op: u32,
+    sure: bool,
     list: &[u32],
     list_marks: &[u32],
     row: &[u32],
@@ -93,13 +96,32 @@ fn fill_noted(
     out: &mut [u32],
 ) -> Answer
     requires { ⌜ Ready (fillPlan (tableOf n (now words) (now starts) (now ends))) (now list) (now «list_marks») ⌝ }
-    requires { ⌜ (2 + n ≤ length (now row)) × (860 ≤ getD (now row) 0 0) ⌝ }
-    ensures { λ r. ⌜ r ≡ told (notedRow (now (list .entry)) (now («list_marks» .entry)) (now (row .entry)) (now (marks .entry)) (tableOf n (now (words .entry)) (now (starts .entry)) (now (ends .entry))) (length (now (out .entry)))) ⌝ }
-    ensures { λ _. ⌜ now (out .exit) ≡ written (notedRow (now (list .entry)) (now («list_marks» .entry)) (now (row .entry)) (now (marks .entry)) (tableOf n (now (words .entry)) (now (starts .entry)) (now (ends .entry))) (length (now (out .entry)))) (now (out .entry)) ⌝ }
+    requires { ⌜ (2 + n ≤ length (now row)) × (length (now row) ≤ 8192) × (op ≡ getD (now row) 0 0 - 10) ⌝ }
+    ensures { λ r. ⌜ r ≡ told (notedRow sure (now (list .entry)) (now («list_marks» .entry)) (now (row .entry)) (now (marks .entry)) (tableOf n (now (words .entry)) (now (starts .entry)) (now (ends .entry))) (length (now (out .entry)))) ⌝ }
+    ensures { λ _. ⌜ now (out .exit) ≡ written (notedRow sure (now (list .entry)) (now («list_marks» .entry)) (now (row .entry)) (now (marks .entry)) (tableOf n (now (words .entry)) (now (starts .entry)) (now (ends .entry))) (length (now (out .entry)))) (now (out .entry)) ⌝ }
 {
-    let mut head = [0u32; 8192];
-    let h = write_first_noted(row[0] - 10, words, n, row, &mut head);
     let from = body_start(row, n as u32);
+    if row.len() <= 256 {
+        let mut short = [0u32; 256];
+        let h = write_first_noted(op, words, n, row, &mut short);
+        return fill_places(
+            &short[..h],
+            n,
+            words,
+            starts,
+            ends,
+            0,
+            sure,
+            list,
+            list_marks,
+            row,
+            marks,
+            from,
+            out,
+        );
+    }
+    let mut head = [0u32; 8192];
+    let h = write_first_noted(op, words, n, row, &mut head);
     fill_places(
         &head[..h],
         n,
@@ -107,7 +129,7 @@ fn fill_noted(
         starts,
         ends,
         0,
-        false,
+        sure,
         list,
         list_marks,
         row,
@@ -131,7 +153,7 @@ fn fill_with(
     out: &mut [u32],
 ) -> Answer
     requires { ⌜ Ready (fillPlan (tableOf n (now words) (now starts) (now ends))) (now list) (now «list_marks») ⌝ }
-    requires { ⌜ 2 + n ≤ length (now row) ⌝ }
+    requires { ⌜ (2 + n ≤ length (now row)) × (length (now row) ≤ 8192) ⌝ }
     ensures { λ r. ⌜ r ≡ told (filledRow sure (now (list .entry)) (now («list_marks» .entry)) (now (row .entry)) (now (marks .entry)) (tableOf n (now (words .entry)) (now (starts .entry)) (now (ends .entry))) (length (now (out .entry)))) ⌝ }
     ensures { λ _. ⌜ now (out .exit) ≡ written (filledRow sure (now (list .entry)) (now («list_marks» .entry)) (now (row .entry)) (now (marks .entry)) (tableOf n (now (words .entry)) (now (starts .entry)) (now (ends .entry))) (length (now (out .entry)))) (now (out .entry)) ⌝ }
 {
@@ -149,7 +171,34 @@ fn fill_with(
             out,
         );
     }
-    fill_noted(list, list_marks, row, marks, n, words, starts, ends, out)
+    if row[0] == Tag::NOTED_EXISTS {
+        return fill_noted(
+            Tag::EXISTS,
+            sure,
+            list,
+            list_marks,
+            row,
+            marks,
+            n,
+            words,
+            starts,
+            ends,
+            out,
+        );
+    }
+    fill_noted(
+        row[0] - 10,
+        sure,
+        list,
+        list_marks,
+        row,
+        marks,
+        n,
+        words,
+        starts,
+        ends,
+        out,
+    )
 }
 
 // Fill where the form's marks stand at the start of the work row, and the list's from word 8,192 on.
@@ -166,7 +215,7 @@ fn fill_marked(
 ) -> Answer
     requires { ⌜ 8192 ≤ length (now work) ⌝ }
     requires { ⌜ Ready (fillPlan (tableOf n (now words) (now starts) (now ends))) (now list) (drop 8192 (now work)) ⌝ }
-    requires { ⌜ 2 + n ≤ length (now row) ⌝ }
+    requires { ⌜ (2 + n ≤ length (now row)) × (length (now row) ≤ 8192) ⌝ }
     ensures { λ r. ⌜ r ≡ told (filledRow sure (now (list .entry)) (drop 8192 (now (work .entry))) (now (row .entry)) (now (work .entry)) (tableOf n (now (words .entry)) (now (starts .entry)) (now (ends .entry))) (length (now (out .entry)))) ⌝ }
     ensures { λ _. ⌜ now (out .exit) ≡ written (filledRow sure (now (list .entry)) (drop 8192 (now (work .entry))) (now (row .entry)) (now (work .entry)) (tableOf n (now (words .entry)) (now (starts .entry)) (now (ends .entry))) (length (now (out .entry)))) (now (out .entry)) ⌝ }
 {

@@ -16,8 +16,8 @@ use Rattle.reader.specs.Internal.Reads.{mark}
 use Rattle.reader.specs.declared.lists.Table.{Table}
 use Rattle.form.proofs.DecodeLaws.{clash, Ok, OkAll, ok-none, ok-more, decodeAll-encode, decode-sound}
 use Rattle.rules.specs.Walk.{Binding, inside, outside, binding, Outer, named, dangling, walkIndex, walk, walkDecls, walkAll, up, lift, collect, each}
-use Rattle.rules.proofs.WalkLaws.{eachAll, walk-names, binding-add, self, always, each-always, each-all, walk-agree}
-use Rattle.rules.proofs.TreeLaws.{walk-self, each-walk}
+use Rattle.rules.proofs.WalkLaws.{eachAll, walk-names, binding-add, each-all}
+use Rattle.rules.proofs.TreeLaws.{lift-zero, each-walk}
 use Rattle.shift.proofs.RowLaws.{zeros, marksOf, marksDecls, marksAll, marks-length, mark-front}
 use Rattle.replace.proofs.FillTree.{ok-flat}
 use Rattle.rules.proofs.OkLaws.{ok-deep}
@@ -257,13 +257,6 @@ mutual
   marks-liftAll : (n k u : ℕ) (fs : Forms) → marksAll u (walkAll (up n) k fs) ≡ marksAll u fs
   marks-liftAll n k u none = refl
   marks-liftAll n k u (more f fs) = rw (marks-lift n k u f, marks-liftAll n k u fs)
-
-lift-zero : (f : Form) → lift 0 f ≡ f
-lift-zero f = walk-agree always (up 0) self (λ k x h. same k x) 0 f (each-always 0 f) ∙ walk-self 0 f
-  where
-    same : (k : ℕ) (x : Outer) → up 0 k x ≡ self k x
-    same k (named m) = refl
-    same k (dangling j) = ap (λ z. leaf (bound z)) (omega arith)
 
 flat-up : (n k : ℕ) (x : Outer) → leb k 4096 ≡ true → each (λ i y. leb i 4096) k (up n k x) ≡ true
 unfolding collect

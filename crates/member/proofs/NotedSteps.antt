@@ -21,6 +21,7 @@ use Rattle.replace.proofs.BuildLaws.{rest-part}
 use Rattle.replace.proofs.ReadyLaws.{ready-is}
 use Rattle.decls.specs.Internal.Noted.{declsEnd, notedHead, flaggedParts}
 use Rattle.decls.specs.Internal.Used.{clearedIn}
+use Rattle.decls.proofs.HeadLaws.{room-enough}
 use Rattle.rounds.specs.Internal.Round.{joinsNames, joinsNotes, headNotes, roundHead, roundFrom, canJoin, joinFits, roundFits}
 use Rattle.member.specs.Internal.Member.{withPlace, frontOf}
 use Rattle.member.specs.Internal.Noted.{noZero, frontAlone, notesEnd, notesClear, notesJoin, frontFilled, filledNotes, roundRow}
@@ -121,6 +122,17 @@ module _ (decls : List ℕ) (joins clear : Bool) (notes : List ℕ) (t : Table) 
       let x : hd ≡ roundHead 852 (take (t .n) (t .words)) decls joins clear notes body = a ∙ rw h in
       let y : from ≡ roundFrom 852 joins clear body = b ∙ rw h in
       rw (e, x, y)
+
+-- where nothing is joined
+module _ (decls : List ℕ) (t : Table) (row lm body marks : List ℕ) (room : ℕ) where
+  pub round-apart : length decls ≤ 256 → (hd : List ℕ) → hd ≡ notedHead 852 (take (t .n) (t .words)) decls 256
+      → placedRow false hd t 0 row lm (drop 0 body) (drop 0 marks) room ≡ roundRow decls false false [] t row lm body marks room
+  unfolding roundRow roundFits roundHead roundFrom joinsNames joinsNotes
+  round-apart h hd e = rw (e, room-enough 852 (take (t .n) (t .words)) decls 256 8192 h (omega arith))
+
+  pub round-same : (joins clear : Bool) (notes : List ℕ) → joins ≡ false → roundRow decls false false [] t row lm body marks room ≡ roundRow decls joins clear notes t row lm body marks room
+  unfolding roundRow roundFits roundHead roundFrom joinsNames joinsNotes
+  round-same joins clear notes e = rw e
 
 -- where the annotations alone have too many words, there is no head
 notes-long : (keep ds notes body : List ℕ) → getD body 0 0 ≡ 862 → 8192 < length notes → roundFits 852 keep ds true true notes body ≡ false

@@ -23,7 +23,8 @@ use Rattle.rules.specs.Prune.{isNot}
 use Rattle.rules.specs.Partial.{lowerPlace, onNote}
 use Rattle.rules.proofs.WalkLaws.{eachDecls}
 use Rattle.rules.proofs.JoinLaws.{lift-reaches, lower-lift, unusedNotes}
-use Rattle.rules.proofs.JoinFill.{lift-zero, fits}
+use Rattle.rules.proofs.TreeLaws.{lift-zero}
+use Rattle.rules.proofs.JoinFill.{fits}
 use Rattle.shift.specs.Internal.Items.{items, wordsOf, rewritten}
 use Rattle.shift.specs.declared.items.Item.the-variants.{Plain}
 use Rattle.shift.proofs.RowLaws.{itemsOf, itemsDecls, marksDecls, items-encodeDecls, rewritten-append}

@@ -19,7 +19,8 @@ use Rattle.form.proofs.DecodeLaws.{clash, only-name, no-flagged, Ok, ok-free, o
 use Rattle.rules.specs.Fill.{Decl, unnoted, nameOf, listed, unlisted, anyNoted}
 use Rattle.rules.proofs.WalkLaws.{and-left, and-right}
 use Rattle.rules.proofs.OkLaws.{ok-deep}
-use Rattle.shift.proofs.AroundLaws.{names-plain, none-noted, unlisted-listed, noted-listed, listed-length}
+use Rattle.rules.proofs.JoinLaws.{names-plain}
+use Rattle.shift.proofs.AroundLaws.{none-noted, unlisted-listed, noted-listed, listed-length}
 use Rattle.replace.specs.Internal.Pieces.{areNames}
 use Rattle.replace.proofs.QuantLaws.{only-word, names-count}
 use Rattle.decls.specs.Internal.Noted.{declsEnd}

@@ -4,6 +4,7 @@ use crate::member::Comprehension;
 use crate::shares::with_place;
 use decls::ends::decls_end;
 use decls::heads::flag_names;
+use decls::heads::write_noted;
 use decls::used::clear_used;
 use form::answer::Answer;
 use reader::lists::Table;
@@ -12,7 +13,7 @@ use rounds::rounds::round_head;
 use tree::tag::Tag;
 ghost use mathlib.Core.Path.{_≡_};
 ghost use mathlib.Core.Bool.{true, false};
-ghost use mathlib.Core.List.{List};
+ghost use mathlib.Core.List.{List, []};
 ghost use Prim.Native.Nat.{_+_, _≤_, _<_};
 ghost use lib.ListN.{length, getD, drop, replicate};
 ghost use Rattle.tree.specs.Tag.{pred};
@@ -137,6 +138,28 @@ fn fill_front(table: Table, j: usize) -> Table
     t
 }
 
+// The declarations that are kept round the body, with the places of the table filled by parts of the row: nothing is joined, and the head is short.
+fn fill_apart(
+    decls: &[u32],
+    row: &[u32],
+    row_marks: &[u32],
+    table: Table,
+    body: &[u32],
+    marks: &[u32],
+    out: &mut [u32],
+) -> Answer
+    requires { ⌜ (table .n ≤ 32) × (length (table .words) ≡ 32) × (length (now decls) ≤ 256) ⌝ }
+    ensures { λ r. ⌜ r ≡ told (roundRow (now (decls .entry)) false false [] table (now (row .entry)) (now («row_marks» .entry)) (now (body .entry)) (now (marks .entry)) (length (now (out .entry)))) ⌝ }
+    ensures { λ _. ⌜ now (out .exit) ≡ written (roundRow (now (decls .entry)) false false [] table (now (row .entry)) (now («row_marks» .entry)) (now (body .entry)) (now (marks .entry)) (length (now (out .entry)))) (now (out .entry)) ⌝ }
+{
+    let n = table.n;
+    let words = table.words;
+    let mut head = [0u32; 256];
+    let h = write_noted(Tag::EXISTS, &words[..n], decls, &mut head);
+    let hd = &head[..h];
+    fill_from(false, hd, row, row_marks, table, body, marks, 0, out)
+}
+
 // The head of the declarations that are kept, joined with the body's own quantifier where that is said, round the rest of the body with the
 // places of the table filled by parts of the row.
 fn fill_round(
@@ -155,6 +178,11 @@ fn fill_round(
     ensures { λ r. ⌜ r ≡ told (roundRow (now (decls .entry)) joins clear (now (notes .entry)) table (now (row .entry)) (now («row_marks» .entry)) (now (body .entry)) (now (marks .entry)) (length (now (out .entry)))) ⌝ }
     ensures { λ _. ⌜ now (out .exit) ≡ written (roundRow (now (decls .entry)) joins clear (now (notes .entry)) table (now (row .entry)) (now («row_marks» .entry)) (now (body .entry)) (now (marks .entry)) (length (now (out .entry)))) (now (out .entry)) ⌝ }
 {
+    if !joins {
+        if decls.len() <= 256 {
+            return fill_apart(decls, row, row_marks, table, body, marks, out);
+        }
+    }
     let n = table.n;
     let words = table.words;
     let mut head = [0u32; 8192];

@@ -1,6 +1,6 @@
 -- One declaration replaced by an expression, on words: the body, the annotations in front of it, and the row under a head. Assumes nothing.
 use mathlib.Core.Path.{_≡_, refl, ap, sym, _∙_}
-use mathlib.Core.Bool.{true, false}
+use mathlib.Core.Bool.{Bool, true, false}
 use mathlib.Core.List.{List, [], _∷_, _++_, append-nil, map}
 use mathlib.Core.Option.{none as absent, some}
 use Prim.Native.Nat.{ℕ, zero, suc, _+_, _-_, _*_, _≤_, _<_}
@@ -9,9 +9,9 @@ use native.Mathlib.Omega.{arith}
 use lib.ListN.{length, getD, take, drop, set, replicate, length-replicate, getD-replicate}
 use Rattle.tree.specs.Form.{free, Form, leaf, encode, encodeDecls}
 use Rattle.tree.specs.Tag.{expr, pred}
-use Rattle.form.specs.Decode.{got, decode}
+use Rattle.form.specs.Decode.{got, decode, rowForm}
 use Rattle.form.specs.Lists.{Place, kept, filled}
-use Rattle.form.specs.Answer.{finish}
+use Rattle.form.specs.Answer.{isOne, finish}
 use Rattle.form.proofs.DecodeLaws.{clash, Ok, ok-free}
 use Rattle.reader.specs.Internal.Reads.{mark}
 use Rattle.rules.specs.Walk.{walk, put, subst, collect, each}
@@ -67,10 +67,14 @@ module _ (e : Form) (part pm : List ℕ) (is-part : decode 63 expr part ≡ got 
         rw (map-replicate (lowPlace (lower (suc i))) i kept) at (fill-tree-lower (oneTable (suc i) (length part)) part pm ps w (ap suc (sym (length-replicate i kept))) placed (suc i) higher few h deep ok)
 
     -- the row under a head
-    pub under-is : (hd body marks : List ℕ) (start room : ℕ) (f : Form) → hd ++ plan (drop start body) (drop start marks) ≡ encode f → underRow hd (suc i) part pm body marks start room ≡ finish pred room f
+    pub under-sure : (sure : Bool) (hd body marks : List ℕ) (start room : ℕ) (f : Form) → hd ++ plan (drop start body) (drop start marks) ≡ encode f
+        → (sure ≡ true → length (encode f) ≤ 8192 → isOne (rowForm pred (encode f)) ≡ true) → underRow sure hd (suc i) part pm body marks start room ≡ finish pred room f
     unfolding placedRow replaced
-    under-is hd body marks start room f w =
-        rw (ready-is (oneTable (suc i) (length part)) part pm (suc i) (one-ready (suc i) few part pm (k .enough)), w) (emit-sure false pred room f (λ q. absurd (clash cc)))
+    under-sure sure hd body marks start room f w inside =
+        rw (ready-is (oneTable (suc i) (length part)) part pm (suc i) (one-ready (suc i) few part pm (k .enough)), w) (emit-sure sure pred room f inside)
+
+    pub under-is : (hd body marks : List ℕ) (start room : ℕ) (f : Form) → hd ++ plan (drop start body) (drop start marks) ≡ encode f → underRow false hd (suc i) part pm body marks start room ≡ finish pred room f
+    under-is hd body marks start room f w = under-sure false hd body marks start room f w (λ q. absurd (clash cc))
 
     -- the body as a whole, and from where the body of its own quantifier starts
     module _ (g : Form) (ok : Ok 63 pred g) (body marks : List ℕ) (words : body ≡ encode g) (marked : marks ≡ mark g 0 (suc i) (replicate (length body) 0)) where

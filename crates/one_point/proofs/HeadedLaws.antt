@@ -12,7 +12,7 @@ use Rattle.tree.specs.Form.{pick, encodeDecls}
 use Rattle.form.proofs.DecodeLaws.{clash}
 use Rattle.rules.specs.Fill.{Decl, unnoted, nameOf, unlisted, anyNoted}
 use Rattle.rules.proofs.WalkLaws.{and-left, and-right}
-use Rattle.shift.proofs.AroundLaws.{names-plain}
+use Rattle.rules.proofs.JoinLaws.{names-plain}
 use Rattle.shift.specs.Internal.Items.{store}
 use Rattle.replace.specs.Internal.Pieces.{areNames}
 use Rattle.replace.proofs.BuildLaws.{rest-part}

@@ -98,7 +98,7 @@ module _ (m : ℕ) (t : ℕ) (which : (eqb t 851 || eqb t 852) ≡ true) (ns : L
   point-fits l s = ap isOne (row-encode (point-inside l) s)
 
 -- one place filled by a small expression
-kept-small : (m n : ℕ) → SmallPlaces m (replicate n kept)
+pub kept-small : (m n : ℕ) → SmallPlaces m (replicate n kept)
 kept-small m zero = tt
 kept-small m (suc n) = (tt, kept-small m n)
 

@@ -1,6 +1,6 @@
 -- The head of declarations joined with the body's own annotated ones, and the row under it. Assumes nothing.
 use mathlib.Core.Path.{_≡_, refl, ap, sym, _∙_}
-use mathlib.Core.Bool.{Bool, true, false, _||_, _&&_}
+use mathlib.Core.Bool.{Bool, true, false, _||_, _&&_, or-true}
 use mathlib.Core.List.{List, [], _∷_, _++_, append-nil, map}
 use Prim.Native.Nat.{ℕ, suc, _+_, _-_, _≤_, _<_}
 use native.Mathlib.Omega.{arith}
@@ -52,7 +52,8 @@ use Rattle.one_point.proofs.PlaceLaws.{whole-pred, whole-expr}
 use Rattle.one_point.proofs.RaiseLaws.{raise-marksDecls, low-marksDecls}
 use Rattle.one_point.proofs.PointTree.{pointPlaces, joined-is, apart-is, fits-last, fits-front, frontUnused, unused-is, joins-apart, joins-unused, joins-used, deeper-used, deeper-unused}
 use Rattle.one_point.proofs.FilledWords.{part-there, under-is, inner-filled, notes-in, free-there, free-ok, free-above}
-use Rattle.one_point.proofs.NotedRows.{any-append, decls-append, frontDecls, front-at, front-words, front-good, front-zeros, front-kept, head-some, last-outcome, kept-last}
+use Rattle.one_point.proofs.KeptRows.{any-append, decls-append}
+use Rattle.one_point.proofs.NotedRows.{frontDecls, front-at, front-words, front-good, front-zeros, front-kept, head-some, last-outcome, kept-last}
 
 -- a full table is ready
 module _ (n : ℕ) (few : n ≤ 32) (list lm : List ℕ) (marked : length list ≤ length lm) where
@@ -172,7 +173,7 @@ module _ (head : List ℕ) (k : ℕ) (ws part pm body marks : List ℕ) (start r
   unfolding joinedRow
   row-none e = rw (lt-leb (length (joinedHead head k ws)) 8192 (w .none e))
 
-  pub row-some : (r ≡ 0 → ⊥) → length l ≡ 8192 → underRow (take r l) 1 part pm body marks start room ≡ joinedRow head k ws part pm body marks start room
+  pub row-some : (r ≡ 0 → ⊥) → length l ≡ 8192 → underRow false (take r l) 1 part pm body marks start room ≡ joinedRow head k ws part pm body marks start room
   unfolding joinedRow
   row-some n long =
       let q = w .some n in
@@ -385,13 +386,9 @@ module _ (head row part pm body marks : List ℕ) (x : Inside head row part pm b
             let end : finish pred room made ≡ placedOutcome op decls 0 part body room = ap (finish pred room) (sym tree) ∙ sym (last-outcome head row part pm body marks x room) in
             go (leb (length (joinedHead head (getD body 1 0) ws)) 8192) refl (under-is by part pm (h .placing .is-part) (h .marking) 0 (omega arith) up (joinedHead head (getD body 1 0) ws) body marks s room made words ∙ end) made long end
           where
-            or-true : (b : Bool) → (b || true) ≡ true
-            or-true true = refl
-            or-true false = refl
-
-            go : (b : Bool) → leb (length (joinedHead head (getD body 1 0) ws)) 8192 ≡ b → underRow (joinedHead head (getD body 1 0) ws) 1 part pm body marks s room ≡ placedOutcome op decls 0 part body room → (made : Form)
+            go : (b : Bool) → leb (length (joinedHead head (getD body 1 0) ws)) 8192 ≡ b → underRow false (joinedHead head (getD body 1 0) ws) 1 part pm body marks s room ≡ placedOutcome op decls 0 part body room → (made : Form)
                 → length (encode made) ≡ length (joinedHead head (getD body 1 0) ws) + length (encode inBody) → finish pred room made ≡ placedOutcome op decls 0 part body room
-                → pick b (underRow (joinedHead head (getD body 1 0) ws) 1 part pm body marks s room) (refusal 7) ≡ placedOutcome op decls 0 part body room
+                → pick b (underRow false (joinedHead head (getD body 1 0) ws) 1 part pm body marks s room) (refusal 7) ≡ placedOutcome op decls 0 part body room
             go true q u made long end = u
             go false q u made long end = let m = leb-false (length (joinedHead head (getD body 1 0) ws)) 8192 q in sym (long-finish room made (omega arith)) ∙ end
 
@@ -402,7 +399,7 @@ module _ (head row part pm body marks : List ℕ) (x : Inside head row part pm b
           frontly : take j decls ≡ frontDecls head
           frontly = let c = count-is in rw c
 
-          pub how-apart : how ≡ Apart → (room : ℕ) → keptRow head row (getD head 1 0 - 1) part pm body marks room ≡ placedOutcome op decls 0 part body room
+          pub how-apart : how ≡ Apart → (room : ℕ) → keptRow false head row (getD head 1 0 - 1) part pm body marks room ≡ placedOutcome op decls 0 part body room
           how-apart e room =
               let t = test-is by ∙ joins-apart used j (above j by) (sym found-tree ∙ e) in
               kept-last head row part pm body marks x

@@ -27,6 +27,8 @@ pub mod OutputLaws
 pub mod InsidePoint
 pub mod PointTree
 pub mod FilledWords
+pub mod KeptRows
 pub mod NotedRows
 pub mod JoinedRows
-pub mod NotedPoint
+pub mod RestLaws
+pub mod HeadLaws

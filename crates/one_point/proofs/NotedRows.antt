@@ -1,173 +1,46 @@
--- One declaration of a head replaced by an expression: the rows that are written are the definition's. Assumes nothing.
+-- The last declaration of a head replaced by an expression, and those before it joined with the names that the body declares: the row that is
+-- written is the definition's. Assumes nothing.
 use mathlib.Core.Path.{_≡_, refl, ap, sym, _∙_}
-use mathlib.Core.Bool.{Bool, true, false, _||_, _&&_}
-use mathlib.Core.List.{List, [], _∷_, _++_, append-nil, append-assoc, map, map-append}
-use mathlib.Core.Option.{none as absent, some}
+use mathlib.Core.Bool.{Bool, true, false, _||_, _&&_, or-false}
+use mathlib.Core.List.{List, [], _∷_, _++_, append-assoc, map, map-append}
 use Prim.Native.Nat.{ℕ, zero, suc, _+_, _-_, _*_, _≤_, _<_}
 use native.Mathlib.Omega.{arith}
 use borrow.Author.Tests.{eq-eqb, ne-eqb, lt-ltb, le-ltb, le-leb}
 use lib.Dec.{eqb, ltb, leb}
 use lib.ListN.{length, getD, take, drop, set, replicate, length-append, length-map, length-set, length-replicate, length-drop, take-append-drop}
 use lib.Seq.{take-at, length-take-le}
-use Rattle.tree.specs.Form.{Form, pick, between, encode, encodeDecls}
-use Rattle.tree.specs.Tag.{pred, expr}
-use Rattle.form.specs.Lists.{kept, filled}
+use Rattle.tree.specs.Form.{Form, pick, encode, encodeDecls}
+use Rattle.tree.specs.Tag.{pred}
+use Rattle.form.specs.Lists.{kept}
 use Rattle.form.specs.Answer.{finish}
-use Rattle.form.proofs.DecodeLaws.{clash, Ok, decode-sound}
+use Rattle.form.proofs.DecodeLaws.{clash, Ok}
 use Rattle.form.proofs.HeadLaws.{here, gone}
 use Rattle.rules.specs.Walk.{walk, put, subst, collect}
 use Rattle.rules.specs.Fill.{Decl, unnoted, nameOf, unlisted, anyNoted, around, quantify, keptDecls, fillFor}
 use Rattle.rules.specs.Prune.{isNot}
 use Rattle.rules.specs.Replacement.{above}
 use Rattle.reader.specs.Internal.Reads.{mark}
-use Rattle.rules.specs.Partial.{noPlaces, setPlace}
-use Rattle.rules.proofs.WalkLaws.{eachDecls, and-left, and-right}
-use Rattle.rules.proofs.JoinLaws.{bare-decls, unusedNotes}
+use Rattle.rules.proofs.WalkLaws.{eachDecls}
+use Rattle.rules.proofs.JoinLaws.{names-plain, bare-decls, unusedNotes}
 use Rattle.rules.proofs.JoinFill.{deeper, fits}
 use Rattle.shift.specs.Internal.Items.{items, rewritten, store}
 use Rattle.shift.proofs.ItemLaws.{store-front}
-use Rattle.shift.proofs.AroundLaws.{headOf, encode-around, Quant, first-plain, quant-first, quant-second, names-plain, none-noted}
-use Rattle.replace.specs.Internal.Pieces.{areNames, planned, downPlan}
+use Rattle.shift.proofs.AroundLaws.{headOf, encode-around, Quant, first-plain, quant-first, quant-second, none-noted}
+use Rattle.replace.specs.Internal.Pieces.{planned, downPlan}
 use Rattle.replace.proofs.FillTree.{wordFor}
 use Rattle.replace.proofs.PlainLaws.{plain-notes}
 use Rattle.decls.specs.Internal.Noted.{notedHead, namesFit}
 use Rattle.decls.proofs.DeclLaws.{GoodDecls}
 use Rattle.decls.proofs.CountLaws.{op-range}
 use Rattle.decls.proofs.HeadLaws.{quantHead, encode-head, noted-head, flags-length, names-fit}
-use Rattle.one_point.specs.Internal.Reduce.{operatorIn, declsIn, AreNotes, Headed, oneTable, placedForm, placedOutcome, targetOf, Putting}
+use Rattle.one_point.specs.Internal.Reduce.{operatorIn, declsIn, Headed, oneTable, placedForm, placedOutcome, targetOf, Putting}
 use Rattle.one_point.specs.Internal.Noted.{Flags, underRow, keptRow, withNames, namesEnd, Inside, allOnes}
 use Rattle.one_point.proofs.HeadedLaws.{head-count, store-long}
 use Rattle.one_point.proofs.PartialLaws.{zeros-front}
 use Rattle.one_point.proofs.PlaceLaws.{whole-pred}
-use Rattle.one_point.proofs.PointTree.{pointPlaces, point-words, point-kept, zero-words, kept-front, keptForm, kept-stays, kept-alone, kept-first, joined-is}
-use Rattle.one_point.proofs.FilledWords.{under-is, body-filled, inner-filled}
-
--- the declarations of a head are well formed
-pub good-of : (ds : List Decl) → areNames (map nameOf ds) ≡ true → AreNotes ds → GoodDecls ds
-good-of [] n w = tt
-good-of ((m, absent) ∷ ds) n w = (and-left (between 0 65535 m) (areNames (map nameOf ds)) n, tt, good-of ds (and-right (between 0 65535 m) (areNames (map nameOf ds)) n) (w .1))
-good-of ((m, some f) ∷ ds) n w =
-    (and-left (between 0 65535 m) (areNames (map nameOf ds)) n, decode-sound 63 expr (encode f) f [] (w .0) .1, good-of ds (and-right (between 0 65535 m) (areNames (map nameOf ds)) n) (w .1))
-
-pub good-take : (j : ℕ) (ds : List Decl) → GoodDecls ds → GoodDecls (take j ds)
-good-take zero ds g = tt
-good-take (suc j) [] g = tt
-good-take (suc j) (d ∷ ds) g = (g .0, g .1, good-take j ds (g .2))
-
-pub decls-append : (ds es : List Decl) → encodeDecls (unlisted (ds ++ es)) ≡ encodeDecls (unlisted ds) ++ encodeDecls (unlisted es)
-unfolding encode
-decls-append [] es = refl
-decls-append ((m, absent) ∷ ds) es = ap (λ z. m ∷ 0 ∷ z) (decls-append ds es)
-decls-append ((m, some f) ∷ ds) es = ap (λ z. m ∷ 1 ∷ z) (rw (decls-append ds es, append-assoc (encode f)))
-
-pub decls-parts : (j : ℕ) (ds : List Decl) → encodeDecls (unlisted ds) ≡ encodeDecls (unlisted (take j ds)) ++ encodeDecls (unlisted (drop j ds))
-decls-parts j ds = ap (λ z. encodeDecls (unlisted z)) (sym (take-append-drop j ds)) ∙ decls-append (take j ds) (drop j ds)
-
-pub any-append : (ds es : List Decl) → anyNoted (ds ++ es) ≡ (anyNoted ds || anyNoted es)
-any-append [] es = refl
-any-append ((m, absent) ∷ ds) es = any-append ds es
-any-append ((m, some f) ∷ ds) es = refl
-
--- how the code makes the kept row
-pub kept-under : (head row : List ℕ) (p : ℕ) (part pm body marks : List ℕ) (room : ℕ) (t : ℕ) (hd : List ℕ) → t ≡ operatorIn head → hd ≡ notedHead t (take (getD head 1 0) (set (replicate 32 0) p 1)) row 8192
-    → underRow hd (getD head 1 0 - p) part pm body marks 0 room ≡ keptRow head row p part pm body marks room
-unfolding keptRow
-kept-under head row p part pm body marks room t hd e q = rw (q, e)
-
--- how many places there are
-places-long : (n i : ℕ) (e : Form) → length (setPlace n i e (noPlaces n)) ≡ n
-places-long n i e = length-set (noPlaces n) (n - suc i) (filled e) ∙ length-replicate n kept
-
--- what is put for a place
-module _ (head row : List ℕ) (p : ℕ) (part pm body marks : List ℕ) (h : Putting head p part pm body marks) where
-  abbrev op : ℕ
-  op = operatorIn head
-
-  abbrev decls : List Decl
-  decls = declsIn head
-
-  abbrev index : ℕ
-  index = h .index
-
-  pub put-count : getD head 1 0 ≡ length decls
-  put-count = head-count head (h .placing .heading)
-
-  place-at : p ≡ length decls - suc index
-  place-at = let q = h .place in omega arith
-
-  pub put-low : p < getD head 1 0
-  put-low = let q = h .place in let c = put-count in omega arith
-
-  index-low : index < length decls
-  index-low = let q = h .place in omega arith
-
-  rest-ok : (body ≡ encode (h .placing .form)) × Ok 63 pred (h .placing .form)
-  rest-ok = whole-pred body (h .placing .form) 63 (h .placing .is-rest)
-
-  outcome-is : (room : ℕ) → placedOutcome op decls (targetOf head p) part body room ≡ finish pred room (placedForm op decls index (h .placing .by) (h .placing .form))
-  unfolding placedOutcome
-  outcome-is room =
-      let q = h .place in
-      let c = put-count in
-      let t : targetOf head p ≡ index = omega arith in
-      rw (h .placing .is-part, h .placing .is-rest, t)
-
-  -- the others are kept
-  module _ (f : Flags head row) where
-    kept-head : notedHead op (take (getD head 1 0) (set (replicate 32 0) p 1)) row 8192 ≡ quantHead op (take (length decls - suc index) decls ++ drop (suc (length decls - suc index)) decls)
-    kept-head =
-        let ps = setPlace (length decls) index (h .placing .by) (noPlaces (length decls)) in
-        let few = h .placing .heading .few in
-        let w : map wordFor ps ≡ take (getD head 1 0) (set (replicate 32 0) p 1) = point-words decls index (h .placing .by) index-low few
-        ∙ (ap (λ z. take z (set (replicate 32 0) (length decls - suc index) 1)) (sym put-count) ∙ ap (λ z. take (getD head 1 0) (set (replicate 32 0) z 1)) (sym place-at)) in
-        let l : length ps ≡ length decls = places-long (length decls) index (h .placing .by) in
-        rw (← w, ← point-kept decls index (h .placing .by) index-low)
-        (noted-head ps decls row [] 8192 l (good-of decls (h .placing .heading .names) (h .placing .heading .notes)) (f .is ∙ sym (append-nil (encodeDecls (unlisted decls)))) few (f .short) (f .short) op (h .placing .heading .which))
-
-    kept-row : placedForm op decls index (h .placing .by) (h .placing .form) ≡ keptForm op decls index (h .placing .by) (h .placing .form) index-low → (room : ℕ)
-        → keptRow head row p part pm body marks room ≡ placedOutcome op decls (targetOf head p) part body room
-    unfolding keptRow
-    kept-row e room =
-        let c = put-count in
-        let q = place-at in
-        let s = index-low in
-        let few = h .placing .heading .few in
-        let m : getD head 1 0 - p ≡ suc index = omega arith in
-        let o = rest-ok in
-        let words : quantHead op (take (length decls - suc index) decls ++ drop (suc (length decls - suc index)) decls) ++ rewritten (planned (downPlan (oneTable (suc index) (length part)) (suc index)) part pm) (items (drop 0 body) (drop 0 marks))
-        ≡ encode (keptForm op decls index (h .placing .by) (h .placing .form) index-low)
-        = rw (body-filled (h .placing .by) part pm (h .placing .is-part) (h .marking) index (omega arith) (h .placing .up) (h .placing .form) (o .1) body marks (o .0) (h .marked))
-        (sym (encode-head op (take (length decls - suc index) decls ++ drop (suc (length decls - suc index)) decls) (subst (fillFor (pointPlaces index (h .placing .by))) (h .placing .form)))) in
-        rw (kept-head, m) (under-is (h .placing .by) part pm (h .placing .is-part) (h .marking) index (omega arith) (h .placing .up) _ body marks 0 room (keptForm op decls index (h .placing .by) (h .placing .form) index-low) words)
-        ∙ (ap (finish pred room) (sym e) ∙ sym (outcome-is room))
-
-    -- where something stays behind it, or it is alone
-    pub row-stays : (p + 1 ≡ getD head 1 0 → ⊥) → (room : ℕ) → keptRow head row p part pm body marks room ≡ placedOutcome op decls (targetOf head p) part body room
-    row-stays n room = kept-row (kept-stays op decls index (h .placing .by) (h .placing .form) index-low (h .placing .heading .which) (some-index index refl)) room
-      where
-        some-index : (i : ℕ) → index ≡ i → 0 < index
-        some-index zero e = let q = h .place in let c = put-count in absurd (n (omega arith))
-        some-index (suc i) e = omega arith
-
-    pub row-first : p ≡ 0 → (room : ℕ) → keptRow head row p part pm body marks room ≡ placedOutcome op decls (targetOf head p) part body room
-    row-first z room = go index refl
-      where
-        go : (i : ℕ) → index ≡ i → keptRow head row p part pm body marks room ≡ placedOutcome op decls (targetOf head p) part body room
-        go zero e = kept-row (kept-alone op decls index (h .placing .by) (h .placing .form) index-low (let q = h .place in omega arith)) room
-        go (suc i) e = row-stays (λ q. let r = h .place in let c = put-count in omega arith) room
-
-    -- or the body is not a quantifier with the same operator
-    pub row-other : (p ≡ 0 → ⊥) → p + 1 ≡ getD head 1 0 → (getD body 0 0 ≡ op → ⊥) → (getD body 0 0 ≡ op + 10 → ⊥) → (room : ℕ) → keptRow head row p part pm body marks room ≡ placedOutcome op decls (targetOf head p) part body room
-    row-other z l a b room =
-        let q = h .place in
-        let c = put-count in
-        let o = rest-ok in
-        let w : getD body 0 0 ≡ getD (encode (h .placing .form)) 0 0 = ap (λ v. getD v 0 0) (o .0) in
-        kept-row (kept-first op decls index (h .placing .by) index-low (h .placing .heading .which) (omega arith) (two p refl) (o .1) (λ e. a (w ∙ e)) (λ e. b (w ∙ e))) room
-      where
-        two : (k : ℕ) → p ≡ k → 2 ≤ length decls
-        two zero e = absurd (z e)
-        two (suc k) e = let c = put-count in omega arith
+use Rattle.one_point.proofs.PointTree.{pointPlaces, zero-words, kept-front, joined-is}
+use Rattle.one_point.proofs.FilledWords.{under-is, inner-filled}
+use Rattle.one_point.proofs.KeptRows.{good-of, good-take, decls-append, decls-parts, any-append, unsure, kept-row}
 
 -- the last declaration is replaced
 module _ (head row : List ℕ) (p : ℕ) (part pm body marks : List ℕ) (h : Putting head p part pm body marks) (z : p ≡ 0 → ⊥) (l : p + 1 ≡ getD head 1 0) where
@@ -197,18 +70,10 @@ module _ (op : ℕ) (which : (eqb op 851 || eqb op 852) ≡ true) (front : List 
   abbrev tagOf : Bool → ℕ
   tagOf z = pick z (op + 10) op
 
-  none-more : (ns : List ℕ) → anyNoted (map unnoted ns) ≡ false
-  none-more [] = refl
-  none-more (n ∷ ns) = none-more ns
-
-  or-false : (b : Bool) → (b || false) ≡ b
-  or-false true = refl
-  or-false false = refl
-
   joined-head : headOf op (front ++ map unnoted names) ≡ tagOf (anyNoted front) ∷ (length front + length names) ∷ (partsOf (anyNoted front) ++ after (anyNoted front))
   joined-head =
       let l : length (front ++ map unnoted names) ≡ length front + length names = length-append front (map unnoted names) ∙ ap (λ z. length front + z) (length-map names unnoted) in
-      rw (any-append front (map unnoted names), none-more names, or-false (anyNoted front), l, decls-append front (map unnoted names), map-append nameOf front (map unnoted names), names-plain names) (go (anyNoted front))
+      rw (any-append front (map unnoted names), none-noted names, or-false (anyNoted front), l, decls-append front (map unnoted names), map-append nameOf front (map unnoted names), names-plain names) (go (anyNoted front))
     where
       go : (z : Bool)
           → pick z ((op + 10) ∷ (length front + length names) ∷ (encodeDecls (unlisted front) ++ encodeDecls (unlisted (map unnoted names)))) (op ∷ (length front + length names) ∷ (map nameOf front ++ names))
@@ -331,14 +196,14 @@ last-outcome head row part pm body marks x room = rw (x .putting .placing .is-pa
 pub kept-last : (head row part pm body marks : List ℕ) (x : Inside head row part pm body marks)
     → placedForm (operatorIn head) (declsIn head) 0 (x .putting .placing .by) (x .putting .placing .form)
     ≡ quantify (operatorIn head) (take (length (declsIn head) - 1) (declsIn head) ++ drop (suc (length (declsIn head) - 1)) (declsIn head)) (subst (fillFor (pointPlaces 0 (x .putting .placing .by))) (x .putting .placing .form))
-    → (room : ℕ) → keptRow head row (getD head 1 0 - 1) part pm body marks room ≡ placedOutcome (operatorIn head) (declsIn head) 0 part body room
+    → (room : ℕ) → keptRow false head row (getD head 1 0 - 1) part pm body marks room ≡ placedOutcome (operatorIn head) (declsIn head) 0 part body room
 kept-last head row part pm body marks x e room =
     let c = head-count head (x .putting .placing .heading) in
     let q = x .putting .place in
     let s = x .several in
     let z : x .putting .index ≡ 0 = omega arith in
     let t : targetOf head (getD head 1 0 - 1) ≡ 0 = omega arith in
-    kept-row head row (getD head 1 0 - 1) part pm body marks (x .putting) (x .flags) (rw z e) room ∙ rw t
+    kept-row head row (getD head 1 0 - 1) part pm body marks (x .putting) (x .flags) false unsure (rw z e) room ∙ rw t
 
 -- the body's own quantifier without annotations, joined
 module _ (head row part pm body marks : List ℕ) (x : Inside head row part pm body marks) (same : getD body 0 0 ≡ operatorIn head) where
@@ -408,7 +273,7 @@ module _ (head row part pm body marks : List ℕ) (x : Inside head row part pm b
       go false e = rw (names-plain names) (omega arith)
 
   pub names-row : (hd : List ℕ) → hd ≡ headOf (operatorIn head) (frontDecls head ++ map unnoted names) → (room : ℕ)
-      → underRow hd 1 part pm body marks (2 + length names) room ≡ placedOutcome (operatorIn head) (declsIn head) 0 part body room
+      → underRow false hd 1 part pm body marks (2 + length names) room ≡ placedOutcome (operatorIn head) (declsIn head) 0 part body room
   names-row hd e room =
       let h = x .putting in
       let o = body-is in
@@ -486,7 +351,7 @@ module _ (head row part pm body marks : List ℕ) (x : Inside head row part pm b
           omega arith
 
       pub names-under : (c : ℕ) → c ≡ getD head 1 0 - 1 + getD body 1 0 → (room : ℕ)
-          → underRow (take e (set l′ 1 c)) 1 part pm body marks (2 + getD body 1 0) room ≡ placedOutcome (operatorIn head) (declsIn head) 0 part body room
+          → underRow false (take e (set l′ 1 c)) 1 part pm body marks (2 + getD body 1 0) room ≡ placedOutcome (operatorIn head) (declsIn head) 0 part body room
       names-under c q room =
           let b = ns-long in
           let d = head-short in
@@ -497,7 +362,7 @@ module _ (head row part pm body marks : List ℕ) (x : Inside head row part pm b
           = ap (λ z. take z (set l′ 1 c)) ends ∙ (ap (λ z. take (namesEnd ns l h) (set z 1 c)) put ∙ with-names (operatorIn head) (x .putting .placing .heading .which) (frontDecls head) ns l h is-head (omega arith) (omega arith) c (omega arith)) in
           let v : take e (set l′ 1 c) ≡ headOf (operatorIn head) (frontDecls head ++ map unnoted names) = w ∙ ap (λ z. headOf (operatorIn head) (frontDecls head ++ map unnoted z)) ns-are in
           let u : 2 + getD body 1 0 ≡ 2 + length names = omega arith in
-          ap (λ z. underRow (take e (set l′ 1 c)) 1 part pm body marks z room) u ∙ names-row (take e (set l′ 1 c)) v room
+          ap (λ z. underRow false (take e (set l′ 1 c)) 1 part pm body marks z room) u ∙ names-row (take e (set l′ 1 c)) v room
 
 -- the tests of words that are 1
 pub ones-next : (ws : List ℕ) (i : ℕ) → i < length ws → allOnes (drop i ws) ≡ (eqb (getD ws i 0) 1 && allOnes (drop (i + 1) ws))

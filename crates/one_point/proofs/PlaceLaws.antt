@@ -5,16 +5,13 @@ use mathlib.Core.List.{List, [], _∷_, _++_, append-nil, map}
 use Prim.Native.Nat.{ℕ, zero, suc, _+_, _-_, _≤_, _<_}
 use native.Mathlib.Nat.{zero-add}
 use native.Mathlib.Omega.{arith}
-use borrow.Author.Tests.{eq-eqb, ne-eqb, lt-ltb, le-ltb, ltb-true}
+use borrow.Author.Tests.{lt-ltb, le-ltb, ltb-true}
 use lib.Dec.{eqb, ltb}
 use lib.ListN.{length, getD, take, drop, set, replicate, length-map, length-replicate, getD-replicate}
 use lib.Seq.{drop-length}
 use Rattle.tree.specs.Form.{Form, pick, encode}
-use Rattle.tree.specs.Tag.{expr, pred, own}
-use Rattle.form.specs.Decode.{read, Got, got, no-form, decode}
-use Rattle.form.specs.Internal.Heads.{headAt}
-use Rattle.form.specs.declared.head.Head.{Head}
-use Rattle.form.specs.declared.head.Head.the-variants.{Kids, Noted, None as NoHead}
+use Rattle.tree.specs.Tag.{expr, pred}
+use Rattle.form.specs.Decode.{Got, got, no-form, decode}
 use Rattle.form.specs.Answer.{finish}
 use Rattle.reader.specs.Internal.Reads.{mark, decodeIn}
 use Rattle.form.specs.declared.head.Step.{Step}
@@ -22,52 +19,24 @@ use Rattle.form.specs.declared.head.Step.the-variants.{End, Bad}
 use Rattle.form.proofs.DecodeLaws.{clash, Ok, decode-encode, decode-sound}
 use Rattle.shift.specs.Internal.Items.{items}
 use Rattle.shift.proofs.RowLaws.{itemsOf, marksOf, mark-front}
-use Rattle.replace.specs.Internal.Pieces.{part as part-of, declaredIn, areNames, Leaves, InRow, Ready, downPlan, depthLeft}
+use Rattle.replace.specs.Internal.Pieces.{part as part-of, areNames, Leaves, InRow, Ready, downPlan, depthLeft}
 use Rattle.rules.proofs.OkLaws.{ok-deep}
 use Rattle.replace.proofs.InsideLaws.{Small}
 use Rattle.replace.proofs.SmallLaws.{small-form, leaves}
 use Rattle.replace.specs.Internal.Partial.{partialRow}
-use Rattle.one_point.specs.Internal.Reduce.{isQuantifier, quantifierIn, operatorIn, declsIn, oneTable, placedForm, placedOutcome, Placing, Marking, Shallow, isGot, isSure, RestMarking, isSimple, targetOf, namedRow, restRow, Putting}
+use Rattle.one_point.specs.Internal.Reduce.{isQuantifier, operatorIn, declsIn, oneTable, placedForm, placedOutcome, Placing, Marking, Shallow, isGot, isSure, RestMarking, isSimple, targetOf, namedRow, Putting}
 use Rattle.one_point.specs.Internal.Marks.{raiseMark, CanRaise}
 use Rattle.one_point.proofs.RaiseLaws.{raised-are, marks-raise}
 use Rattle.places.specs.Internal.Positions.{endAt, Cleared}
 use Rattle.one_point.proofs.ScanLaws.{ends-at, ends-not}
-use Rattle.one_point.specs.declared.one_point_inference.Quantifier.the-variants.{Of, None}
 use Rattle.places.proofs.PartsLaws.{some-words}
-use Rattle.one_point.proofs.HeadedLaws.{head-count, plain-operator, plain-decls, plain-count, plain-names, simple-plain, simple-bare}
+use Rattle.one_point.proofs.HeadedLaws.{head-count, plain-count, simple-plain}
 use Rattle.rules.specs.Fill.{unnoted}
 use Rattle.rules.specs.Replacement.{above}
 use Rattle.one_point.proofs.PartialLaws.{first-filled, part-items}
 use Rattle.one_point.proofs.InsidePoint.{Fitting, point-row}
 use Rattle.reader.specs.declared.lists.Table.{Table}
 use Rattle.replace.proofs.BuildLaws.{rest-part}
-
--- the head of a row as the code finds it
-module _ (row : List ℕ) (n : ℕ) (is : n ≡ declaredIn row) where
-  pub head-none : n ≡ 0 → None ≡ quantifierIn row
-  unfolding quantifierIn
-  head-none z = rw (eq-eqb (declaredIn row) 0 (sym is ∙ z))
-
-  module _ (z : n ≡ 0 → ⊥) (h : Head) (e : h ≡ headAt 1 (read (own pred (getD row 0 0)) (drop 1 row))) where
-    pub head-bad : h ≡ NoHead → None ≡ quantifierIn row
-    unfolding quantifierIn
-    head-bad q = rw (ne-eqb (declaredIn row) 0 (λ y. z (is ∙ y)), ← e, q)
-
-    pub head-noted : (p x y w : ℕ) → h ≡ Noted p x y w → None ≡ quantifierIn row
-    unfolding quantifierIn
-    head-noted p x y w q = rw (ne-eqb (declaredIn row) 0 (λ y. z (is ∙ y)), ← e, q)
-
-    pub head-of : (p x y w : ℕ) → h ≡ Kids p x y w → Of (getD row 0 0) p ≡ quantifierIn row
-    unfolding quantifierIn
-    head-of p x y w q = rw (ne-eqb (declaredIn row) 0 (λ y. z (is ∙ y)), ← e, q)
-
-  pub head-word : (n ≡ 0 → ⊥) → 0 < length row
-  unfolding declaredIn
-  head-word z = go (length row) refl
-    where
-      go : (k : ℕ) → length row ≡ k → 0 < length row
-      go zero e = absurd (z (is ∙ rw (lt-ltb (length row) 2 (omega arith))))
-      go (suc k) e = omega arith
 
 -- the word of an emptied body
 pub first-word : (l : List ℕ) (w : ℕ) → 1 ≤ length l → take 1 (set l 0 w) ≡ w ∷ []
@@ -185,7 +154,7 @@ module _ (d : ℕ) (part rest : List ℕ) (r : ℕ) (is : r ≡ depthLeft part) 
 module _ (t : ℕ) (which : isQuantifier t ≡ true) (ns : List ℕ) (names : areNames ns ≡ true) (few : length ns ≤ 32) (i : ℕ) (low : i < length ns) (part rest : List ℕ) (by form : Form) (is-part : decode 63 expr part ≡ got by [])
     (up : above i by ≡ true) (is-rest : decode 63 pred rest ≡ got form []) (pm : List ℕ) (k : Marking part pm) (marks : List ℕ) (is : marks ≡ mark form 0 (suc i) (replicate (length rest) 0))
     (bare : eqb (getD rest 0 0) (t + 10) ≡ false) where
-  named-row : (sure : Bool) → (sure ≡ true → Fitting by form) → (p : ℕ) → p + suc i ≡ length ns → (room : ℕ) → namedRow sure t ns p part pm rest marks room ≡ finish pred room (placedForm t (map unnoted ns) i by form)
+  pub named-row : (sure : Bool) → (sure ≡ true → Fitting by form) → (p : ℕ) → p + suc i ≡ length ns → (room : ℕ) → namedRow sure t ns p part pm rest marks room ≡ finish pred room (placedForm t (map unnoted ns) i by form)
   named-row sure inside p e room =
       let w = whole-pred rest form 63 is-rest in
       let v = whole-expr part by is-part in
@@ -219,7 +188,7 @@ module _ (head : List ℕ) (i : ℕ) (part rest : List ℕ) (h : Placing head i 
         let o : i + 1 ≡ suc i = omega arith in
         rw (o, m .long) at (raised-are (h .form) (i + 1) (length ms) ms ms′ (rest-long ∙ sym (m .long)) (m .are (h .form) (h .is-rest)) e)
 
-  outcome-is : (room : ℕ) → placedOutcome (operatorIn head) (declsIn head) i part rest room ≡ finish pred room (placedForm (operatorIn head) (declsIn head) i (h .by) (h .form))
+  pub outcome-is : (room : ℕ) → placedOutcome (operatorIn head) (declsIn head) i part rest room ≡ finish pred room (placedForm (operatorIn head) (declsIn head) i (h .by) (h .form))
   unfolding placedOutcome
   outcome-is room = rw (h .is-part, h .is-rest)
 
@@ -228,33 +197,15 @@ module _ (head : List ℕ) (i : ℕ) (part rest : List ℕ) (h : Placing head i 
   place-low = let q = h .target in rw (head-count head (h .heading)) q
 
   module _ (p : ℕ) (e : p ≡ getD head 1 0 - 1 - i) where
-    place-there : p + suc i ≡ length (declsIn head)
+    pub place-there : p + suc i ≡ length (declsIn head)
     place-there = let q = h .target in let c = head-count head (h .heading) in omega arith
 
-    target-is : targetOf head p ≡ i
+    pub target-is : targetOf head p ≡ i
     target-is = let q = h .target in let c = head-count head (h .heading) in omega arith
 
     module _ (pm : List ℕ) (k : Marking part pm) (marks : List ℕ) (is : marks ≡ mark (h .form) 0 (suc i) (replicate (length rest) 0)) where
-      pub putting : Putting head p part pm rest marks
+      abbrev pub putting : Putting head p part pm rest marks
       putting = record { index = i; place = place-there; placing = h; marking = k; marked = is }
-
-      pub placed-row : (sure : Bool) → (sure ≡ true → Fitting (h .by) (h .form)) → (room : ℕ) → restRow sure head p part pm rest marks room ≡ placedOutcome (operatorIn head) (declsIn head) i part rest room
-      unfolding restRow
-      placed-row sure inside room = go (isSimple head rest) refl
-        where
-          go : (b : Bool) → isSimple head rest ≡ b
-              → pick b (namedRow sure (getD head 0 0) (drop 2 head) p part pm rest marks room) (placedOutcome (operatorIn head) (declsIn head) (targetOf head p) part rest room) ≡ placedOutcome (operatorIn head) (declsIn head) i part rest room
-          go true s =
-              let f = simple-plain head rest s in
-              let o = plain-operator head (h .heading) f in
-              let d = plain-decls head (h .heading) f in
-              let n = plain-count head (h .heading) f in
-              let q = h .target in
-              let l = h .heading .few in
-              let t = place-there in
-              named-row (getD head 0 0) (rw (← o) (h .heading .which)) (drop 2 head) (plain-names head (h .heading) f) (omega arith) i (omega arith) part rest (h .by) (h .form) (h .is-part) (h .up) (h .is-rest) pm k marks is (simple-bare head rest s) sure inside p (omega arith) room
-              ∙ (rw (← o, ← d) (sym (outcome-is room)))
-          go false s = rw target-is
 
 -- the first word of a rest
 pub rest-word : (head : List ℕ) (p : ℕ) (part pm body marks : List ℕ) (h : Putting head p part pm body marks) → 0 < length body
@@ -267,13 +218,3 @@ named-place head p part pm body marks h s =
     let f = h .placing .heading .few in
     let q = h .place in
     rw (rest-part head 2) (omega arith, omega arith)
-
--- how the code goes on
-module _ (head : List ℕ) (p : ℕ) (part pm body marks : List ℕ) (sure : Bool) (room : ℕ) where
-  pub rest-named : isSimple head body ≡ true → namedRow sure (getD head 0 0) (take (length head - 2) (drop 2 head)) p part pm body marks room ≡ restRow sure head p part pm body marks room
-  unfolding restRow
-  rest-named e = rw (rest-part head 2, e)
-
-  pub rest-noted : isSimple head body ≡ false → placedOutcome (operatorIn head) (declsIn head) (targetOf head p) part body room ≡ restRow sure head p part pm body marks room
-  unfolding restRow
-  rest-noted e = rw e

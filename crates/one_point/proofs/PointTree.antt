@@ -1,7 +1,7 @@
 -- One declaration of several replaced by an expression, on the tree: the others round the body, or those in front joined with the body's own.
 -- Assumes nothing.
 use mathlib.Core.Path.{_≡_, refl, ap, sym, _∙_}
-use mathlib.Core.Bool.{Bool, true, false, _&&_, _||_}
+use mathlib.Core.Bool.{Bool, true, false, _&&_, _||_, and-true, and-assoc}
 use mathlib.Core.List.{List, [], _∷_, _++_, map, append-nil, reverse, reverse-cons, reverse-append}
 use mathlib.Core.Option.{none as absent, some}
 use Prim.Native.Nat.{ℕ, zero, suc, _+_, _-_, _≤_, _<_}
@@ -21,10 +21,10 @@ use Rattle.rules.specs.Prune.{isNot}
 use Rattle.rules.specs.Partial.{onNote, noPlaces, setPlace, putRound, instantiatePartial}
 use Rattle.rules.specs.Replacement.{above}
 use Rattle.rules.proofs.WalkLaws.{eachDecls, binding-add, subst-subst, and-left, and-right, always, each-agree, each-always, walk-agree}
-use Rattle.rules.proofs.TreeLaws.{after, each-walk}
+use Rattle.rules.proofs.TreeLaws.{after, lift-zero, each-walk}
 use Rattle.rules.proofs.FrontLaws.{places-are, front-is, rest-is, unlike-stays}
 use Rattle.rules.proofs.JoinLaws.{round-stays, round-other, unusedNotes}
-use Rattle.rules.proofs.JoinFill.{lift-zero, deeper, fits, fill-joined, fill-apart}
+use Rattle.rules.proofs.JoinFill.{deeper, fits, fill-joined, fill-apart}
 use Rattle.replace.proofs.FillTree.{wordFor}
 use Rattle.decls.specs.Internal.Used.{clearedBy}
 use Rattle.one_point.specs.Internal.Reduce.{placedForm}
@@ -222,20 +222,12 @@ abbrev pub frontUnused : (ℕ → Bool) → ℕ → Bool
 frontUnused u zero = true
 frontUnused u (suc j) = u (suc j) && frontUnused u j
 
-and-true : (b : Bool) → (b && true) ≡ b
-and-true true = refl
-and-true false = refl
-
-and-assoc : (a b c : Bool) → (a && (b && c)) ≡ ((a && b) && c)
-and-assoc true b c = refl
-and-assoc false b c = refl
-
 pub unused-is : (p : ℕ → Bool) (es : List Decl) (j : ℕ) → ((v : ℕ) → v < j → p (suc v) ≡ false)
     → unusedNotes p (suc j) es ≡ (frontUnused (λ i. eachDecls (isNot i) 0 (unlisted es)) j && (p 0 || eachDecls (isNot 0) 0 (unlisted es)))
 unused-is p es zero h = and-true (p 0 || eachDecls (isNot 0) 0 (unlisted es))
 unused-is p es (suc j) h =
     rw (h j (omega arith), unused-is p es j (λ v l. h v (omega arith)))
-    (and-assoc (eachDecls (isNot (suc j)) 0 (unlisted es)) (frontUnused (λ i. eachDecls (isNot i) 0 (unlisted es)) j) (p 0 || eachDecls (isNot 0) 0 (unlisted es)))
+    (sym (and-assoc (eachDecls (isNot (suc j)) 0 (unlisted es)) (frontUnused (λ i. eachDecls (isNot i) 0 (unlisted es)) j) (p 0 || eachDecls (isNot 0) 0 (unlisted es))))
 
 one-if : (b : Bool) → eqb (pick b 1 0) 1 ≡ b
 one-if true = refl

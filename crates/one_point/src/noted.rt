@@ -29,8 +29,10 @@ pub enum Joining {
     Used,
 }
 
-// The head, and the body from `from` on with the first of its outermost m declarations replaced.
+// The head, and the body from `from` on with the first of its outermost m declarations replaced. The result is checked as a form where it is not
+// sure to be one.
 fn put_under(
+    sure: bool,
     head: &[u32],
     m: usize,
     part: &[u32],
@@ -41,8 +43,8 @@ fn put_under(
     out: &mut [u32],
 ) -> Answer
     requires { ⌜ m ≤ 32 ⌝ }
-    ensures { λ r. ⌜ r ≡ told (underRow (now (head .entry)) m (now (part .entry)) (now («part_marks» .entry)) (now (body .entry)) (now (marks .entry)) from (length (now (out .entry)))) ⌝ }
-    ensures { λ _. ⌜ now (out .exit) ≡ written (underRow (now (head .entry)) m (now (part .entry)) (now («part_marks» .entry)) (now (body .entry)) (now (marks .entry)) from (length (now (out .entry)))) (now (out .entry)) ⌝ }
+    ensures { λ r. ⌜ r ≡ told (underRow sure (now (head .entry)) m (now (part .entry)) (now («part_marks» .entry)) (now (body .entry)) (now (marks .entry)) from (length (now (out .entry)))) ⌝ }
+    ensures { λ _. ⌜ now (out .exit) ≡ written (underRow sure (now (head .entry)) m (now (part .entry)) (now («part_marks» .entry)) (now (body .entry)) (now (marks .entry)) from (length (now (out .entry)))) (now (out .entry)) ⌝ }
 {
     let mut words = [0u32; 32];
     words[0] = 1;
@@ -55,7 +57,7 @@ fn put_under(
         &starts,
         &ends,
         m as u32,
-        false,
+        sure,
         part,
         part_marks,
         body,
@@ -65,8 +67,9 @@ fn put_under(
     )
 }
 
-// The declarations but the one at p round the body.
-fn put_kept(
+// The declarations but the one at p round the body. The result is checked as a form where it is not sure to be one.
+pub(crate) fn put_kept(
+    sure: bool,
     head: &[u32],
     row: &[u32],
     p: usize,
@@ -77,15 +80,41 @@ fn put_kept(
     out: &mut [u32],
 ) -> Answer
     requires { ⌜ Headed (now head) × (p < getD (now head) 1 0) ⌝ }
-    ensures { λ r. ⌜ r ≡ told (keptRow (now (head .entry)) (now (row .entry)) p (now (part .entry)) (now («part_marks» .entry)) (now (body .entry)) (now (marks .entry)) (length (now (out .entry)))) ⌝ }
-    ensures { λ _. ⌜ now (out .exit) ≡ written (keptRow (now (head .entry)) (now (row .entry)) p (now (part .entry)) (now («part_marks» .entry)) (now (body .entry)) (now (marks .entry)) (length (now (out .entry)))) (now (out .entry)) ⌝ }
+    ensures { λ r. ⌜ r ≡ told (keptRow sure (now (head .entry)) (now (row .entry)) p (now (part .entry)) (now («part_marks» .entry)) (now (body .entry)) (now (marks .entry)) (length (now (out .entry)))) ⌝ }
+    ensures { λ _. ⌜ now (out .exit) ≡ written (keptRow sure (now (head .entry)) (now (row .entry)) p (now (part .entry)) (now («part_marks» .entry)) (now (body .entry)) (now (marks .entry)) (length (now (out .entry)))) (now (out .entry)) ⌝ }
 {
     let n = head[1] as usize;
     let mut words = [0u32; 32];
     words[p] = 1;
+    let op = operator_of(head);
+    if row.len() <= 256 {
+        let mut short = [0u32; 256];
+        let h = write_noted(op, &words[..n], row, &mut short);
+        return put_under(
+            sure,
+            &short[..h],
+            n - p,
+            part,
+            part_marks,
+            body,
+            marks,
+            0,
+            out,
+        );
+    }
     let mut kept = [0u32; 8192];
-    let h = write_noted(operator_of(head), &words[..n], row, &mut kept);
-    put_under(&kept[..h], n - p, part, part_marks, body, marks, 0, out)
+    let h = write_noted(op, &words[..n], row, &mut kept);
+    put_under(
+        sure,
+        &kept[..h],
+        n - p,
+        part,
+        part_marks,
+        body,
+        marks,
+        0,
+        out,
+    )
 }
 
 // Names behind a head of h words, with flags where it has them: where they end.
@@ -125,7 +154,17 @@ fn put_names(
     let h = write_noted(operator_of(head), &words[..j], row, &mut joined);
     let end = add_names(&body[2..2 + k], h, &mut joined);
     joined[1] = head[1] - 1 + body[1];
-    put_under(&joined[..end], 1, part, part_marks, body, marks, 2 + k, out)
+    put_under(
+        false,
+        &joined[..end],
+        1,
+        part,
+        part_marks,
+        body,
+        marks,
+        2 + k,
+        out,
+    )
 }
 
 // Annotations with n declarations gone, each use of one of them replaced by the list: their words.
@@ -223,7 +262,17 @@ fn put_joined(
     if end == 0 {
         return Answer::No(7, 0);
     }
-    put_under(&joined[..end], 1, part, part_marks, body, marks, from, out)
+    put_under(
+        false,
+        &joined[..end],
+        1,
+        part,
+        part_marks,
+        body,
+        marks,
+        from,
+        out,
+    )
 }
 
 // Whether all words are 1.
@@ -283,7 +332,7 @@ fn put_raised(
     let m = n as usize;
     let how = how_joined(n, part, &body[2..from], raised, &mut words[..m + 1]);
     match how {
-        Joining::Apart => put_kept(head, row, m - 1, part, part_marks, body, marks, out),
+        Joining::Apart => put_kept(false, head, row, m - 1, part, part_marks, body, marks, out),
         Joining::Unused => put_free(head, row, raised, part, part_marks, body, marks, from, out),
         Joining::Used => put_joined(
             head,
@@ -363,8 +412,10 @@ fn put_inner(
     )
 }
 
-// The same by the body's first word, with the declarations of the head in a row with flags.
+// The same by the body's first word, with the declarations of the head in a row with flags, and its operator. Called from two places, this stays a
+// function of its own when compiled, so that a row without annotations lays out no row for joined heads.
 fn put_flagged(
+    op: u32,
     head: &[u32],
     row: &[u32],
     p: usize,
@@ -374,24 +425,23 @@ fn put_flagged(
     marks: &[u32],
     out: &mut [u32],
 ) -> Answer
-    requires { ⌜ Putting (now head) p (now part) (now «part_marks») (now body) (now marks) × Flags (now head) (now row) ⌝ }
+    requires { ⌜ Putting (now head) p (now part) (now «part_marks») (now body) (now marks) × Flags (now head) (now row) × (op ≡ operatorIn (now head)) ⌝ }
     ensures { λ r. ⌜ r ≡ told (placedOutcome (operatorIn (now (head .entry))) (declsIn (now (head .entry))) (targetOf (now (head .entry)) p) (now (part .entry)) (now (body .entry)) (length (now (out .entry)))) ⌝ }
     ensures { λ _. ⌜ now (out .exit) ≡ written (placedOutcome (operatorIn (now (head .entry))) (declsIn (now (head .entry))) (targetOf (now (head .entry)) p) (now (part .entry)) (now (body .entry)) (length (now (out .entry)))) (now (out .entry)) ⌝ }
 {
     if p == 0 {
-        return put_kept(head, row, p, part, part_marks, body, marks, out);
+        return put_kept(false, head, row, p, part, part_marks, body, marks, out);
     }
     if p + 1 != head[1] as usize {
-        return put_kept(head, row, p, part, part_marks, body, marks, out);
+        return put_kept(false, head, row, p, part, part_marks, body, marks, out);
     }
-    let op = operator_of(head);
     if body[0] == op {
         return put_names(head, row, part, part_marks, body, marks, out);
     }
     if body[0] == op + 10 {
         return put_inner(head, row, part, part_marks, body, marks, out);
     }
-    put_kept(head, row, p, part, part_marks, body, marks, out)
+    put_kept(false, head, row, p, part, part_marks, body, marks, out)
 }
 
 // The declarations from place p on: the first replaced by the expression, the others kept, those before it joined with the body's own.
@@ -409,9 +459,29 @@ pub(crate) fn put_noted(
     ensures { λ _. ⌜ now (out .exit) ≡ written (placedOutcome (operatorIn (now (head .entry))) (declsIn (now (head .entry))) (targetOf (now (head .entry)) p) (now (part .entry)) (now (body .entry)) (length (now (out .entry)))) (now (out .entry)) ⌝ }
 {
     if 860 < head[0] {
-        return put_flagged(head, head, p, part, part_marks, body, marks, out);
+        return put_flagged(
+            head[0] - 10,
+            head,
+            head,
+            p,
+            part,
+            part_marks,
+            body,
+            marks,
+            out,
+        );
     }
     let mut flags = [0u32; 66];
     let end = flag_names(&head[2..], &mut flags);
-    put_flagged(head, &flags[..end], p, part, part_marks, body, marks, out)
+    put_flagged(
+        head[0],
+        head,
+        &flags[..end],
+        p,
+        part,
+        part_marks,
+        body,
+        marks,
+        out,
+    )
 }

@@ -1,26 +1,38 @@
 // One point: a quantified predicate is reduced by the first equality that its body offers.
+use crate::reduce::Depth;
 use crate::reduce::is_bad;
 use crate::reduce::reduce;
 use broken::position::broken_at;
-use decls::ends::body_start;
+use decls::ends::declared;
+use decls::ends::skip_decls;
 use form::answer::Answer;
 use form::answer::Kind;
 use form::answer::Limit;
 use form::head::Head;
+use form::head::Step;
 use form::head::pred_head;
-use replace::heads::declared;
-use tree::tag::Tag;
 ghost use mathlib.Core.Path.{_≡_};
-ghost use mathlib.Core.Bool.{true};
-ghost use lib.ListN.{length};
+ghost use lib.ListN.{length, drop};
 ghost use Rattle.form.specs.Answer.{told, written};
+ghost use Rattle.reader.specs.Internal.Reads.{declsWithin};
 ghost use Rattle.rules.specs.Point.{pointOutcome};
-ghost use Rattle.one_point.specs.Internal.Reduce.{quantifierIn, notedRow, CheckedRow};
+ghost use Rattle.decls.specs.Internal.Noted.{endDecls};
+ghost use Rattle.one_point.specs.Internal.Reduce.{bodyAfter, quantifierIn};
 
-// The head of a quantified predicate: its tag, and where its body begins.
+// Where the body of a quantified predicate begins.
 pub enum Quantifier {
-    Of(u32, usize),
+    Of(usize),
     None,
+}
+
+// Behind n declarations with flags at `at`, if their annotations can stand there.
+fn behind_decls(row: &[u32], at: usize, n: u32) -> Quantifier
+    ensures { λ r. ⌜ r ≡ bodyAfter (endDecls at (declsWithin 63 0 n (drop at (now (row .entry))))) ⌝ }
+{
+    let Step::End(start) = skip_decls(row, at, n, Depth::MOST) else {
+        return Quantifier::None;
+    };
+    Quantifier::Of(start)
 }
 
 // The head that a row begins with.
@@ -30,36 +42,12 @@ fn quantifier_of(row: &[u32]) -> Quantifier
     if declared(row) == 0 {
         return Quantifier::None;
     }
-    let tag = row[0];
-    let head = pred_head(row, 1, tag);
+    let head = pred_head(row, 1, row[0]);
     match head {
-        Head::Kids(start, preds, exprs, n) => Quantifier::Of(tag, start),
-        Head::Noted(start, preds, exprs, n) => Quantifier::None,
+        Head::Kids(start, preds, exprs, n) => Quantifier::Of(start),
+        Head::Noted(start, preds, exprs, n) => behind_decls(row, start, n),
         Head::None => Quantifier::None,
     }
-}
-
-// Whether a row begins with the tag of a quantifier whose declarations have flags.
-fn begins_noted(row: &[u32]) -> bool
-    ensures { λ r. ⌜ r ≡ notedRow (now (row .entry)) ⌝ }
-{
-    if row.len() == 0 {
-        return false;
-    }
-    if row[0] == Tag::NOTED_FOR_ALL {
-        return true;
-    }
-    row[0] == Tag::NOTED_EXISTS
-}
-
-// A quantified predicate with annotations, reduced.
-fn reduce_noted(row: &[u32], work: &mut [u32], out: &mut [u32]) -> Answer
-    requires { ⌜ CheckedRow (now row) (length (now work)) × (notedRow (now row) ≡ true) ⌝ }
-    ensures { λ r. ⌜ r ≡ told (pointOutcome (now (row .entry)) (length (now (work .entry))) (length (now (out .entry)))) ⌝ }
-    ensures { λ _. ⌜ now (out .exit) ≡ written (pointOutcome (now (row .entry)) (length (now (work .entry))) (length (now (out .entry)))) (now (out .entry)) ⌝ }
-{
-    let start = body_start(row, row[1]);
-    reduce(&row[..start], &row[start..], work, out)
 }
 
 // The quantified predicate in the row, reduced.
@@ -73,14 +61,11 @@ pub fn one_point_inference(row: &[u32], work: &mut [u32], out: &mut [u32]) -> An
     if Limit::WORDS < row.len() {
         return Answer::No(1, 0);
     }
-    let Quantifier::Of(tag, start) = quantifier_of(row) else {
+    let Quantifier::Of(start) = quantifier_of(row) else {
         let checked = reader::check::check(row, Kind::Predicate);
         let Answer::Done(k) = checked else {
             return checked;
         };
-        if begins_noted(row) {
-            return reduce_noted(row, work, out);
-        }
         return Answer::No(9, 0);
     };
     let r = reduce(&row[..start], &row[start..], work, out);

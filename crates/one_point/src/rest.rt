@@ -1,12 +1,14 @@
 // A rest of declarations of which the first is replaced, filled in a body, and the declarations before it put round it.
+use crate::noted::put_kept;
 use crate::noted::put_noted;
 use form::answer::Answer;
 use replace::instantiate_partial::instantiate_partial;
 ghost use mathlib.Core.Path.{_≡_};
 ghost use Prim.Native.Nat.{_<_, _≤_};
-ghost use lib.ListN.{length};
+ghost use lib.ListN.{length, getD};
 ghost use Rattle.form.specs.Answer.{told, written};
-ghost use Rattle.one_point.specs.Internal.Reduce.{Putting, isSimple, namedRow, restRow};
+ghost use Rattle.one_point.specs.Internal.Reduce.{Headed, Putting, isSimple, namedRow};
+ghost use Rattle.one_point.specs.Internal.Noted.{isApart, restRow};
 
 // The names from place p on: the first replaced by the expression, the others kept. The result is checked as a form where it is not sure to
 // be one.
@@ -59,6 +61,27 @@ fn is_simple(head: &[u32], body: &[u32]) -> bool
     body[0] != head[0] + 10
 }
 
+// Whether the declarations of a head with annotations stay apart from the body's own quantifier when the one at p is replaced: none is in front of
+// it, one stays behind it, or the body has another operator.
+fn is_apart(head: &[u32], p: usize, body: &[u32]) -> bool
+    requires { ⌜ Headed (now head) × (0 < length (now body)) × (p < getD (now head) 1 0) ⌝ }
+    ensures { λ r. ⌜ r ≡ isApart (now (head .entry)) p (now (body .entry)) ⌝ }
+{
+    if head[0] <= 860 {
+        return false;
+    }
+    if p == 0 {
+        return true;
+    }
+    if p + 1 != head[1] as usize {
+        return true;
+    }
+    if body[0] == head[0] {
+        return false;
+    }
+    body[0] != head[0] - 10
+}
+
 // The declarations from place p on: the first replaced by the expression, the others kept. The result is checked as a form where it is
 // not sure to be one.
 pub(crate) fn put_rest(
@@ -87,6 +110,9 @@ pub(crate) fn put_rest(
             marks,
             out,
         );
+    }
+    if is_apart(head, p, body) {
+        return put_kept(sure, head, head, p, part, part_marks, body, marks, out);
     }
     put_noted(head, p, part, part_marks, body, marks, out)
 }

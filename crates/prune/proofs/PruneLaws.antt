@@ -285,6 +285,6 @@ module _ (row marks : List ℕ) (n start : ℕ) (p : Pruning row marks n start) 
   unfolding leftHead
   left-plain room h = rw (lt-ltb (getD row 0 0) 860 h) at (p .prunes us room unused-words)
 
-  pub left-noted : (room : ℕ) → 860 ≤ getD row 0 0 → droppedOutcome (notedHead (getD row 0 0 - 10) us row 8192) us row marks start room ≡ pruneOutcome row room
+  pub left-noted : (room op : ℕ) → 860 ≤ getD row 0 0 → op ≡ getD row 0 0 - 10 → droppedOutcome (notedHead op us row 8192) us row marks start room ≡ pruneOutcome row room
   unfolding leftHead
-  left-noted room h = rw (le-ltb (getD row 0 0) 860 h) at (p .prunes us room unused-words)
+  left-noted room op h e = rw (le-ltb (getD row 0 0) 860 h, ← e) at (p .prunes us room unused-words)

@@ -11,6 +11,7 @@ use replace::pieces::less;
 use replace::pieces::one_if;
 use replace::tables::put_words;
 use shift::slots::slot_of;
+use tree::tag::Tag;
 ghost use mathlib.Core.Path.{_≡_};
 ghost use mathlib.Core.Bool.{true};
 ghost use Prim.Native.Nat.{_+_, _-_, _≤_, _<_};
@@ -117,15 +118,28 @@ fn drop_plain(words: &[u32], row: &[u32], marks: &[u32], from: usize, out: &mut 
     drop_decls(words, &head[..h], row, marks, from, out)
 }
 
-// The same for a row with annotations, whose head may be as long as the row.
-fn drop_noted(words: &[u32], row: &[u32], marks: &[u32], from: usize, out: &mut [u32]) -> Answer
-    requires { ⌜ (length (now words) ≤ 32) × (length (now row) ≤ 8192) × (860 ≤ getD (now row) 0 0) ⌝ }
+// The same for a row with annotations and this operator, whose head may be as long as the row. Called from two places, it stays a function of its
+// own when compiled, so that a row without annotations lays out no row for a long head.
+fn drop_noted(
+    op: u32,
+    words: &[u32],
+    row: &[u32],
+    marks: &[u32],
+    from: usize,
+    out: &mut [u32],
+) -> Answer
+    requires { ⌜ (length (now words) ≤ 32) × (length (now row) ≤ 8192) ⌝ }
     requires { ⌜ (length (now row) ≤ length (now marks)) × (from < length (now row)) × (apart (length (now words)) (drop from (now row)) (drop from (now marks)) ≡ true) ⌝ }
-    ensures { λ r. ⌜ r ≡ told (droppedOutcome (notedHead (getD (now (row .entry)) 0 0 - 10) (now (words .entry)) (now (row .entry)) 8192) (now (words .entry)) (now (row .entry)) (now (marks .entry)) from (length (now (out .entry)))) ⌝ }
-    ensures { λ _. ⌜ now (out .exit) ≡ written (droppedOutcome (notedHead (getD (now (row .entry)) 0 0 - 10) (now (words .entry)) (now (row .entry)) 8192) (now (words .entry)) (now (row .entry)) (now (marks .entry)) from (length (now (out .entry)))) (now (out .entry)) ⌝ }
+    ensures { λ r. ⌜ r ≡ told (droppedOutcome (notedHead op (now (words .entry)) (now (row .entry)) 8192) (now (words .entry)) (now (row .entry)) (now (marks .entry)) from (length (now (out .entry)))) ⌝ }
+    ensures { λ _. ⌜ now (out .exit) ≡ written (droppedOutcome (notedHead op (now (words .entry)) (now (row .entry)) 8192) (now (words .entry)) (now (row .entry)) (now (marks .entry)) from (length (now (out .entry)))) (now (out .entry)) ⌝ }
 {
+    if row.len() <= 256 {
+        let mut short = [0u32; 256];
+        let h = write_noted(op, words, row, &mut short);
+        return drop_decls(words, &short[..h], row, marks, from, out);
+    }
     let mut head = [0u32; 8192];
-    let h = write_noted(row[0] - 10, words, row, &mut head);
+    let h = write_noted(op, words, row, &mut head);
     drop_decls(words, &head[..h], row, marks, from, out)
 }
 
@@ -142,7 +156,10 @@ fn drop_unused(row: &[u32], marks: &[u32], n: u32, from: usize, out: &mut [u32])
     if row[0] < 860 {
         return drop_plain(&words[1..m + 1], row, marks, from, out);
     }
-    drop_noted(&words[1..m + 1], row, marks, from, out)
+    if row[0] == Tag::NOTED_EXISTS {
+        return drop_noted(Tag::EXISTS, &words[1..m + 1], row, marks, from, out);
+    }
+    drop_noted(row[0] - 10, &words[1..m + 1], row, marks, from, out)
 }
 
 // Prune with marks of its own.

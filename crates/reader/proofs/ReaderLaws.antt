@@ -2,7 +2,7 @@
 use mathlib.Core.Path.{_≡_, refl, ap, sym, _∙_}
 use mathlib.Core.Bool.{Bool, true, false, _&&_}
 use mathlib.Core.List.{List, [], _∷_, _++_}
-use Prim.Native.Nat.{ℕ, zero, suc, _+_, _*_, _-_, _≤_, _<_}
+use Prim.Native.Nat.{ℕ, zero, suc, _+_, _*_, _^_, _-_, _≤_, _<_}
 use native.Mathlib.Numerals.{add-one, sub-one}
 use native.Mathlib.Omega.{arith}
 use borrow.Author.Tests.{le-leb, lt-leb}
@@ -12,15 +12,18 @@ use Rattle.tree.specs.Form.{Leaf, free, bound, Form, leaf, node, noted, Decls, 
 use Rattle.tree.specs.Tag.{Sort, expr, own, ownOf, shapeOf, exprTags, sorts}
 use Rattle.form.specs.Decode.{Head, head, flagged, bad, read, Got, got, no-form, Gots, gots, no-forms, leafAt, isLeaf, make, addForm, close, chain, decodeAll, GotDecl, gotBare, gotTyped, no-decl, noteOf, byFlag, declAt, GotDecls, declared, no-decls, addBare, addTyped, addDecl, decls, closeNoted, withDecls, branch, decode}
 use Rattle.form.specs.Internal.Heads.{headAt, startsLeaf}
-use Rattle.reader.specs.Internal.Reads.{mark, markDecls, markAll, markTag, Told, ToldAll, ToldDecl, ToldDecls, ToldNoted, decodeIn}
+use Rattle.reader.specs.Internal.Reads.{mark, markDecls, markAll, markTag, Told, ToldAll, ToldDecl, ToldDecls, ToldNoted, ToldOther, Fits, wordsAfter, decodeIn, declsWithin}
 use Rattle.form.specs.declared.head.Step.{Step}
 use Rattle.form.specs.declared.head.Step.the-variants.{End, Bad}
 use Rattle.form.specs.declared.head.Head as code
+use Rattle.form.proofs.head.Head.{the-type}
+use types.Run.{OneOf, miss}
+use denote.Enum.Declared.{tagOf}
 use Rattle.form.specs.declared.head.Head.the-variants.{Kids, Noted, None}
 use Rattle.form.specs.Internal.Heads.{wordAt}
 use Rattle.form.specs.declared.head.Word.the-variants.{Is, Not}
 use Rattle.form.proofs.DecodeLaws.{clash, high-tag, read-exact, read-at, all-sound, decode-at, made, flags-at, decls-at, decls-sound, bare-at, typed-at}
-use Rattle.form.proofs.HeadLaws.{gone, here, head-rises, flags-rise, word-is, next-drop}
+use Rattle.form.proofs.HeadLaws.{gone, here, head-rises, flags-rise, few-flags, word-is, next-drop}
 
 -- what is read at a position: nothing past the end, else the node that begins there
 pub no-word : (d : ℕ) (s : Sort) → decode d s [] ≡ no-form
@@ -235,7 +238,7 @@ module _ (s : Sort) (row : List ℕ) (at u : ℕ) where
     branch-bad bad m m₂ e = bad-told at u no-form m m₂ refl
 
   module _ {h : code.Head} (low : at < length row) (hd : h ≡ headAt (at + 1) (read (own s (getD row at 0)) (drop (at + 1) row))) where
-    pub no-own : (d : ℕ) (a b : List ℕ) → (d ≡ 0 → ⊥) → h ≡ None → Told at u (decode d s (drop at row)) a b Bad
+    no-own : (d : ℕ) (a b : List ℕ) → (d ≡ 0 → ⊥) → h ≡ None → Told at u (decode d s (drop at row)) a b Bad
     no-own zero a b ne e = absurd (ne refl)
     no-own (suc d) a b ne e = rw (node-here d s row at low) (branch-bad d (getD row at 0) _ a b (sym hd ∙ e))
 
@@ -244,16 +247,46 @@ module _ (s : Sort) (row : List ℕ) (at u : ℕ) where
     a-form zero p x y w m m₁ m₂ r ne e k t = absurd (ne refl)
     a-form (suc d) p x y w m m₁ m₂ r ne e k t = rw (node-here d s row at low) (branch-told d (getD row at 0) _ x y w p m m₁ m₂ r refl (sym hd ∙ e) k (rw sub-one at t))
 
-    pub a-noted : (d p x y w : ℕ) (m m₂ : List ℕ) (r : Step) → (d ≡ 0 → ⊥) → h ≡ Noted p x y w
+    a-noted : (d p x y w : ℕ) (m m₂ : List ℕ) (r : Step) → (d ≡ 0 → ⊥) → h ≡ Noted p x y w
         → ToldNoted p u (decls (λ s l. decode (d - 1) s l) w (drop p row)) (λ l. decodeAll (λ s l. decode (d - 1) s l) (sorts x y) l) m m₂ r → Told at u (decode d s (drop at row)) m m₂ r
     a-noted zero p x y w m m₂ r ne e t = absurd (ne refl)
     a-noted (suc d) p x y w m m₂ r ne e t = rw (node-here d s row at low) (branch-noted d (getD row at 0) _ x y w p m m₂ r refl (sym hd ∙ e) (rw sub-one at t))
 
-    pub flags-after : (p x y w : ℕ) → h ≡ Noted p x y w → at < p
+    -- the node of a head that is none of plain declarations
+    pub an-other : (d : ℕ) (m m₂ : List ℕ) (r : Step) → (d ≡ 0 → ⊥) → OneOf (1 ∷ 2 ∷ []) (tagOf the-type h) → ToldOther h (d - 1) u row m m₂ r
+        → Told at u (decode d s (drop at row)) m m₂ r
+    unfolding ToldOther
+    an-other d m m₂ r ne k t = go h refl k t
+      where
+        go : (z : code.Head) → h ≡ z → OneOf (1 ∷ 2 ∷ []) (tagOf the-type z) → ToldOther z (d - 1) u row m m₂ r → Told at u (decode d s (drop at row)) m m₂ r
+        go (Kids p x y w) e k t = absurd (miss (1 ∷ 2 ∷ []) 0 tt k)
+        go (Noted p x y w) e k t = a-noted d p x y w m m₂ r ne e t
+        go None e k t = rw t (no-own d m m₂ ne e)
+
+    flags-after : (p x y w : ℕ) → h ≡ Noted p x y w → at < p
     flags-after p x y w e = go (read (own s (getD row at 0)) (drop (at + 1) row)) (sym hd ∙ e)
       where
         go : (z : Head) → headAt (at + 1) z ≡ Noted p x y w → at < p
         go z e = let q = flags-rise (at + 1) p x y w z e in omega arith
+
+    -- its declarations can be counted, and fewer words are left after it
+    pub other-fits : (d : ℕ) → u + 32 * d < 2 ^ 32 → (d ≡ 0 → ⊥) → Fits h (d - 1) u
+    unfolding Fits
+    other-fits d b ne = go h refl
+      where
+        go : (z : code.Head) → h ≡ z → Fits z (d - 1) u
+        go (Kids p x y w) e = tt
+        go (Noted p x y w) e = let q = few-flags _ p x y w s _ _ hd e in omega arith
+        go None e = tt
+
+    pub other-left : 8 * wordsAfter h (length row) + 5 < 8 * (length row - at)
+    unfolding wordsAfter
+    other-left = go h refl
+      where
+        go : (z : code.Head) → h ≡ z → 8 * wordsAfter z (length row) + 5 < 8 * (length row - at)
+        go (Kids p x y w) e = omega arith
+        go (Noted p x y w) e = let q = flags-after p x y w e in omega arith
+        go None e = omega arith
 
     pub kids-after : (p x y w : ℕ) → h ≡ Kids p x y w → at < p
     kids-after p x y w e = go (read (own s (getD row at 0)) (drop (at + 1) row)) (sym hd ∙ e)
@@ -319,6 +352,30 @@ module _ (s : Sort) (ws : List ℕ) where
 
   pub told-in : (at d u : ℕ) (a b : List ℕ) (r : Step) → d ≤ 65535 → u ≤ 65535 → Told at u (decode d s ws) a b r → Told at u (decodeIn d u s ws) a b r
   told-in at d u a b r deep few t = rw (in-decode d u deep few) t
+
+-- declarations with annotations, and nothing after them
+module _ (at d u n : ℕ) (ws a b : List ℕ) where
+  pub within : d ≤ 65535 → u ≤ 65535 → n ≤ 65535 → declsWithin d u n ws ≡ decls (λ s l. decode d s l) n ws
+  unfolding declsWithin
+  within deep few most = rw (le-leb d 65535 deep, le-leb u 65535 few, le-leb n 65535 most)
+
+  none-within : (leb d 65535 && (leb u 65535 && leb n 65535)) ≡ false → ToldNoted at u (declsWithin d u n ws) (λ l. gots none l) a b Bad
+  unfolding declsWithin ToldNoted
+  none-within e = rw e refl
+
+  pub decls-deep : 65535 < d → ToldNoted at u (declsWithin d u n ws) (λ l. gots none l) a b Bad
+  decls-deep h = none-within (rw (lt-leb d 65535 h))
+
+  pub decls-under : d ≤ 65535 → 65535 < u → ToldNoted at u (declsWithin d u n ws) (λ l. gots none l) a b Bad
+  decls-under deep h = none-within (rw (le-leb d 65535 deep, lt-leb u 65535 h))
+
+  pub decls-many : d ≤ 65535 → u ≤ 65535 → 65535 < n → ToldNoted at u (declsWithin d u n ws) (λ l. gots none l) a b Bad
+  decls-many deep few h = none-within (rw (le-leb d 65535 deep, le-leb u 65535 few, lt-leb n 65535 h))
+
+  pub decls-read : d ≤ 65535 → u ≤ 65535 → n ≤ 65535 → (r : Step)
+      → ToldNoted at u (decls (λ s l. decode d s l) n ws) (λ l. decodeAll (λ s l. decode d s l) (sorts 0 0) l) a b r → ToldNoted at u (declsWithin d u n ws) (λ l. gots none l) a b r
+  unfolding decodeAll
+  decls-read deep few most r t = rw (within deep few most) t
 
 -- declarations with flags: one, several, and the children after them
 some-words : (f : Form) → 0 < length (encode f)
@@ -523,3 +580,24 @@ module _ (d : ℕ) (row : List ℕ) (u : ℕ) where
             let y : x ≡ drop q row = decls-at d n row p ds x i ∙ ap (λ n. drop n row) (sym z) in
             rw (some-typed ds (λ m. l (omega arith)), ← z, y, ← t .1, w) h
         go no-decls i t = absurd (clash cc)
+
+-- what follows the head of a quantifier with annotations
+module _ (h : code.Head) (d u p x y w : ℕ) (e : h ≡ Noted p x y w) where
+  pub fits-noted : Fits h d u → u + w + 32 * d < 2 ^ 32
+  unfolding Fits
+  fits-noted f = rw e at f
+
+  pub words-noted : (n : ℕ) → wordsAfter h n ≡ n - p
+  unfolding wordsAfter
+  words-noted n = rw e refl
+
+  pub other-noted : (row m m₂ : List ℕ) (r : Step)
+      → ToldNoted p u (decls (λ s l. decode d s l) w (drop p row)) (λ l. decodeAll (λ s l. decode d s l) (sorts x y) l) m m₂ r → ToldOther h d u row m m₂ r
+  unfolding ToldOther
+  other-noted row m m₂ r t = rw e t
+
+pub other-bad : (h : code.Head) (d u : ℕ) (row m m₂ : List ℕ) → OneOf (0 ∷ 2 ∷ []) (tagOf the-type h) → ToldOther h d u row m m₂ Bad
+unfolding ToldOther
+other-bad (Kids p x y w) d u row m m₂ k = refl
+other-bad (Noted p x y w) d u row m m₂ k = absurd (miss (0 ∷ 2 ∷ []) 1 tt k)
+other-bad None d u row m m₂ k = refl

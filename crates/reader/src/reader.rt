@@ -11,11 +11,11 @@ use form::head::pred_head;
 ghost use mathlib.Core.Path.{_≡_};
 ghost use Prim.Native.Nat.{_+_, _*_, _^_, _<_};
 ghost use lib.ListN.{drop, set, replicate};
-ghost use Rattle.tree.specs.Form.{pick};
+ghost use Rattle.tree.specs.Form.{pick, none};
 ghost use Rattle.tree.specs.Tag.{expr, pred, sorts};
-ghost use Rattle.form.specs.Decode.{decode, decodeAll, declAt, decls};
+ghost use Rattle.form.specs.Decode.{decode, decodeAll, declAt, decls, gots};
 ghost use Rattle.form.specs.Internal.Heads.{startsLeaf};
-ghost use Rattle.reader.specs.Internal.Reads.{markTag, Told, ToldAll, ToldDecl, ToldDecls, ToldNoted, decodeIn};
+ghost use Rattle.reader.specs.Internal.Reads.{markTag, Told, ToldAll, ToldDecl, ToldDecls, ToldNoted, ToldOther, Fits, decodeIn, declsWithin};
 ghost use Rattle.form.specs.declared.head.Step.the-variants.{End, Bad};
 
 // Stores a mark, where there is room.
@@ -67,23 +67,11 @@ pub(crate) fn mark_expr(row: &[u32], marks: &mut [u32], at: usize, depth: u32, u
     }
     let tag = row[at];
     let head = expr_head(row, at + 1, tag);
-    match head {
-        Head::Kids(p, preds, exprs, binds) => {
-            mark_tag(marks, at, tag, under);
-            mark_kids(row, marks, p, preds, exprs, depth - 1, under + binds)
-        }
-        Head::Noted(p, preds, exprs, binds) => mark_noted(
-            row,
-            marks,
-            p,
-            preds,
-            exprs,
-            binds,
-            depth - 1,
-            under,
-        ),
-        Head::None => Step::Bad,
-    }
+    let Head::Kids(p, preds, exprs, binds) = head else {
+        return mark_other(row, marks, head, depth - 1, under);
+    };
+    mark_tag(marks, at, tag, under);
+    mark_kids(row, marks, p, preds, exprs, depth - 1, under + binds)
 }
 
 // A predicate at `at`, under so many open declarations.
@@ -99,23 +87,11 @@ pub(crate) fn mark_pred(row: &[u32], marks: &mut [u32], at: usize, depth: u32, u
     }
     let tag = row[at];
     let head = pred_head(row, at + 1, tag);
-    match head {
-        Head::Kids(p, preds, exprs, binds) => {
-            mark_tag(marks, at, tag, under);
-            mark_kids(row, marks, p, preds, exprs, depth - 1, under + binds)
-        }
-        Head::Noted(p, preds, exprs, binds) => mark_noted(
-            row,
-            marks,
-            p,
-            preds,
-            exprs,
-            binds,
-            depth - 1,
-            under,
-        ),
-        Head::None => Step::Bad,
-    }
+    let Head::Kids(p, preds, exprs, binds) = head else {
+        return mark_other(row, marks, head, depth - 1, under);
+    };
+    mark_tag(marks, at, tag, under);
+    mark_kids(row, marks, p, preds, exprs, depth - 1, under + binds)
 }
 
 // A declaration with its flag at `at`: a name and 0, or a name, 1 and an annotation.
@@ -176,6 +152,17 @@ fn mark_noted(
         return Step::Bad;
     };
     mark_exprs(row, marks, q, exprs, depth, under + binds)
+}
+
+// What follows the head of a quantifier with annotations; after any other head, none is read.
+fn mark_other(row: &[u32], marks: &mut [u32], head: Head, depth: u32, under: u32) -> Step
+    requires { ⌜ Fits head depth under ⌝ }
+    ensures { λ r. ⌜ ToldOther head depth under (now (row .entry)) (now (marks .entry)) (now (marks .exit)) r ⌝ }
+{
+    let Head::Noted(p, preds, exprs, binds) = head else {
+        return Step::Bad;
+    };
+    mark_noted(row, marks, p, preds, exprs, binds, depth, under)
 }
 
 // So many predicates, then so many expressions.
@@ -266,4 +253,21 @@ pub fn pred_at(row: &[u32], marks: &mut [u32], at: usize, depth: u32, under: u32
         return Step::Bad;
     }
     mark_pred(row, marks, at, depth, under)
+}
+
+// n declarations with flags at `at`, one of which at least has an annotation, under so many open declarations; where the depth or one of the
+// numbers is over 65,535, none are read.
+pub fn decls_at(row: &[u32], marks: &mut [u32], at: usize, n: u32, depth: u32, under: u32) -> Step
+    ensures { λ r. ⌜ ToldNoted at under (declsWithin depth under n (drop at (now (row .entry)))) (λ l. gots none l) (now (marks .entry)) (now (marks .exit)) r ⌝ }
+{
+    if Limit::NAME < depth {
+        return Step::Bad;
+    }
+    if Limit::NAME < under {
+        return Step::Bad;
+    }
+    if Limit::NAME < n {
+        return Step::Bad;
+    }
+    mark_noted(row, marks, at, 0, 0, n, depth, under)
 }

@@ -17,6 +17,7 @@ use Rattle.rules.specs.Fill.{Decl, nameOf, unnoted, listed, declare, unlisted, 
 use Rattle.rules.specs.Partial.{onNote, clear, joinWith, putRound}
 use Rattle.rules.specs.Shift.{lower}
 use Rattle.rules.proofs.WalkLaws.{and-left}
+use Rattle.rules.proofs.JoinLaws.{names-plain}
 use Rattle.reading.specs.Reading.{Reading, truth, same, child, valueOf, every, some, Env, cons, over, value}
 use Rattle.reading.specs.Premise.{has, push}
 use Rattle.reading.proofs.Same.{truth-bit, same-equal}
@@ -189,10 +190,6 @@ names-listed : (ds : Decls) → map nameOf (listed ds) ≡ namesOf ds
 names-listed undeclared = refl
 names-listed (bare n ds) = ap (λ z. n ∷ z) (names-listed ds)
 names-listed (typed n f ds) = ap (λ z. n ∷ z) (names-listed ds)
-
-names-plain : (ns : List ℕ) → map nameOf (map unnoted ns) ≡ ns
-names-plain [] = refl
-names-plain (n ∷ ns) = ap (λ z. n ∷ z) (names-plain ns)
 
 pub names-noted : (h : Form → Form) (ds : List Decl) → map nameOf (map (onNote h) ds) ≡ map nameOf ds
 names-noted h [] = refl

@@ -1,6 +1,6 @@
 -- The head round a body is that of the tree: alone, or with the declarations of the body's own quantifier behind. Assumes nothing.
 use mathlib.Core.Path.{_≡_, refl, ap, _∙_}
-use mathlib.Core.Bool.{Bool, true, false, _||_}
+use mathlib.Core.Bool.{Bool, true, false, _||_, or-true}
 use mathlib.Core.List.{List, [], _∷_, _++_, append-assoc, append-nil, map, map-append}
 use mathlib.Core.Option.{none as absent, some}
 use Prim.Native.Nat.{ℕ, _+_, _≤_}
@@ -12,7 +12,8 @@ use lib.Seq.{take-at}
 use Rattle.tree.specs.Form.{Form, pick, encode, encodeDecls}
 use Rattle.form.specs.Lists.{Place}
 use Rattle.rules.specs.Fill.{Decl, unnoted, nameOf, unlisted, isNoted, anyNoted, keptDecls, around}
-use Rattle.shift.proofs.AroundLaws.{names-plain, none-noted, headOf, encode-around, plain-around}
+use Rattle.rules.proofs.JoinLaws.{names-plain}
+use Rattle.shift.proofs.AroundLaws.{none-noted, headOf, encode-around, plain-around}
 use Rattle.replace.proofs.FillTree.{wordFor}
 use Rattle.decls.specs.Internal.Noted.{notedHead}
 use Rattle.decls.proofs.DeclLaws.{GoodDecls, decls-long, few-kept}
@@ -31,10 +32,6 @@ decls-append ((n, some f) ∷ a) b = rw (decls-append a b, append-assoc (encode 
 pub plain-behind : (a : List Decl) (ns : List ℕ) → anyNoted (a ++ map unnoted ns) ≡ anyNoted a
 plain-behind [] ns = none-noted ns
 plain-behind (d ∷ a) ns = ap (λ z. isNoted (d .1) || z) (plain-behind a ns)
-
-or-true : (b : Bool) → (b || true) ≡ true
-or-true true = refl
-or-true false = refl
 
 pub noted-behind : (a b : List Decl) → anyNoted b ≡ true → anyNoted (a ++ b) ≡ true
 noted-behind [] b h = h

@@ -12,20 +12,12 @@ use lib.ListN.{length, replicate, length-append, length-replicate}
 use mathlib.Core.Bool.{_||_}
 use Rattle.tree.specs.Form.{bound, Form, leaf}
 use Rattle.form.specs.Lists.{Place, kept, filled}
-use Rattle.rules.specs.Walk.{Outer, named, dangling, walk, up, lift, put, subst, collect, each}
+use Rattle.rules.specs.Walk.{Outer, named, dangling, walk, put, subst, collect, each}
 use Rattle.rules.specs.Shift.{reaches, lower}
 use Rattle.rules.specs.Fill.{Decl, keptCount, fillIndex, fillFor, quantifier, quantified, around, quantify}
 use Rattle.rules.specs.Partial.{lowerPlace, onNote, clear, putRound}
-use Rattle.rules.proofs.WalkLaws.{self, always, each-always, walk-agree}
-use Rattle.rules.proofs.TreeLaws.{walk-self}
+use Rattle.rules.proofs.TreeLaws.{lift-zero}
 use Rattle.rules.proofs.JoinLaws.{fit, clear-fit, lower-notes, onIndex, unusedNotes, notes-same, notes-unused, subst-around, quantified-around, round-joined, round-unclear}
-
-zero-up : (k : ℕ) (x : Outer) → up 0 k x ≡ self k x
-zero-up k (named m) = refl
-zero-up k (dangling i) = rw add-zero
-
-pub lift-zero : (f : Form) → lift 0 f ≡ f
-lift-zero f = walk-agree always (up 0) self (λ k x h. zero-up k x) 0 f (each-always 0 f) ∙ walk-self 0 f
 
 map-reverse : (h : Place → Place) (ps : List Place) → reverse (map h ps) ≡ map h (reverse ps)
 map-reverse h [] = refl

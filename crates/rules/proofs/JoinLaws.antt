@@ -1,6 +1,6 @@
 -- When declarations join the body's own quantifier, and what its annotations become. Assumes nothing.
 use mathlib.Core.Path.{_≡_, refl, ap, sym, _∙_}
-use mathlib.Core.Bool.{Bool, true, false, not, _&&_, _||_}
+use mathlib.Core.Bool.{Bool, true, false, not, _&&_, _||_, and-true}
 use mathlib.Core.List.{List, [], _∷_, _++_, map}
 use mathlib.Core.Option.{Option, none as absent, some}
 use Prim.Native.Nat.{ℕ, zero, suc, _+_, _-_, _≤_, _<_}
@@ -17,7 +17,7 @@ use Rattle.rules.specs.Fill.{Decl, unnoted, nameOf, listed, unlisted, is
 use Rattle.rules.specs.Prune.{isNot}
 use Rattle.rules.specs.Partial.{onNote, clear, putRound}
 use Rattle.rules.proofs.WalkLaws.{eachAll, eachDecls, walk-names, binding-add, fuse-level, subst-subst, self, and-left, and-right, always, each-agree, each-same, each-all, each-always, walk-agree}
-use Rattle.rules.proofs.TreeLaws.{after, walk-self, each-walk}
+use Rattle.rules.proofs.TreeLaws.{after, walk-self, lift-zero, each-walk}
 
 -- declarations as a list and as part of a tree
 pub listed-unlisted : (ds : List Decl) → listed (unlisted ds) ≡ ds
@@ -32,6 +32,10 @@ or-none false b e = (refl, e)
 none-left : (n : ℕ) (x : Option Form) → isNoted x ≡ false → _≡_ {A = Decl} (unnoted n) (n, x)
 none-left n absent e = refl
 none-left n (some f) e = absurd (clash cc)
+
+pub names-plain : (ns : List ℕ) → map nameOf (map unnoted ns) ≡ ns
+names-plain [] = refl
+names-plain (n ∷ ns) = ap (λ z. n ∷ z) (names-plain ns)
 
 pub bare-decls : (ds : List Decl) → anyNoted ds ≡ false → map unnoted (map nameOf ds) ≡ ds
 bare-decls [] e = refl
@@ -105,13 +109,6 @@ pub round-stays : (t : ℕ) → (eqb t 851 || eqb t 852) ≡ true → (ns : List
 unfolding putRound
 round-stays t which [] s ss b = ap (λ z. quantify t z b) (lift-none (s ∷ ss))
   where
-    zero-up : (k : ℕ) (x : Outer) → up 0 k x ≡ self k x
-    zero-up k (named m) = refl
-    zero-up k (dangling i) = rw add-zero
-
-    lift-zero : (f : Form) → lift 0 f ≡ f
-    lift-zero f = walk-agree always (up 0) self (λ k x h. zero-up k x) 0 f (each-always 0 f) ∙ walk-self 0 f
-
     lift-none : (ds : List Decl) → map (onNote (lift 0)) ds ≡ ds
     lift-none [] = refl
     lift-none ((n, absent) ∷ ds) = ap (λ z. (n, absent) ∷ z) (lift-none ds)
@@ -290,10 +287,6 @@ module _ (p : ℕ → Bool) (f : Form) where
 abbrev pub unusedNotes : (ℕ → Bool) → ℕ → List Decl → Bool
 unusedNotes p zero ds = true
 unusedNotes p (suc i) ds = (p i || eachDecls (isNot i) 0 (unlisted ds)) && unusedNotes p i ds
-
-and-true : (b : Bool) → (b && true) ≡ b
-and-true true = refl
-and-true false = refl
 
 module _ (p : ℕ → Bool) (ds : List Decl) where
   abbrev carrier : Form

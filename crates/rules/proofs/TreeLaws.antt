@@ -5,6 +5,7 @@ use mathlib.Core.Bool.{Bool, true, false}
 use mathlib.Core.List.{List, _∷_}
 use mathlib.Core.Option.{none as absent, some}
 use Prim.Native.Nat.{ℕ, suc, _+_, _-_, _≤_}
+use native.Mathlib.Nat.{add-zero}
 use native.Mathlib.Omega.{arith}
 use borrow.Author.Tests.{le-leb, leb-true, leb-false, eq-eqb}
 use lib.Dec.{leb}
@@ -22,7 +23,7 @@ use Rattle.rules.specs.Walk.{Binding, inside, outside, binding, Outer, n
 use Rattle.rules.specs.Dangling.{isNamed, closed}
 use Rattle.rules.specs.Shift.{reaches, fall, lower, shift, shiftOutcome}
 use Rattle.rules.specs.Free.{orName, seek}
-use Rattle.rules.proofs.WalkLaws.{eachAll, eachDecls, walk-names, binding-add, binding-back, fuse-level, shift-shift, self, each-agree, each-all, walk-agree}
+use Rattle.rules.proofs.WalkLaws.{eachAll, eachDecls, walk-names, binding-add, binding-back, fuse-level, shift-shift, self, each-agree, each-all, always, each-always, walk-agree}
 
 -- the walk that puts each identifier for itself
 self-index : (k i : ℕ) (z : Binding) → binding k i ≡ z → walkIndex self k i z ≡ leaf (bound i)
@@ -46,6 +47,14 @@ mutual
   walk-selfAll : (k : ℕ) (fs : Forms) → walkAll self k fs ≡ fs
   walk-selfAll k none = refl
   walk-selfAll k (more f fs) = rw (walk-self k f, walk-selfAll k fs)
+
+-- a lift by 0
+zero-up : (k : ℕ) (x : Outer) → up 0 k x ≡ self k x
+zero-up k (named m) = refl
+zero-up k (dangling i) = rw add-zero
+
+pub lift-zero : (f : Form) → lift 0 f ≡ f
+lift-zero f = walk-agree always (up 0) self (λ k x h. zero-up k x) 0 f (each-always 0 f) ∙ walk-self 0 f
 
 leb-same : (a b c d : ℕ) → b + c ≡ a + d → leb a b ≡ leb c d
 leb-same a b c d e = go (leb a b) (leb c d) refl refl

@@ -16,6 +16,7 @@ use Rattle.form.specs.Decode.{Head, head, flagged, bad, addWord, addName, only,
 use Rattle.form.proofs.DecodeLaws.{clash, no-flagged, Ok, ok-node, ok-noted, OkAll, ok-none, ok-more}
 use Rattle.rules.specs.Fill.{Decl, unnoted, nameOf, listed, declare, unlisted, anyNoted, quantifier, other, quantified, around}
 use Rattle.rules.proofs.WalkLaws.{and-left, and-right}
+use Rattle.rules.proofs.JoinLaws.{names-plain}
 use Rattle.shift.specs.Internal.Items.{items, apart}
 use Rattle.shift.proofs.RowLaws.{zeros, zeros-length, marksOf, marksDecls, marks-lengthDecls, itemsOf, items-encode}
 use Rattle.shift.proofs.WordwiseLaws.{apart-encode}
@@ -28,10 +29,6 @@ names-declare n (some f) ds = refl
 pub names-unlisted : (ds : List Decl) → namesOf (unlisted ds) ≡ map nameOf ds
 names-unlisted [] = refl
 names-unlisted (d ∷ ds) = names-declare (d .0) (d .1) (unlisted ds) ∙ ap (λ z. d .0 ∷ z) (names-unlisted ds)
-
-pub names-plain : (ns : List ℕ) → map nameOf (map unnoted ns) ≡ ns
-names-plain [] = refl
-names-plain (n ∷ ns) = ap (λ z. n ∷ z) (names-plain ns)
 
 pub none-noted : (ns : List ℕ) → anyNoted (map unnoted ns) ≡ false
 none-noted [] = refl
@@ -148,7 +145,7 @@ plain-heading (w ∷ ws) o ds p e r q =
     let (z, n, s, t) = names-count w 1 0 ws o′ ds p e r h in
     heading-of (length ds) o p e (rw n b) (sym x ∙ rw (z, n)) s t
 
-flags-heading : (ws o : List ℕ) (n p e : ℕ) (r : List ℕ) → read (ask 1 32 (λ n. flags n 1 0)) ws ≡ flagged o n p e r → Heading o n p e
+pub flags-heading : (ws o : List ℕ) (n p e : ℕ) (r : List ℕ) → read (ask 1 32 (λ n. flags n 1 0)) ws ≡ flagged o n p e r → Heading o n p e
 unfolding read
 flags-heading [] o n p e r q = absurd (clash cc)
 flags-heading (w ∷ ws) o n p e r q = go (between 1 32 w) refl q
@@ -168,7 +165,7 @@ own-plain t true b x y z = rw (eqb-true t 851 x)
 own-plain t false true x y z = rw (eqb-true t 852 y)
 own-plain t false false x y z = absurd (clash cc)
 
-own-noted : (t : ℕ) (a b : Bool) → eqb t 861 ≡ a → eqb t 862 ≡ b → (a || b) ≡ true → (own pred t ≡ ask 1 32 (λ n. flags n 1 0)) × (t ≡ t - 10 + 10) × ((eqb (t - 10) 851 || eqb (t - 10) 852) ≡ true)
+pub own-noted : (t : ℕ) (a b : Bool) → eqb t 861 ≡ a → eqb t 862 ≡ b → (a || b) ≡ true → (own pred t ≡ ask 1 32 (λ n. flags n 1 0)) × (t ≡ t - 10 + 10) × ((eqb (t - 10) 851 || eqb (t - 10) 852) ≡ true)
 unfolding own ownOf shapeOf predTags
 own-noted t true b x y z = rw (eqb-true t 861 x) (refl, refl, refl)
 own-noted t false true x y z = rw (eqb-true t 862 y) (refl, refl, refl)
@@ -192,7 +189,7 @@ one-kid (ok-more {f = f} h ok-none) = (f, refl, h)
 pub plain-around : (t : ℕ) (ds : List ℕ) (b : Form) → node t (length ds ∷ []) ds (more b none) ≡ around t (map unnoted ds) b
 plain-around t ds b = rw (none-noted ds, length-map ds unnoted, names-plain ds)
 
-noted-around : (t : ℕ) (ds : Decls) (b : Form) → anyTyped ds ≡ true → noted (t + 10) (length (namesOf ds) ∷ []) ds (more b none) ≡ around t (listed ds) b
+pub noted-around : (t : ℕ) (ds : Decls) (b : Form) → anyTyped ds ≡ true → noted (t + 10) (length (namesOf ds) ∷ []) ds (more b none) ≡ around t (listed ds) b
 noted-around t ds b a = rw (noted-listed ds, a, listed-length ds, unlisted-listed ds)
 
 quant-plain : {d : ℕ} (t : ℕ) (o ds : List ℕ) (ks : Forms) → (eqb t 851 || eqb t 852) ≡ true → Ok (suc d) pred (node t o ds ks) → Quant d (node t o ds ks)
@@ -268,7 +265,7 @@ plain-only (w ∷ ws) o n p e r q = go (between 1 32 w) (names w 1 0 ws) refl q
     go true bad k q = clash cc
     go false h k q = clash cc
 
-flags-only : (ws o ds : List ℕ) (p e : ℕ) (r : List ℕ) → read (ask 1 32 (λ n. flags n 1 0)) ws ≡ head o ds p e r → ⊥
+pub flags-only : (ws o ds : List ℕ) (p e : ℕ) (r : List ℕ) → read (ask 1 32 (λ n. flags n 1 0)) ws ≡ head o ds p e r → ⊥
 unfolding read
 flags-only [] o ds p e r q = clash cc
 flags-only (w ∷ ws) o ds p e r q = go (between 1 32 w) q

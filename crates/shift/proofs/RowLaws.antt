@@ -1,6 +1,6 @@
 -- A form's row and its marks, item by item: the link between the trees and the loops. Assumes nothing.
 use mathlib.Core.Path.{_≡_, refl, ap, sym, _∙_}
-use mathlib.Core.Bool.{Bool, true, false, _&&_}
+use mathlib.Core.Bool.{Bool, true, false, _&&_, and-true}
 use mathlib.Core.List.{List, [], _∷_, _++_, append-assoc, append-nil}
 use Prim.Native.Nat.{ℕ, zero, suc, _+_, _-_, _≤_}
 use native.Mathlib.Nat.{sub-zero, add-zero, add-assoc}
@@ -242,10 +242,6 @@ walk-items g act keep does k f = rw add-zero at (walk-items-in 0 g act keep (λ 
 and-assoc : (a b c : Bool) → (a && b && c) ≡ (a && (b && c))
 and-assoc true b c = refl
 and-assoc false b c = refl
-
-and-true : (a : Bool) → (a && true) ≡ a
-and-true true = refl
-and-true false = refl
 
 all-append : (q : Item → Bool) (a b : List Item) → allItems q (a ++ b) ≡ (allItems q a && allItems q b)
 unfolding allItems

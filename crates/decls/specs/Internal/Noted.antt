@@ -4,9 +4,17 @@ use mathlib.Core.List.{List, [], _∷_, _++_}
 use Prim.Native.Nat.{ℕ, zero, suc, _+_, _*_}
 use lib.Dec.{leb, ltb, eqb}
 use lib.ListN.{length, getD}
-use Rattle.tree.specs.Form.{pick}
+use Rattle.tree.specs.Form.{pick, anyTyped, encodeDecls}
+use Rattle.form.specs.Decode.{GotDecls, declared, no-decls}
+use Rattle.form.specs.declared.head.Step.{Step}
+use Rattle.form.specs.declared.head.Step.the-variants.{End, Bad}
 use Rattle.places.specs.Internal.Positions.{partWords}
 use Rattle.replace.specs.Internal.Pieces.{part}
+
+-- where the declarations that were read at a position end, if one of them at least has an annotation
+unfoldable pub endDecls : ℕ → GotDecls → Step
+endDecls at (declared ds r) = pick (anyTyped ds) (End (at + length (encodeDecls ds))) Bad
+endDecls at no-decls = Bad
 
 -- the second word of a row that begins with a quantifier's tag; 0 for any other
 unfoldable pub countIn : List ℕ → ℕ

@@ -38,10 +38,10 @@ plainRow sure list lm row marks t room =
     replaced sure Predicate (headWords (getD row 0 0) (keptWords (take (t .n) (t .words)) (drop 2 row))) (fillPlan t) list lm (drop (2 + t .n) row) (drop (2 + t .n) marks) room
 
 -- one with annotations; and either
-unfoldable pub notedRow : List ℕ → List ℕ → List ℕ → List ℕ → Table → ℕ → Outcome
-notedRow list lm row marks t room =
+unfoldable pub notedRow : Bool → List ℕ → List ℕ → List ℕ → List ℕ → Table → ℕ → Outcome
+notedRow sure list lm row marks t room =
     let from = bodyStart row (t .n) in
-    replaced false Predicate (notedHead (getD row 0 0 - 10) (take (t .n) (t .words)) row 8192) (fillPlan t) list lm (drop from row) (drop from marks) room
+    replaced sure Predicate (notedHead (getD row 0 0 - 10) (take (t .n) (t .words)) row 8192) (fillPlan t) list lm (drop from row) (drop from marks) room
 
 unfoldable pub filledRow : Bool → List ℕ → List ℕ → List ℕ → List ℕ → Table → ℕ → Outcome
-filledRow sure list lm row marks t room = pick (ltb (getD row 0 0) 860) (plainRow sure list lm row marks t room) (notedRow list lm row marks t room)
+filledRow sure list lm row marks t room = pick (ltb (getD row 0 0) 860) (plainRow sure list lm row marks t room) (notedRow sure list lm row marks t room)

@@ -1,6 +1,6 @@
 -- Declarations with annotations of which one is replaced: the head that is kept, and the head that is joined with the body's own.
 use mathlib.Core.Path.{_≡_}
-use mathlib.Core.Bool.{Bool, true, false, _&&_}
+use mathlib.Core.Bool.{Bool, true, false, not, _&&_}
 use mathlib.Core.List.{List, [], _∷_, _++_, map}
 use Prim.Native.Nat.{ℕ, _+_, _-_, _*_, _≤_, _<_}
 use lib.Dec.{eqb, leb, ltb}
@@ -14,7 +14,7 @@ use Rattle.places.specs.Internal.Sides.{aboveWords}
 use Rattle.replace.specs.Internal.Pieces.{planned, downPlan, placedRow}
 use Rattle.decls.specs.Internal.Noted.{notedHead}
 use Rattle.decls.specs.Internal.Used.{clearedIn}
-use Rattle.one_point.specs.Internal.Reduce.{operatorIn, declsIn, oneTable, Putting}
+use Rattle.one_point.specs.Internal.Reduce.{operatorIn, declsIn, oneTable, placedOutcome, isSimple, targetOf, namedRow, Putting}
 use Rattle.one_point.specs.declared.noted.Joining.{Joining}
 use Rattle.one_point.specs.declared.noted.Joining.the-variants.{Apart, Unused, Used}
 
@@ -25,13 +25,13 @@ pub record Flags (head row : List ℕ) : Type 0 where
   pub short : length row ≤ 8192
 
 -- a head, and the body from a word on with the first of its outermost m declarations replaced
-abbrev pub underRow : List ℕ → ℕ → List ℕ → List ℕ → List ℕ → List ℕ → ℕ → ℕ → Outcome
-underRow head m part pm body marks start room = placedRow false head (oneTable m (length part)) m part pm (drop start body) (drop start marks) room
+abbrev pub underRow : Bool → List ℕ → ℕ → List ℕ → List ℕ → List ℕ → List ℕ → ℕ → ℕ → Outcome
+underRow sure head m part pm body marks start room = placedRow sure head (oneTable m (length part)) m part pm (drop start body) (drop start marks) room
 
 -- the declarations but the one at p round the body
-unfoldable pub keptRow : List ℕ → List ℕ → ℕ → List ℕ → List ℕ → List ℕ → List ℕ → ℕ → Outcome
-keptRow head row p part pm body marks room =
-    underRow (notedHead (operatorIn head) (take (getD head 1 0) (set (replicate 32 0) p 1)) row 8192) (getD head 1 0 - p) part pm body marks 0 room
+unfoldable pub keptRow : Bool → List ℕ → List ℕ → ℕ → List ℕ → List ℕ → List ℕ → List ℕ → ℕ → Outcome
+keptRow sure head row p part pm body marks room =
+    underRow sure (notedHead (operatorIn head) (take (getD head 1 0) (set (replicate 32 0) p 1)) row 8192) (getD head 1 0 - p) part pm body marks 0 room
 
 -- names behind a head, with flags where it has them, and where they end
 abbrev pub withNames : List ℕ → List ℕ → ℕ → List ℕ
@@ -75,7 +75,7 @@ pub record WroteJoined (head : List ℕ) (k : ℕ) (ws : List ℕ) (r : ℕ) (l 
 
 unfoldable pub joinedRow : List ℕ → ℕ → List ℕ → List ℕ → List ℕ → List ℕ → List ℕ → ℕ → ℕ → Outcome
 joinedRow head k ws part pm body marks start room =
-    pick (leb (length (joinedHead head k ws)) 8192) (underRow (joinedHead head k ws) 1 part pm body marks start room) (refusal 7)
+    pick (leb (length (joinedHead head k ws)) 8192) (underRow false (joinedHead head k ws) 1 part pm body marks start room) (refusal 7)
 
 -- whether all words are 1
 unfoldable pub allOnes : List ℕ → Bool
@@ -89,3 +89,17 @@ joiningBy j high ws = pick (allOnes (take j ws)) (pick (eqb (getD ws j 0) 1) Unu
 
 unfoldable pub joiningIn : ℕ → List ℕ → List ℕ → List ℕ → Joining
 joiningIn n part notes raised = joiningBy (n - 1) (ltb (n - 1) 32 && aboveWords (n - 1) part) (clearedIn n notes raised 0 (length notes) (replicate (n + 1) 1))
+
+-- whether the declarations of a head with annotations stay apart from the body's own quantifier when the one at p is replaced: none is in front of
+-- it, one stays behind it, or the body has another operator
+unfoldable pub isApart : List ℕ → ℕ → List ℕ → Bool
+isApart head p body =
+    let t = getD head 0 0 in
+    let u = getD body 0 0 in
+    pick (ltb 860 t) (pick (eqb p 0) true (pick (eqb (p + 1) (getD head 1 0)) (pick (eqb u t) false (not (eqb u (t - 10)))) true)) false
+
+-- the place p of a head filled by the part in a body: by names, apart, or by the definition
+unfoldable pub restRow : Bool → List ℕ → ℕ → List ℕ → List ℕ → List ℕ → List ℕ → ℕ → Outcome
+restRow sure head p part pm body marks room =
+    pick (isSimple head body) (namedRow sure (getD head 0 0) (drop 2 head) p part pm body marks room)
+    (pick (isApart head p body) (keptRow sure head head p part pm body marks room) (placedOutcome (operatorIn head) (declsIn head) (targetOf head p) part body room))

@@ -8,18 +8,20 @@ use lib.Dec.{eqb, ltb}
 use lib.ListN.{length, getD, take, drop, set, replicate}
 use Rattle.tree.specs.Form.{Form, pick, encode, encodeDecls}
 use Rattle.tree.specs.Tag.{expr, pred, own}
-use Rattle.form.specs.Decode.{read, Got, got, no-form, decode, GotDecls, declared, no-decls, decls, Whole, one, not-one, whole, found, formOf}
+use Rattle.form.specs.Decode.{read, Got, got, no-form, decode, GotDecls, declared, no-decls, decls, Whole, one, not-one, whole}
 use Rattle.form.specs.Internal.Heads.{headAt}
+use Rattle.form.specs.declared.head.Step.{Step}
+use Rattle.form.specs.declared.head.Step.the-variants.{End, Bad}
 use Rattle.form.specs.declared.head.Head.{Head}
 use Rattle.form.specs.declared.head.Head.the-variants.{Kids, Noted, None as NoHead}
 use Rattle.form.specs.Answer.{Outcome, refusal, finish}
-use Rattle.form.specs.declared.answer.Kind.the-variants.{Predicate}
 use Rattle.form.specs.declared.answer.Answer.{Answer}
 use Rattle.form.specs.declared.answer.Answer.the-variants.{Done, No}
-use Rattle.reader.specs.Internal.Reads.{mark}
+use Rattle.reader.specs.Internal.Reads.{mark, declsWithin}
 use Rattle.reader.specs.declared.lists.Table.{Table}
-use Rattle.replace.specs.Internal.Pieces.{declaredIn, areNames, depthLeft}
+use Rattle.replace.specs.Internal.Pieces.{areNames, depthLeft}
 use Rattle.replace.specs.Internal.Partial.{partialRow}
+use Rattle.decls.specs.Internal.Noted.{countIn, endDecls}
 use Rattle.rules.specs.Fill.{Decl, unnoted, nameOf, listed, unlisted, anyNoted}
 use Rattle.rules.specs.Replacement.{above}
 use Rattle.rules.specs.Scan.{scan}
@@ -31,14 +33,18 @@ use Rattle.one_point.specs.declared.one_point_inference.Quantifier.the-v
 abbrev pub isQuantifier : ℕ → Bool
 isQuantifier t = eqb t 851 || eqb t 852
 
--- the head of a quantified predicate that a row begins with
-abbrev pub headed : ℕ → Head → Quantifier
-headed t (Kids p x y n) = Of t p
-headed t (Noted p x y n) = None
-headed t NoHead = None
+-- where the body of a quantified predicate begins: behind the head that the row begins with, whose annotations are expressions
+abbrev pub bodyAfter : Step → Quantifier
+bodyAfter (End p) = Of p
+bodyAfter Bad = None
+
+abbrev pub headed : List ℕ → Head → Quantifier
+headed row (Kids p x y n) = Of p
+headed row (Noted p x y n) = bodyAfter (endDecls p (declsWithin 63 0 n (drop p row)))
+headed row NoHead = None
 
 unfoldable pub quantifierIn : List ℕ → Quantifier
-quantifierIn row = pick (eqb (declaredIn row) 0) None (headed (getD row 0 0) (headAt 1 (read (own pred (getD row 0 0)) (drop 1 row))))
+quantifierIn row = pick (eqb (countIn row) 0) None (headed row (headAt 1 (read (own pred (getD row 0 0)) (drop 1 row))))
 
 -- the operator of a head, 851 or 852, and its declarations: the words from the third on, or what they say where the declarations have flags
 unfoldable pub operatorIn : List ℕ → ℕ
@@ -162,15 +168,10 @@ isSimple head body = not (ltb 860 (getD head 0 0)) && not (eqb (getD body 0 0) (
 abbrev pub targetOf : List ℕ → ℕ → ℕ
 targetOf head p = getD head 1 0 - (p + 1)
 
--- the place p of a head filled by the part in a body
+-- the place p of names filled by the part in a body
 abbrev pub namedRow : Bool → ℕ → List ℕ → ℕ → List ℕ → List ℕ → List ℕ → List ℕ → ℕ → Outcome
 namedRow sure t ns p part pm body marks room =
     partialRow sure t (take p ns) (drop (p + 1) ns) (oneTable (length ns - p) (length part)) (length ns - p) part pm body marks room
-
-unfoldable pub restRow : Bool → List ℕ → ℕ → List ℕ → List ℕ → List ℕ → List ℕ → ℕ → Outcome
-restRow sure head p part pm body marks room =
-    pick (isSimple head body) (namedRow sure (getD head 0 0) (drop 2 head) p part pm body marks room)
-    (placedOutcome (operatorIn head) (declsIn head) (targetOf head p) part body room)
 
 -- what the place p can be filled with: the part with its marks, and the body with those that were made under the declarations from p on
 pub record Putting (head : List ℕ) (p : ℕ) (part pm body marks : List ℕ) : Type 0 where
@@ -179,14 +180,3 @@ pub record Putting (head : List ℕ) (p : ℕ) (part pm body marks : List ℕ) :
   pub placing : Placing head index part body
   pub marking : Marking part pm
   pub marked : marks ≡ mark (placing .form) 0 (suc index) (replicate (length body) 0)
-
--- whether a row begins with the tag of a quantifier whose declarations have flags
-unfoldable pub notedRow : List ℕ → Bool
-notedRow row = eqb (getD row 0 0) 861 || eqb (getD row 0 0) 862
-
--- a row that is one predicate, and the room to work in
-pub record CheckedRow (row : List ℕ) (work : ℕ) : Type 0 where
-  pub form : Form
-  pub is : formOf Predicate row ≡ found pred form
-  pub short : length row ≤ 8192
-  pub enough : 16384 ≤ work

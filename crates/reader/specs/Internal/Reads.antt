@@ -2,20 +2,22 @@
 -- more than the number of declarations that are open there.
 use mathlib.Core.Path.{_≡_}
 use mathlib.Core.List.{List, [], _∷_}
-use Prim.Native.Nat.{ℕ, suc, _+_}
+use Prim.Native.Nat.{ℕ, suc, _+_, _-_, _*_, _^_, _<_}
 use mathlib.Core.Bool.{Bool, true, false, _&&_}
 use mathlib.Core.Option.{Option, none as absent, some}
 use lib.Dec.{leb}
-use lib.ListN.{length, set, take, replicate}
+use lib.ListN.{length, set, take, drop, replicate}
 use Rattle.tree.specs.Form.{Form, leaf, node, noted, Decls, undeclared, bare, typed, namesOf, anyTyped, Forms, none, more, pick, member, encode, encodeDecls, encodeAll}
-use Rattle.form.specs.Decode.{Got, got, no-form, Gots, gots, no-forms, GotDecl, gotBare, gotTyped, no-decl, GotDecls, declared, no-decls, isLeaf, decode, Found, found, missing}
-use Rattle.tree.specs.Tag.{Sort, expr, shapeOf}
+use Rattle.form.specs.Decode.{Got, got, no-form, Gots, gots, no-forms, GotDecl, gotBare, gotTyped, no-decl, GotDecls, declared, no-decls, isLeaf, decode, decodeAll, decls, Found, found, missing}
+use Rattle.tree.specs.Tag.{Sort, expr, sorts, shapeOf}
 use Rattle.form.specs.Lists.{Place, kept, filled, Entry, entry, wordOf, entryWords, distinct}
 use Rattle.form.specs.declared.answer.Kind.{Kind}
 use Rattle.form.specs.declared.answer.Kind.the-variants.{Expression, Predicate, Either}
 use Rattle.tree.specs.declared.tag.Shape.{Shape}
 use Rattle.tree.specs.declared.tag.Shape.the-variants.{Unknown, Plain, Name, Value, Exprs, Preds, Apply, Compr, Quant, NotedCompr, NotedQuant}
 use Rattle.reader.specs.declared.lists.Table.{Table}
+use Rattle.form.specs.declared.head.Head.{Head}
+use Rattle.form.specs.declared.head.Head.the-variants.{Kids, Noted, None}
 use Rattle.form.specs.declared.head.Step.{Step}
 use Rattle.form.specs.declared.head.Step.the-variants.{End, Bad}
 
@@ -63,9 +65,32 @@ ToldNoted at u (declared ds x) k a b r =
     pick (anyTyped ds) (ToldAll (at + length (encodeDecls ds)) (u + length (namesOf ds)) (k x) (markDecls ds at u a) b r) (r ≡ Bad)
 ToldNoted at u no-decls k a b r = r ≡ Bad
 
+-- the same by the head that was read, under u declarations and at most d deep; after a head without annotations nothing is read
+unfoldable pub ToldOther : Head → ℕ → ℕ → List ℕ → List ℕ → List ℕ → Step → Type 0
+ToldOther (Noted p x y w) d u row a b r =
+    ToldNoted p u (decls (λ s l. decode d s l) w (drop p row)) (λ l. decodeAll (λ s l. decode d s l) (sorts x y) l) a b r
+ToldOther (Kids p x y w) d u row a b r = r ≡ Bad
+ToldOther None d u row a b r = r ≡ Bad
+
+-- the declarations of that head can be counted: the number that is open in a form of depth d is a word
+unfoldable pub Fits : Head → ℕ → ℕ → Type 0
+Fits (Noted p x y w) d u = u + w + 32 * d < 2 ^ 32
+Fits (Kids p x y w) d u = Unit {0}
+Fits None d u = Unit {0}
+
+-- how many of n words are left after that head
+unfoldable pub wordsAfter : Head → ℕ → ℕ
+wordsAfter (Noted p x y w) n = n - p
+wordsAfter (Kids p x y w) n = 0
+wordsAfter None n = 0
+
 -- no form is read where the depth or the number of open declarations is over 65,535
 unfoldable pub decodeIn : ℕ → ℕ → Sort → List ℕ → Got
 decodeIn d u s ws = pick (leb d 65535 && leb u 65535) (decode d s ws) no-form
+
+-- nor declarations, where there are more than 65,535
+unfoldable pub declsWithin : ℕ → ℕ → ℕ → List ℕ → GotDecls
+declsWithin d u n ws = pick (leb d 65535 && (leb u 65535 && leb n 65535)) (decls (λ s l. decode d s l) n ws) no-decls
 
 -- whether a form was found, and its marks if it was
 abbrev pub isFound : Found → Bool

@@ -6,7 +6,8 @@ use native.Mathlib.Omega.{arith}
 use Rattle.shift.proofs.CheckedLaws.{passed}
 use Rattle.places.proofs.SidesLaws.{told-plain, told-marks, told-not-bad}
 use Rattle.one_point.proofs.HeadedLaws.{head-two, head-count}
-use Rattle.one_point.proofs.PlaceLaws.{marking-of, can-raise, raised-rest, place-low, putting, sure-fitting, placed-row}
+use Rattle.one_point.proofs.PlaceLaws.{marking-of, can-raise, raised-rest, place-low, putting, sure-fitting}
+use Rattle.one_point.proofs.RestLaws.{placed-row}
 use borrow.Author.Needs.{needs}
 use Rattle.one_point.proofs.reduce.place.Statement.{statement}
 use Rattle.one_point.proofs.reduce.place.Tie as tie
