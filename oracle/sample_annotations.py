@@ -4,7 +4,7 @@
   sample_annotations.py [--oracle target/oracle] [--each N] > LIST        a line, a tab, the answer
 
 First come the lines of `written` below, for each rule and each position; then, of random and of all small lines (gen.py), the shortest that
-have a trait of `traits` which no line before them has, up to N for each command. The answer is the Rust's where it has one (compare.py). It has
+have a trait of `traits` which no line before them has, up to N for each command; then those of `borders`. The answer is the Rust's where it has one (compare.py). It has
 none where a row breaks, where brackets do not fit, and where a joined quantifier's annotations have a dangling index (docs/DIFFERENCES.md):
 there it is that of the model of crates/cases, which must agree with the Rust on all others. Counts go to standard error.
 """
@@ -141,6 +141,51 @@ def written():
         yield "[shift 0 %s]" % f
 
 
+# ----- lines at the edges where a result is checked, and where a head has a row of another length
+
+
+def nots(n, f):
+    return "[8 " * n + f + "]" * n
+
+
+def expression(depth):
+    return "[751 " * (depth - 1) + "[2 4]" + "]" * (depth - 1)
+
+
+def wide(n):
+    """An annotation of n words."""
+    return "[4 %d %s]" % ((n - 2) // 2, " ".join(["[1 7]"] * ((n - 2) // 2))) if n % 2 == 0 else "[751 %s]" % wide(n - 1)
+
+
+def borders():
+    """Fill and one point on rows as deep as results are sure to be forms, one less and one more (docs/DECISIONS.md 34, 47), by the depth of the body
+    and by that of an annotation; replacing words over 63,487; rows and heads of 255 to 257 words (docs/DECISIONS.md 60)."""
+    for e in (1, 2, 3, 5, 8, 9, 33):
+        for more in (-1, 0, 1):
+            body = nots(62 - e + more, "[9 [2 0]]")          # the row is 65 - e + more deep
+            if 62 - e + more <= 61:
+                yield "[fill [[] %s] [862 2 4 1 [2 0] 5 0 %s]]" % (expression(e), body)
+                yield "[fill [%s] [861 1 4 1 [2 0] %s]]" % (expression(e), body)
+            note = "[5 %s]" % nots(61 - e + more, "[610]")     # and so is this one
+            yield "[fill [[] %s] [862 2 4 1 %s 5 0 [9 [2 0]]]]" % (expression(e), note)
+            yield "[point [862 2 4 1 %s 5 0 [351 2 [101 [2 1] %s] [9 [2 1]]]]]" % (note, expression(e))
+    for e in (1, 3, 4, 5, 8):
+        for n in range(56, 62):
+            yield "[point [862 2 4 1 [2 0] 5 0 [351 2 [101 [2 0] %s] %s]]]" % (expression(e), nots(n - 2, "[9 [2 0]]"))
+            if e in (3, 4):
+                yield "[point [861 2 4 0 5 1 [2 0] [251 [101 [2 1] %s] %s]]]" % (expression(e), nots(n - 2, "[9 [2 1]]"))
+    for v in (63486, 63487, 63488, 65535):
+        for f in ("[fill [[] [2 %d]] [862 2 4 1 [2 0] 5 0 [862 1 6 1 [2 0] [9 [2 1]]]]]", "[point [862 2 4 0 5 1 [2 0] [351 2 [101 [2 0] [2 %d]] [852 1 6 [9 [2 1]]]]]]"):
+            yield f % v
+    for n in range(253, 259):
+        yield "[prune [862 2 4 1 %s 5 0 [9 [2 1]]]]" % wide(n - 9)                                           # rows of n words
+        yield "[fill [[] [1 5]] [861 2 4 1 %s 5 0 [9 [2 0]]]]" % wide(n - 9)
+        yield "[point [862 2 4 1 %s 5 0 [351 2 [101 [2 0] [1 7]] [9 [2 1]]]]]" % wide(n - 11)                 # heads of n - 5 words and more
+        yield "[point [862 2 4 1 %s 5 0 [351 2 [101 [2 0] [1 7]] [9 [2 1]]]]]" % wide(n - 6)
+        yield "[point [862 2 4 1 %s 5 0 [351 2 [101 [2 0] [1 7]] [862 1 6 1 [1 8] [9 [2 1]]]]]]" % wide(n - 6)
+        yield "[member [107 [1 7] [873 0 2 4 1 %s 5 0 [9 [2 1]] [2 0]]]]" % wide(n - 6)
+
+
 # ----- traits of the other lines
 
 
@@ -215,7 +260,7 @@ def main():
     for line in gen.exhaustive_annotations():
         small_lines[line[1:].split(" ", 1)[0]].append(line)
     more = [l for c in COMMANDS for l in list(candidates(c)) + small_lines[c][::7] if "[86" in l or "[87" in l]
-    lines = list(dict.fromkeys(lines + more))
+    lines = list(dict.fromkeys(lines + more + list(borders())))
     asked = [l.replace("[point ", "[pointd ", 1).replace("[member ", "[memberd ", 1) for l in lines]
     counts, answers = collections.Counter(), {}
     for line, rust in zip(lines, compare.ask([o.oracle], asked)):
@@ -234,7 +279,7 @@ def main():
         if not answers[line][0].startswith(("[no 2", "[no 8")):
             seen |= traits(line, answers[line][0])
     taken = collections.Counter()
-    for line in sorted(lines[first:], key=len):
+    for line in sorted(dict.fromkeys(more), key=len):
         command = line[1:].split(" ", 1)[0]
         if taken[command] < o.each:
             new = traits(line, answers[line][0])
@@ -242,13 +287,15 @@ def main():
                 seen |= new
                 taken[command] += 1
                 chosen.append(line)
+    edges = [l for l in dict.fromkeys(borders()) if l not in chosen]
+    chosen += edges
     for line in chosen:
         answer, source = answers[line]
         counts[source] += 1
         print("%s\t%s" % (line, answer))
     for key in sorted(counts):
         print("%-24s %d" % (key, counts[key]), file=sys.stderr)
-    print("%d written lines, %d others: %s" % (first, len(chosen) - first, dict(taken)), file=sys.stderr)
+    print("%d written lines, %d others: %s; %d at edges" % (first, len(chosen) - first - len(edges), dict(taken), len(edges)), file=sys.stderr)
 
 
 if __name__ == "__main__":
