@@ -85,28 +85,44 @@ def draw(best, ops, sizes, path):
         f.write("\n".join(out) + "\n")
 
 
-def beside(best, noted, ops, sizes):
-    """Rows with annotations beside the others, and the growth from 2,000 to 8,000 words."""
-    print("\n| rows with annotations | words | library, ns a word | rows without, ns a word | with / without | C | library / C | Rust rows / library | growth for 4 times the words |")
-    print("|---|---|---|---|---|---|---|---|---|")
+def growth(paths, op):
+    """How many times longer rows of 8,000 words take than rows of 2,000 of the same kind: the median of the runs, since the processor's clock
+    changes between them, as the mean over the kinds and for the kind where it is most."""
+    means, most = [], []
+    for path in paths:
+        run = read([path])
+        ratios = [t[0] / run[key[0], "2000", key[2], key[3]][1][0] for key, (w, t) in run.items() if key[:2] == (op, "8000")]
+        means.append(mean(ratios))
+        most.append(max(ratios))
+    return sorted(means)[len(means) // 2], sorted(most)[len(most) // 2]
+
+
+def grown(paths, noted, ops):
+    print("\n| 8,000 words against 2,000 | mean | the most of one kind | with annotations, mean | the most of one kind |")
+    print("|---|---|---|---|---|")
     for op in ops:
-        last = None
+        print("| %s | %.2f | %.2f | %.2f | %.2f |" % (op, *growth(paths, op), *growth(noted, op)))
+
+
+def beside(best, noted, ops, sizes):
+    """Rows with annotations beside the others."""
+    print("\n| rows with annotations | words | library, ns a word | rows without, ns a word | with / without | C | library / C | Rust rows / library |")
+    print("|---|---|---|---|---|---|---|---|")
+    for op in ops:
         for size in sizes:
             with_notes, without = ([v for k, v in runs.items() if k[:2] == (op, size)] for runs in (noted, best))
             if not with_notes or not without:
                 continue
             a = [mean([t[i] / w for w, t in with_notes]) for i in range(5)]
             b = mean([t[0] / w for w, t in without])
-            row = mean([t[0] for w, t in with_notes])
-            print("| %s | %s | %.1f | %.1f | %.2f | %.1f | %.2f | %.0f | %s |"
-                  % (op, size, a[0], b, a[0] / b, a[1], a[0] / a[1], a[2] / a[0], "%.2f" % (row / last) if size == "8000" and last else ""))
-            last = row
+            print("| %s | %s | %.1f | %.1f | %.2f | %.1f | %.2f | %.0f |" % (op, size, a[0], b, a[0] / b, a[1], a[0] / a[1], a[2] / a[0]))
 
 
 def main():
     runs = sys.argv[2:]
     noted = runs[runs.index("--") + 1:] if "--" in runs else []
-    best = read(runs[:runs.index("--")] if noted else runs)
+    plain = runs[:runs.index("--")] if noted else runs
+    best = read(plain)
     ops = list(dict.fromkeys(k[0] for k in best))
     sizes = list(dict.fromkeys(k[1] for k in best))
     summary(best, ops, sizes)
@@ -114,6 +130,7 @@ def main():
         table(best, op)
     if noted:
         beside(best, read(noted), ops, sizes)
+        grown(plain, noted, ops)
     draw(best, ops, sizes, sys.argv[1])
 
 

@@ -27,7 +27,7 @@ KINDS = {
     "truths": lambda size: repeated([351], [610], size),
     "nots": lambda size: repeated([351], [8, 8, 8, 610], size),
     "notes": lambda size: repeated([351], [861, 1, 4, 1, 1, 5, 610], size),
-    "declared+notes": lambda size: repeated([351], [861, min(16, size - 8)] + [7, 0] * (min(16, size - 8) - 1) + [7, 1, 401, 610], 2 * size if size < 100 else size),
+    "declared+notes": lambda size: repeated([351], [861, min(16, size // 2 - 4)] + [7, 0] * (min(16, size // 2 - 4) - 1) + [7, 1, 401, 610], 2 * size if size < 100 else size),
     "declared": lambda size: repeated([351], [851, min(32, size - 8)] + list(range(min(32, size - 8))) + [610], 2 * size if size < 100 else size),
     "pairs": lambda size: [1, 1, 5] * (size // 3),
     "places": lambda size: [0] * size,

@@ -3,9 +3,10 @@
  *   rt staticlib sogbayile        writes target/staticlib/libsogbayile.a
  *
  * ROWS. A form is a row of 32-bit words in prefix order; every row is passed as a pointer and its number of
- * words. Quantifiers with annotations have the tags 861, 862 (for 851, 852) and 871 to 873 (for 801 to 803): after each
- * declared name stands 0, or 1 and an expression, which stands outside the quantifier. A pointer is never null, also where the number is 0, and is aligned for its words. A row that is
- * written (out, work, starts, ends) overlaps no other row of the same call.
+ * words. Quantifiers with annotations have the tags 861, 862 (for 851, 852) and 871 to 873 (for 801 to 803): after
+ * each declared name stands 0, or 1 and an expression, which stands outside the quantifier. A pointer is never
+ * null, also where the number is 0, and is aligned for its words. A row that is written (out, work, starts, ends)
+ * overlaps no other row of the same call.
  *
  * ANSWERS. Each call answers one number of 64 bits. The upper 32 bits are 0 for an answer and the number of
  * the refusal else. The lower 32 bits are
@@ -20,8 +21,9 @@
  * OWNERSHIP. All rows are the caller's. The library allocates nothing and keeps no pointer, has no state, and
  * may be called from several threads with rows of their own. A work row may hold anything before and after.
  *
- * STACK. As measured on rows of some 8,000 words, 56 to 64 deep, a call takes up to 300 KB of the caller's stack:
- * sgb_point 295 KB, sgb_member 245, sgb_free 145, sgb_fill 135, sgb_dangling 113, the others less than 60.
+ * STACK. As measured on rows of some 8,000 words, up to 64 deep (bench/stack.py), a call takes up to 431 KB of the
+ * caller's stack: sgb_point 431 KB, sgb_member 312, sgb_fill 165, sgb_free 141, sgb_dangling 110, sgb_prune 77, the
+ * others less than 60; on rows without annotations sgb_point 291, sgb_member 242, sgb_fill 135, sgb_prune 54.
  *
  * REFUSALS, in the order in which they are tested: 15, then 1 and 2 for each row (the form first, then the
  * list), 3, 4, 5, 6, 9, 7, 14; for offers 1, 2, 5, 10, 11, 12, 13.
