@@ -11,6 +11,7 @@ listed rows. The same is done for lists of pairs and of places. Rows with annota
 """
 import functools
 import itertools
+import multiprocessing
 import sys
 
 import cases
@@ -130,20 +131,38 @@ def both(name, words):
     return expressions | predicates
 
 
-def main():
-    words = int(sys.argv[1]) if len(sys.argv) > 1 else 6
-    limits(ALPHABET, NAME)
+def forms_of_each_sort(words):
     compare("either", words, both("", words), cases.form)
+
+
+def lists_of_places(words):
     compare("places", words, lists("places", words), lambda row: cases.entries(row, "places"))
+
+
+def lists_of_pairs(words):
     # a pair's name may be any word, so there are many more lists of pairs; none of them has room for an annotation
     limits([w for w in ALPHABET if w not in (862, 873)], NAME)
     compare("pairs", words - 1, lists("pairs", words - 1), lambda row: cases.entries(row, "pairs"))
-    words = int(sys.argv[2]) if len(sys.argv) > 2 else 12
+
+
+def annotated(words):
     limits([0, 1, 2, 4, 5, 9, 401, 610, 862, 873], 0)
     both("annotated, with sets: ", words - 2)
     limits([0, 1, 2, 5, 9, 401, 610, 862, 873], 1)
     both("annotated: ", words)
     compare("annotated: places", words - 2, lists("places", words - 2), lambda row: cases.entries(row, "places"))
+
+
+def main():
+    """Each part in a process of its own, since the limits are the model's."""
+    words, longer = (int(a) for a in (sys.argv[1:] + ["6", "12"][len(sys.argv[1:]):])[:2])
+    limits(ALPHABET, NAME)
+    parts = [multiprocessing.Process(target=part, args=(n,)) for part, n in ((forms_of_each_sort, words), (lists_of_places, words), (lists_of_pairs, words), (annotated, longer))]
+    for part in parts:
+        part.start()
+    for part in parts:
+        part.join()
+    sys.exit(any(part.exitcode for part in parts))
 
 
 if __name__ == "__main__":
