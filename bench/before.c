@@ -8,8 +8,8 @@
 #include <stdio.h>
 #include <stdlib.h>
 #include <string.h>
-#include <time.h>
 
+#include "rows.h"
 #include "sogbayile.h"
 
 enum { MOST = 64, WORDS_A_ROUND = 20000 };
@@ -32,13 +32,6 @@ struct row {
 static uint32_t out[SGB_MAX_WORDS], work[SGB_WORK_WORDS];
 static volatile uint64_t sink;
 
-static double now(void)
-{
-    struct timespec t;
-    clock_gettime(CLOCK_MONOTONIC, &t);
-    return t.tv_sec * 1e9 + t.tv_nsec;
-}
-
 #define CALL(name, lib)                                                                                                     \
     static uint64_t name(const char *command, const struct row *r)                                                          \
     {                                                                                                                       \
@@ -57,17 +50,6 @@ static double now(void)
     }
 CALL(earlier, before)
 CALL(present, sgb)
-
-static uint32_t *words(size_t *n)
-{
-    if (scanf("%zu", n) != 1)
-        exit(1);
-    uint32_t *w = malloc((*n + 1) * sizeof *w);
-    for (size_t i = 0; i < *n; i++)
-        if (scanf("%u", &w[i]) != 1)
-            exit(1);
-    return w;
-}
 
 int main(int argc, char **argv)
 {

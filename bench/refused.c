@@ -7,8 +7,8 @@
 #include <stdio.h>
 #include <stdlib.h>
 #include <string.h>
-#include <time.h>
 
+#include "rows.h"
 #include "sogbayile.h"
 
 enum { MOST = 64, WAYS = 6 };
@@ -23,13 +23,6 @@ struct row {
 
 static uint32_t out[SGB_MAX_WORDS], work[SGB_WORK_WORDS];
 static volatile uint64_t sink;
-
-static double now(void)
-{
-    struct timespec t;
-    clock_gettime(CLOCK_MONOTONIC, &t);
-    return t.tv_sec * 1e9 + t.tv_nsec;
-}
 
 /* The check of the rows of a set: of forms, or of one of the lists. */
 static uint64_t check(const char *command, const struct row *r, const uint32_t *row)
@@ -53,17 +46,6 @@ static uint64_t call(const char *command, const struct row *r, const uint32_t *r
     case 'm' << 8 | 'e': return sgb_member(row, r->len, work, SGB_WORK_WORDS, out, SGB_MAX_WORDS);
     default: return check(command, r, row);
     }
-}
-
-static uint32_t *words(size_t *n)
-{
-    if (scanf("%zu", n) != 1)
-        exit(1);
-    uint32_t *w = malloc((*n + 1) * sizeof *w);
-    for (size_t i = 0; i < *n; i++)
-        if (scanf("%u", &w[i]) != 1)
-            exit(1);
-    return w;
 }
 
 int main(int argc, char **argv)

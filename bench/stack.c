@@ -8,6 +8,7 @@
 #include <stdlib.h>
 #include <string.h>
 
+#include "rows.h"
 #include "sogbayile.h"
 
 enum { STACK = 4 << 20, PAINT = 0xA5, NAMES = 16 };
@@ -57,17 +58,6 @@ static size_t taken(void *(*f)(void *), void *p)
     while (clean < STACK && stack[clean] == PAINT)
         clean++;
     return STACK - clean;
-}
-
-static uint32_t *words(size_t *n)
-{
-    if (scanf("%zu", n) != 1)
-        exit(1);
-    uint32_t *w = malloc((*n + 1) * sizeof *w);
-    for (size_t i = 0; i < *n; i++)
-        if (scanf("%u", &w[i]) != 1)
-            exit(1);
-    return w;
 }
 
 int main(void)
