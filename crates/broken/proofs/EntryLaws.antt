@@ -15,7 +15,8 @@ use Rattle.form.specs.declared.answer.ListKind.the-variants.{Pairs, Places}
 use Rattle.form.proofs.HeadLaws.{here}
 use Rattle.broken.specs.declared.seek.Sought.{Sought}
 use Rattle.broken.specs.Internal.Seeks.{noKids, leafEntry, quickEntry, Seeks}
-use Rattle.broken.proofs.SeekLaws.{one-word, ran-out, start, kids-there, leaf-past}
+use Rattle.broken.proofs.SeekLaws.{one-word, ran-out, start, kids-there}
+use Rattle.broken.proofs.LeafLaws.{leaf-past, leaf-words}
 
 -- entries that are passed at once: 0, or a word and a name or an index
 module _ (at : ℕ) (ws : List ℕ) where
@@ -105,7 +106,9 @@ entry-done row p h = kids-there row p 64 (parts 0 0 0) 0 p 0 0 (start row p 64 (
 
 entry-leaf : (row : List ℕ) (p : ℕ) → p + 2 ≤ 8192 → startsLeaf 64 (drop p row) ≡ true → Seeks row p 64 (parts 0 0 1) 0 (record { ok = true; at = p + 2 })
 unfolding noKids least
-entry-leaf row p h s = kids-there row p 64 (parts 0 0 1) 0 (p + 2) 0 0 (leaf-past row p 64 (parts 0 0 1) 0 p 0 (start row p 64 (parts 0 0 1) 0 (omega arith)) s (omega arith)) refl
+entry-leaf row p h s =
+    let (tag, short, low) = leaf-words row p 64 s in
+    kids-there row p 64 (parts 0 0 1) 0 (p + 2) 0 0 (leaf-past row p 64 (parts 0 0 1) 0 p 0 (start row p 64 (parts 0 0 1) 0 (omega arith)) tag (omega arith) short low) refl
 
 leaf-facts : (at : ℕ) (ws : List ℕ) (n : ℕ) → n ≡ leafEntry at ws → 0 < n → (n ≡ 3) × (at + 3 ≤ 8192) × (startsLeaf 64 ws ≡ true)
 leaf-facts at ws n e h = by (leb (at + 3) 8192) refl (startsLeaf 64 ws) refl e

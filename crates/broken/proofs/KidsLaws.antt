@@ -63,9 +63,3 @@ kids-over z at d zero zero x [] h = refl
 kids-over z at d zero zero x (w ∷ ws) h = refl
 kids-over z at d zero (suc e) x ws h = absurd (clash cc)
 kids-over z at d (suc p) e x ws h = absurd (clash cc)
-
-pub more-exprs : (p e : ℕ) → noKids p e ≡ false → p ≤ 0 → 0 < e
-unfolding noKids
-more-exprs zero zero h k = absurd (clash cc)
-more-exprs zero (suc e) h k = omega arith
-more-exprs (suc p) e h k = absurd (omega arith)

@@ -1,31 +1,27 @@
 -- The search for the break, word by word: what is reached, and what is answered where the row breaks. Assumes nothing.
-use mathlib.Core.Path.{_≡_, refl, sym, _∙_}
-use mathlib.Core.Bool.{Bool, true, false, not, _&&_}
-use mathlib.Core.List.{List, _∷_}
+use mathlib.Core.Path.{_≡_, refl, _∙_}
+use mathlib.Core.Bool.{Bool, true, false, not}
+use mathlib.Core.List.{List}
 use Prim.Native.Nat.{ℕ, zero, suc, _+_, _-_, _≤_, _<_}
 use native.Mathlib.Numerals.{add-one}
 use native.Mathlib.Nat.{le-refl, le-trans}
 use native.Mathlib.Omega.{arith}
-use borrow.Author.Tests.{le-leb, lt-leb, leb-true, not-true, not-false}
+use borrow.Author.Tests.{le-leb, leb-true, not-true, not-false}
 use lib.Dec.{leb}
 use lib.ListN.{length, getD, drop}
 use Rattle.tree.specs.Form.{pick}
-use Rattle.tree.specs.Tag.{Sort, expr, own, ownOf, shapeOf, exprTags}
-use Rattle.form.specs.Decode.{isLeaf}
-use Rattle.form.specs.Internal.Heads.{startsLeaf}
+use Rattle.tree.specs.Tag.{Sort, expr, own}
 use Rattle.form.specs.Break.{Next, word, note, parts, never, declsNext, nextOf, Open, rest, leastForm, least, leastAll, after, breakFrom}
-use Rattle.form.proofs.DecodeLaws.{clash, high-tag}
+use Rattle.form.proofs.DecodeLaws.{clash}
 use Rattle.form.proofs.HeadLaws.{gone, here}
-use Rattle.form.proofs.LeafLaws.{two-words, leaf-room}
 use Rattle.broken.specs.declared.due.Due.{Due}
 use Rattle.broken.specs.declared.due.Due.the-variants.{Kids, Ask, Note, Wrong}
 use Rattle.broken.specs.declared.due.Then.{Then}
 use Rattle.broken.specs.declared.seek.Start.{Start}
 use Rattle.broken.specs.declared.seek.Start.the-variants.{At}
 use Rattle.broken.specs.declared.seek.Sought.{Sought}
-use Rattle.broken.specs.Internal.Seeks.{nextDue, isOwn, sortOf, noKids, exprsAfter, leafNext, afterWord, Reaches, Starts, Seeks, SeeksOwn, SeeksChild}
-use Rattle.broken.proofs.DueLaws.{in-limits}
-use Rattle.broken.proofs.KidsLaws.{kids-step, kids-least, kids-over, more-exprs}
+use Rattle.broken.specs.Internal.Seeks.{nextDue, isOwn, sortOf, noKids, exprsAfter, afterWord, Reaches, Starts, Seeks, SeeksOwn, SeeksChild}
+use Rattle.broken.proofs.KidsLaws.{kids-step, kids-least, kids-over}
 
 -- what the code's tests say
 pub is-true : {b c : Bool} → b ≡ c → b ≡ true → c ≡ true
@@ -90,10 +86,10 @@ module _ (row : List ℕ) (at d : ℕ) (o : Next) (need p : ℕ) (o′ : Next) (
       unfolding leastAll
       child-next z x e = i .same z x e ∙ (one-word row z p (rest d o′ x) h ∙ (rw (step z x, e, ← m) (c .breaks z (rest d b x) (rw (e, m)))))
 
-      child-stop : r .ok ≡ false → Seeks row at d o need r
+      pub child-stop : r .ok ≡ false → Seeks row at d o need r
       child-stop f = record { breaks = λ z x e. child-next z x e ∙ rw f; rises = le-trans (i .up) (c .rises); low = c .low; room = no-room (r .ok) (r .at) f }
 
-      child-go : r .ok ≡ true → Reaches row at d o need (r .at) b
+      pub child-go : r .ok ≡ true → Reaches row at d o need (r .at) b
       child-go t = record { same = λ z x e. child-next z x e ∙ rw t; up = le-trans (i .up) (c .rises); room = let v = c .room t in omega arith }
 
 -- where no children must come, the rest of the node is there
@@ -157,101 +153,6 @@ passed-less l p q r a b c = omega arith
 
 pub past-two : (p : ℕ) → p < p + 2
 past-two p = omega arith
-
--- a name or an index is passed at once
-leaf-own : (t : ℕ) → isLeaf t ≡ true → nextOf (own expr t) ≡ word 0 65535 (λ n. parts 0 0 0)
-unfolding nextOf own ownOf shapeOf exprTags
-leaf-own zero e = absurd (clash cc)
-leaf-own (suc zero) e = refl
-leaf-own (suc (suc zero)) e = refl
-leaf-own (suc (suc (suc t))) e = let h = high-tag t in absurd (clash cc)
-
-both : (b c : Bool) → (b && c) ≡ true → (b ≡ true) × (c ≡ true)
-both true true e = (refl, refl)
-both true false e = absurd (clash cc)
-both false c e = absurd (clash cc)
-
--- the test of a leaf, by its parts
-module _ (d p e need at : ℕ) (ws : List ℕ) where
-  pub preds-first : 0 < p → false ≡ leafNext d p e need at ws
-  unfolding leafNext
-  preds-first h = rw (lt-leb p 0 h)
-
-  module _ (none : p ≤ 0) (w : ℕ) (k : w ≡ least d (parts 0 0 e)) where
-    pub leaf-no-room : 8192 ≤ at + (w + need) → false ≡ leafNext d p e need at ws
-    unfolding leafNext
-    leaf-no-room h = rw (le-leb p 0 none, ← k, lt-leb (suc (at + (w + need))) 8192 (omega arith))
-
-    pub leaf-test : at + (w + need) < 8192 → (b : Bool) → b ≡ startsLeaf d ws → b ≡ leafNext d p e need at ws
-    unfolding leafNext
-    leaf-test h b q = rw (le-leb p 0 none, ← k, le-leb (suc (at + (w + need))) 8192 h) q
-
--- where such a leaf stands, the search has come past it
-leaf-words : (row : List ℕ) (p d : ℕ) → startsLeaf d (drop p row) ≡ true → (isLeaf (getD row p 0) ≡ true) × (leb (getD row (p + 1) 0) 65535 ≡ true)
-unfolding startsLeaf
-leaf-words row p d e =
-    let room = leaf-room row p d e in
-    let words : startsLeaf d (getD row p 0 ∷ (getD row (p + 1) 0 ∷ drop (p + 1 + 1) row)) ≡ true = rw (two-words row p d (room .1)) at e in
-    let deep = both (leb 1 d) (isLeaf (getD row p 0) && leb (getD row (p + 1) 0) 65535) words in
-    both (isLeaf (getD row p 0)) (leb (getD row (p + 1) 0) 65535) (deep .1)
-
--- what a name or an index takes: its tag and one word
-abbrev leafWord : Next
-leafWord = word 0 65535 (λ n. parts 0 0 0)
-
-least-nothing : (d : ℕ) → least d (parts 0 0 0) ≡ 0
-unfolding least
-least-nothing zero = omega arith
-least-nothing (suc d) = omega arith
-
-least-word : (d : ℕ) → least d leafWord ≡ 1
-unfolding least
-least-word zero = omega arith
-least-word (suc d) = omega arith
-
-one-form : (d : ℕ) → 1 ≤ d → leastForm d ≡ 1
-one-form zero h = absurd (omega arith)
-one-form (suc d) h = refl
-
-module _ (row : List ℕ) (d p more : ℕ) where
-  word-there : p < length row → leb (getD row p 0) 65535 ≡ true → p + (1 + more) ≤ 8192 → Seeks row p d leafWord more (record { ok = true; at = p + 1 })
-  unfolding isOwn noKids
-  word-there h w k =
-      let none = least-nothing d in
-      let one = least-word d in
-      let begun = start row p d leafWord more (omega arith) in
-      let read = own-go row p d leafWord more p leafWord begun h refl (parts 0 0 0) (in-limits 0 65535 (getD row p 0) (λ n. parts 0 0 0) (parts 0 0 0) refl (omega arith) (leb-true (getD row p 0) 65535 w)) (le-leb (p + 1 + (least d (parts 0 0 0) + more)) 8192 (omega arith)) in
-      kids-there row p d leafWord more (p + 1) 0 0 read refl
-
-leaf-child : (row : List ℕ) (d p more : ℕ) → 1 ≤ d → startsLeaf d (drop p row) ≡ true → p + (2 + more) ≤ 8192 → SeeksChild row p (d - 1) expr more (record { ok = true; at = p + 2 })
-leaf-child row d p more deep s h =
-    let short = leaf-room row p d s .1 in
-    let (tag, low) = leaf-words row p d s in
-    let one = least-word (d - 1) in
-    let two : p + 1 + 1 ≡ p + 2 = omega arith in
-    let found = word-there row (d - 1) (p + 1) more short low (omega arith) in
-    child-found row p (d - 1) expr more leafWord (sym (leaf-own (getD row p 0) tag)) (omega arith) (record { ok = true; at = p + 2 }) (rw two at found)
-
-pub leaf-past : (row : List ℕ) (at d : ℕ) (o : Next) (need p e : ℕ) → Reaches row at d o need p (parts 0 0 (suc e)) → startsLeaf d (drop p row) ≡ true → p + (least d (parts 0 0 (suc e)) + need) < 8192
-    → Reaches row at d o need (p + 2) (parts 0 0 e)
-unfolding after least
-leaf-past row at d o need p e i s h =
-    let (deep, short) = leaf-room row p d s in
-    let form = one-form d deep in
-    child-go row at d o need p (parts 0 0 (suc e)) i (omega arith) expr (parts 0 0 e) (λ z x. refl) (least d (parts 0 0 e) + need) refl (record { ok = true; at = p + 2 })
-    (leaf-child row d p (least d (parts 0 0 e) + need) deep s (omega arith)) refl
-
-pub leaf-go : (row : List ℕ) (at d : ℕ) (o : Next) (need p x y : ℕ) → Reaches row at d o need p (parts 0 x y) → noKids x y ≡ false → leafNext d x y need p (drop p row) ≡ true → Reaches row at d o need (p + 2) (parts 0 x (y - 1))
-unfolding leafNext
-leaf-go row at d o need p x y i k e =
-    let (none, fit) = both (leb x 0) (leb (suc (p + (least d (parts 0 0 y) + need))) 8192 && startsLeaf d (drop p row)) e in
-    let (room, leaf) = both (leb (suc (p + (least d (parts 0 0 y) + need))) 8192) (startsLeaf d (drop p row)) fit in
-    go x y (leb-true x 0 none) (more-exprs x y k (leb-true x 0 none)) i leaf (leb-true (suc (p + (least d (parts 0 0 y) + need))) 8192 room)
-  where
-    go : (x y : ℕ) → x ≤ 0 → 0 < y → Reaches row at d o need p (parts 0 x y) → startsLeaf d (drop p row) ≡ true → p + (least d (parts 0 0 y) + need) < 8192 → Reaches row at d o need (p + 2) (parts 0 x (y - 1))
-    go zero zero n h i l r = absurd (omega arith)
-    go zero (suc e) n h i l r = let q : suc e - 1 ≡ e = omega arith in rw q (leaf-past row at d o need p e i l r)
-    go (suc x) y n h i l r = absurd (omega arith)
 
 -- the own words of a node
 module _ (row : List ℕ) (at d : ℕ) (o : Next) (need p : ℕ) (due : Due) where

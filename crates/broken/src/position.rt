@@ -2,6 +2,7 @@
 use crate::due::Due;
 use crate::seek::fits;
 use crate::seek::seek;
+use crate::seek::seek_kids;
 use form::answer::Kind;
 use form::answer::Limit;
 use form::answer::ListKind;
@@ -9,15 +10,15 @@ use form::head::is_leaf;
 ghost use mathlib.Core.Path.{_≡_};
 ghost use Prim.Native.Nat.{_+_, _≤_, _<_};
 ghost use lib.ListN.{length, drop};
-ghost use Rattle.form.specs.Break.{never, nothing, rest, least, breakFrom, breakAt, breakList, entryNext};
+ghost use Rattle.form.specs.Break.{parts, never, nothing, rest, least, breakFrom, breakAt, breakList, entryNext};
 ghost use Rattle.broken.specs.Internal.Seeks.{nextDue, leafEntry, quickEntry};
 
-// Where a row breaks of which so much must come, and nothing after it.
-fn broken_due(row: &[u32], due: Due) -> u32
-    requires { ⌜ least 64 (nextDue due) ≤ 8192 ⌝ }
-    ensures { λ r. ⌜ r ≡ breakFrom (λ w. never) 0 (rest 64 (nextDue due) nothing) (now (row .entry)) ⌝ }
+// Where a row breaks that must have so many predicates and expressions, and nothing after them.
+fn broken_kids(row: &[u32], preds: u32, exprs: u32) -> u32
+    requires { ⌜ least 64 (parts 0 preds exprs) ≤ 8192 ⌝ }
+    ensures { λ r. ⌜ r ≡ breakFrom (λ w. never) 0 (rest 64 (parts 0 preds exprs) nothing) (now (row .entry)) ⌝ }
 {
-    let s = seek(row, 0, due, Limit::DEPTH, 0);
+    let s = seek_kids(row, 0, preds, exprs, Limit::DEPTH, 0);
     s.at as u32
 }
 
@@ -26,14 +27,14 @@ pub fn broken_at(row: &[u32], kind: Kind) -> u32
     ensures { λ r. ⌜ r ≡ breakAt kind (now (row .entry)) ⌝ }
 {
     match kind {
-        Kind::Expression => broken_due(row, Due::Kids(0, 0, 1)),
-        Kind::Predicate => broken_due(row, Due::Kids(0, 1, 0)),
+        Kind::Expression => broken_kids(row, 0, 1),
+        Kind::Predicate => broken_kids(row, 1, 0),
         Kind::Either => {
-            let p = broken_due(row, Due::Kids(0, 1, 0));
+            let p = broken_kids(row, 1, 0);
             if 0 < p {
                 return p;
             }
-            broken_due(row, Due::Kids(0, 0, 1))
+            broken_kids(row, 0, 1)
         }
     }
 }

@@ -13,11 +13,13 @@ use crate::kids::no_kids;
 use crate::kids::one_less;
 use form::answer::Limit;
 use form::head::Head;
-use form::head::is_leaf;
+use form::head::Word;
+use form::head::asked;
+use tree::tag::Tag;
 ghost use mathlib.Core.Path.{_≡_};
 ghost use Prim.Native.Nat.{_+_, _≤_, _<_};
 ghost use lib.Dec.{leb};
-ghost use lib.ListN.{length, drop};
+ghost use lib.ListN.{length};
 ghost use Rattle.tree.specs.Tag.{own};
 ghost use Rattle.form.specs.Break.{parts, nextOf, least};
 ghost use Rattle.broken.specs.Internal.Seeks.{sortOf, nextDue, leafNext, Starts, SeeksOwn, SeeksChild, Seeks};
@@ -100,10 +102,10 @@ fn start_of(row: &[u32], at: usize, preds: u32, tag: u32, depth: u32, need: usiz
     Start::At(end, inner_preds, inner_exprs)
 }
 
-// Whether only expressions must come and the first of them is a name or an index, the common case, after which the others have room.
-fn is_leaf_next(row: &[u32], at: usize, preds: u32, exprs: u32, depth: u32, need: usize) -> bool
+// Whether only expressions must come, the first of them has the tag of a name or an index, the common case, and there is room for its word.
+fn is_leaf_next(tag: u32, at: usize, preds: u32, exprs: u32, depth: u32, need: usize) -> bool
     requires { ⌜ at + (least depth (parts 0 preds exprs) + need) ≤ 8192 ⌝ }
-    ensures { λ r. ⌜ r ≡ leafNext depth preds exprs need at (drop at (now (row .entry))) ⌝ }
+    ensures { λ r. ⌜ r ≡ leafNext depth preds exprs need at tag ⌝ }
 {
     if 0 < preds {
         return false;
@@ -111,7 +113,10 @@ fn is_leaf_next(row: &[u32], at: usize, preds: u32, exprs: u32, depth: u32, need
     if Limit::WORDS <= at + (least_kids(depth, 0, 0, exprs) + need) {
         return false;
     }
-    is_leaf(row, at, depth)
+    if tag == 0 {
+        return false;
+    }
+    tag <= Tag::BOUND_IDENT
 }
 
 // A child whose tag stands at `at`: a predicate where predicates must still come, or else an expression. Its own children may be so deep, and
@@ -132,7 +137,14 @@ fn seek_child(row: &[u32], at: usize, preds: u32, depth: u32, need: usize) -> So
 }
 
 // So many predicates and expressions from `at` on, which may be so deep and after which at least so many words must come.
-fn seek_kids(row: &[u32], at: usize, preds: u32, exprs: u32, depth: u32, need: usize) -> Sought
+pub(crate) fn seek_kids(
+    row: &[u32],
+    at: usize,
+    preds: u32,
+    exprs: u32,
+    depth: u32,
+    need: usize,
+) -> Sought
     requires { ⌜ at + (least depth (parts 0 preds exprs) + need) ≤ 8192 ⌝ }
     ensures { λ r. ⌜ Seeks (now (row .entry)) at depth (parts 0 preds exprs) need r ⌝ }
 {
@@ -143,7 +155,13 @@ fn seek_kids(row: &[u32], at: usize, preds: u32, exprs: u32, depth: u32, need: u
         if row.len() <= p {
             return Sought { ok: false, at: p };
         }
-        if is_leaf_next(row, p, more_preds, more_exprs, depth, need) {
+        if is_leaf_next(row[p], p, more_preds, more_exprs, depth, need) {
+            let Word::Is(name) = asked(row, p + 1, 0, Limit::NAME) else {
+                return Sought {
+                    ok: false,
+                    at: p + 1,
+                };
+            };
             more_exprs = one_less(more_exprs);
             p += 2;
         } else {

@@ -177,10 +177,18 @@ fn shape_of(tag: u32, expression: bool) -> Shape
     pred_shape(tag)
 }
 
-// What stands after the tag of an expression, or of a predicate. The shape is looked up here, so that no caller keeps one in memory.
+// What stands after the tag of an expression, or of a predicate. The predicates that have own words most often need no shape; it is looked
+// up here for the others, so that no caller keeps one in memory.
 fn tag_words(row: &[u32], at: usize, tag: u32, expression: bool) -> Head
     ensures { λ r. ⌜ r ≡ headAt at (read (own (pick expression expr pred) tag) (drop at (now (row .entry)))) ⌝ }
 {
+    if !expression {
+        match tag {
+            Tag::AND..=Tag::OR => return preds_head(row, at, 2),
+            Tag::FOR_ALL..=Tag::EXISTS => return bound_head(row, at, 0),
+            _ => {}
+        }
+    }
     let shape = shape_of(tag, expression);
     own_words(row, at, shape)
 }

@@ -8,6 +8,7 @@ use lib.ListN.{getD, drop}
 use Rattle.tree.specs.Form.{pick, between}
 use Rattle.tree.specs.Tag.{Sort, expr, pred, own}
 use Rattle.form.specs.Break.{Next, word, note, parts, never, lowFlag, declsNext, nextOf, Open, rest, least, leastAll, breakFrom}
+use Rattle.form.specs.Decode.{isLeaf}
 use Rattle.form.specs.Internal.Heads.{startsLeaf}
 use Rattle.form.specs.declared.answer.ListKind.{ListKind}
 use Rattle.form.specs.declared.answer.ListKind.the-variants.{Pairs, Places}
@@ -79,9 +80,9 @@ unfoldable pub exprsAfter : ℕ → ℕ → ℕ
 exprsAfter zero e = e - 1
 exprsAfter (suc p) e = e
 
--- whether only expressions must come, the first of the words is a name or an index, and so much has room
-unfoldable pub leafNext : ℕ → ℕ → ℕ → ℕ → ℕ → List ℕ → Bool
-leafNext d p e need at ws = leb p 0 && (leb (suc (at + (least d (parts 0 0 e) + need))) 8192 && startsLeaf d ws)
+-- whether only expressions must come, the first has this tag, which is that of a name or an index, and there is room for its word
+unfoldable pub leafNext : ℕ → ℕ → ℕ → ℕ → ℕ → ℕ → Bool
+leafNext d p e need at tag = leb p 0 && (leb (suc (at + (least d (parts 0 0 e) + need))) 8192 && isLeaf tag)
 
 unfoldable pub afterWord : Next → ℕ → Next
 afterWord (word lo hi k) w = pick (between lo hi w) (k w) never

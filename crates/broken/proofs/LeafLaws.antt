@@ -1,0 +1,173 @@
+-- A name or an index among the expressions that must come: the search passes it at once, or stops at the word after its tag. Assumes nothing.
+use mathlib.Core.Path.{_≡_, refl, sym}
+use mathlib.Core.Bool.{Bool, true, false, _&&_}
+use mathlib.Core.List.{List, [], _∷_}
+use Prim.Native.Nat.{ℕ, zero, suc, _+_, _-_, _≤_, _<_}
+use native.Mathlib.Nat.{le-refl}
+use native.Mathlib.Omega.{arith}
+use borrow.Author.Tests.{le-leb, lt-leb, leb-true}
+use lib.Dec.{leb}
+use lib.ListN.{length, getD, drop}
+use Rattle.tree.specs.Form.{pick, between}
+use Rattle.tree.specs.Tag.{expr, own, ownOf, shapeOf, exprTags}
+use Rattle.form.specs.Decode.{isLeaf}
+use Rattle.form.specs.Internal.Heads.{wordAt, startsLeaf}
+use Rattle.form.specs.Break.{Next, word, parts, nextOf, Open, rest, leastForm, least, leastAll, after, breakFrom}
+use Rattle.form.specs.declared.head.Word.the-variants.{Is, Not}
+use Rattle.form.proofs.DecodeLaws.{clash, high-tag}
+use Rattle.form.proofs.HeadLaws.{here, asked-in}
+use Rattle.form.proofs.LeafLaws.{two-words, leaf-room}
+use Rattle.broken.specs.declared.seek.Sought.{Sought}
+use Rattle.broken.specs.Internal.Seeks.{isOwn, noKids, exprsAfter, leafNext, Reaches, Seeks, SeeksChild}
+use Rattle.broken.proofs.DueLaws.{in-limits}
+use Rattle.broken.proofs.KidsLaws.{kids-least}
+use Rattle.broken.proofs.SeekLaws.{start, own-go, kids-there, child-found, child-go, child-stop}
+
+both : (b c : Bool) → (b && c) ≡ true → (b ≡ true) × (c ≡ true)
+both true true e = (refl, refl)
+both true false e = absurd (clash cc)
+both false c e = absurd (clash cc)
+
+-- the test of its tag, by its parts
+low-tag : (t : ℕ) → (t ≡ 0 → ⊥) → leb t 2 ≡ isLeaf t
+low-tag zero n = absurd (n refl)
+low-tag (suc zero) n = refl
+low-tag (suc (suc zero)) n = refl
+low-tag (suc (suc (suc t))) n = rw (high-tag t) (lt-leb (suc (suc (suc t))) 2 (omega arith))
+
+module _ (d p e need at t : ℕ) where
+  pub preds-first : 0 < p → false ≡ leafNext d p e need at t
+  unfolding leafNext
+  preds-first h = rw (lt-leb p 0 h)
+
+  module _ (none : p ≤ 0) (w : ℕ) (k : w ≡ least d (parts 0 0 e)) where
+    pub leaf-no-room : 8192 ≤ at + (w + need) → false ≡ leafNext d p e need at t
+    unfolding leafNext
+    leaf-no-room h = rw (le-leb p 0 none, ← k, lt-leb (suc (at + (w + need))) 8192 (omega arith))
+
+    pub leaf-zero : at + (w + need) < 8192 → t ≡ 0 → false ≡ leafNext d p e need at t
+    unfolding leafNext
+    leaf-zero h z = rw (le-leb p 0 none, ← k, le-leb (suc (at + (w + need))) 8192 h, z) refl
+
+    pub leaf-test : at + (w + need) < 8192 → (t ≡ 0 → ⊥) → leb t 2 ≡ leafNext d p e need at t
+    unfolding leafNext
+    leaf-test h n = rw (le-leb p 0 none, ← k, le-leb (suc (at + (w + need))) 8192 h) (low-tag t n)
+
+-- what must come after the tag: one word
+abbrev leafWord : Next
+leafWord = word 0 65535 (λ n. parts 0 0 0)
+
+leaf-own : (t : ℕ) → isLeaf t ≡ true → nextOf (own expr t) ≡ leafWord
+unfolding nextOf own ownOf shapeOf exprTags
+leaf-own zero e = absurd (clash cc)
+leaf-own (suc zero) e = refl
+leaf-own (suc (suc zero)) e = refl
+leaf-own (suc (suc (suc t))) e = let h = high-tag t in absurd (clash cc)
+
+least-nothing : (d : ℕ) → least d (parts 0 0 0) ≡ 0
+unfolding least
+least-nothing zero = omega arith
+least-nothing (suc d) = omega arith
+
+least-word : (d : ℕ) → least d leafWord ≡ 1
+unfolding least
+least-word zero = omega arith
+least-word (suc d) = omega arith
+
+module _ (row : List ℕ) (d p more : ℕ) where
+  word-there : p < length row → leb (getD row p 0) 65535 ≡ true → p + (1 + more) ≤ 8192 → Seeks row p d leafWord more (record { ok = true; at = p + 1 })
+  unfolding isOwn noKids
+  word-there h w k =
+      let none = least-nothing d in
+      let one = least-word d in
+      let begun = start row p d leafWord more (omega arith) in
+      let read = own-go row p d leafWord more p leafWord begun h refl (parts 0 0 0) (in-limits 0 65535 (getD row p 0) (λ n. parts 0 0 0) (parts 0 0 0) refl (omega arith) (leb-true (getD row p 0) 65535 w)) (le-leb (p + 1 + (least d (parts 0 0 0) + more)) 8192 (omega arith)) in
+      kids-there row p d leafWord more (p + 1) 0 0 read refl
+
+  word-breaks : (z : ℕ → Next) (x : Open) (l : List ℕ) → wordAt 0 65535 l ≡ Not → breakFrom z p (rest d leafWord x) l ≡ p
+  unfolding wordAt breakFrom after least leastAll
+  word-breaks z x [] e = refl
+  word-breaks z x (w ∷ l) e = by (between 0 65535 w) refl e
+    where
+      by : (b : Bool) → between 0 65535 w ≡ b → pick b (Is w) Not ≡ Not → breakFrom z p (rest d leafWord x) (w ∷ l) ≡ p
+      by true q e = absurd (clash cc)
+      by false q e = rw (q, lt-leb (suc p + (8193 + leastAll x)) 8192 (omega arith))
+
+  word-cut : wordAt 0 65535 (drop p row) ≡ Not → p ≤ 8192 → Seeks row p d leafWord more (record { ok = false; at = p })
+  word-cut e h = record { breaks = λ z x n. word-breaks z x (drop p row) e; rises = le-refl p; low = h; room = λ t. absurd (clash cc) }
+
+-- the child whose tag it is
+leaf-child : (row : List ℕ) (d p more : ℕ) → isLeaf (getD row p 0) ≡ true → p + (2 + more) ≤ 8192 → (r : Sought) → Seeks row (p + 1) d leafWord more r → SeeksChild row p d expr more r
+leaf-child row d p more tag h r found =
+    let one = least-word d in
+    child-found row p d expr more leafWord (sym (leaf-own (getD row p 0) tag)) (omega arith) r found
+
+one-form : (d need p e : ℕ) → p + (least d (parts 0 0 (suc e)) + need) < 8192 → leastForm d ≡ 1
+unfolding noKids exprsAfter
+one-form zero need p e h = let first = kids-least 0 0 (suc e) refl in absurd (omega arith)
+one-form (suc d) need p e h = refl
+
+-- the search from its tag on, where its word has room
+module _ (row : List ℕ) (at d : ℕ) (o : Next) (need p e : ℕ) (i : Reaches row at d o need p (parts 0 0 (suc e))) (tag : isLeaf (getD row p 0) ≡ true) (h : p + (least d (parts 0 0 (suc e)) + need) < 8192) where
+  first-room : p + (2 + (least d (parts 0 0 e) + need)) ≤ 8192
+  unfolding least
+  first-room = let form = one-form d need p e h in omega arith
+
+  pub leaf-past : p + 1 < length row → leb (getD row (p + 1) 0) 65535 ≡ true → Reaches row at d o need (p + 2) (parts 0 0 e)
+  unfolding after
+  leaf-past short low =
+      let room = first-room in
+      let two : p + 1 + 1 ≡ p + 2 = omega arith in
+      let found = word-there row (d - 1) (p + 1) (least d (parts 0 0 e) + need) short low (omega arith) in
+      child-go row at d o need p (parts 0 0 (suc e)) i (omega arith) expr (parts 0 0 e) (λ z x. refl) (least d (parts 0 0 e) + need) refl (record { ok = true; at = p + 2 })
+      (leaf-child row (d - 1) p (least d (parts 0 0 e) + need) tag room (record { ok = true; at = p + 2 }) (rw two at found)) refl
+
+  pub leaf-cut : p < length row → wordAt 0 65535 (drop (p + 1) row) ≡ Not → Seeks row at d o need (record { ok = false; at = p + 1 })
+  unfolding after
+  leaf-cut inside none =
+      let room = first-room in
+      let cut = word-cut row (d - 1) (p + 1) (least d (parts 0 0 e) + need) none (omega arith) in
+      child-stop row at d o need p (parts 0 0 (suc e)) i inside expr (parts 0 0 e) (λ z x. refl) (least d (parts 0 0 e) + need) refl (record { ok = false; at = p + 1 })
+      (leaf-child row (d - 1) p (least d (parts 0 0 e) + need) tag room (record { ok = false; at = p + 1 }) cut) refl
+
+-- what the tests of the tag and of its word tell
+first-leaf : (d x y need p t : ℕ) → noKids x y ≡ false → leafNext d x y need p t ≡ true → (e : ℕ) × (x ≡ 0) × (y ≡ suc e) × (p + (least d (parts 0 0 y) + need) < 8192) × (isLeaf t ≡ true)
+unfolding leafNext noKids
+first-leaf d zero zero need p t k f = absurd (clash cc)
+first-leaf d zero (suc e) need p t k f =
+    let (room, tag) = both (leb (suc (p + (least d (parts 0 0 (suc e)) + need))) 8192) (isLeaf t) f in
+    (e, refl, refl, leb-true (suc (p + (least d (parts 0 0 (suc e)) + need))) 8192 room, tag)
+first-leaf d (suc x) y need p t k f =
+    let (none, fits) = both (leb (suc x) 0) (leb (suc (p + (least d (parts 0 0 y) + need))) 8192 && isLeaf t) f in
+    let past = lt-leb (suc x) 0 (omega arith) in
+    absurd (clash cc)
+
+low-word : (row : List ℕ) (p w : ℕ) → wordAt 0 65535 (drop p row) ≡ Is w → leb (getD row p 0) 65535 ≡ true
+unfolding wordAt
+low-word row p w e = by (between 0 65535 (getD row p 0)) refl (rw (here row p (asked-in 0 65535 row p w e)) at e)
+  where
+    by : (b : Bool) → between 0 65535 (getD row p 0) ≡ b → pick b (Is (getD row p 0)) Not ≡ Is w → leb (getD row p 0) 65535 ≡ true
+    by true q e = both (leb 0 (getD row p 0)) (leb (getD row p 0) 65535) q .1
+    by false q e = absurd (clash cc)
+
+module _ (row : List ℕ) (at d : ℕ) (o : Next) (need p x y : ℕ) (i : Reaches row at d o need p (parts 0 x y)) (k : noKids x y ≡ false) (f : leafNext d x y need p (getD row p 0) ≡ true) where
+  pub leaf-go : (w : ℕ) → wordAt 0 65535 (drop (p + 1) row) ≡ Is w → Reaches row at d o need (p + 2) (parts 0 x (y - 1))
+  leaf-go w q =
+      let (e, none, first, room, tag) = first-leaf d x y need p (getD row p 0) k f in
+      let last : suc e - 1 ≡ e = omega arith in
+      rw (none, first, last) (leaf-past row at d o need p e (rw (none, first) at i) tag (rw first at room) (asked-in 0 65535 row (p + 1) w q) (low-word row (p + 1) w q))
+
+  pub leaf-stop : p < length row → wordAt 0 65535 (drop (p + 1) row) ≡ Not → Seeks row at d o need (record { ok = false; at = p + 1 })
+  leaf-stop inside q =
+      let (e, none, first, room, tag) = first-leaf d x y need p (getD row p 0) k f in
+      leaf-cut row at d o need p e (rw (none, first) at i) tag (rw first at room) inside q
+
+-- the same from the test of both words
+pub leaf-words : (row : List ℕ) (p d : ℕ) → startsLeaf d (drop p row) ≡ true → (isLeaf (getD row p 0) ≡ true) × (p + 1 < length row) × (leb (getD row (p + 1) 0) 65535 ≡ true)
+unfolding startsLeaf
+leaf-words row p d e =
+    let room = leaf-room row p d e in
+    let words : startsLeaf d (getD row p 0 ∷ (getD row (p + 1) 0 ∷ drop (p + 1 + 1) row)) ≡ true = rw (two-words row p d (room .1)) at e in
+    let deep = both (leb 1 d) (isLeaf (getD row p 0) && leb (getD row (p + 1) 0) 65535) words in
+    let (tag, low) = both (isLeaf (getD row p 0)) (leb (getD row (p + 1) 0) 65535) (deep .1) in
+    (tag, room .1, low)
