@@ -6,7 +6,7 @@ use native.Mathlib.Omega.{arith}
 use borrow.Author.Tests.{le-leb, lt-leb, lt-ltb, eq-eqb, ne-eqb}
 use lib.Dec.{ltb}
 use Rattle.form.specs.Break.{Next, word, note, parts, never, declsNext, least}
-use Rattle.form.proofs.BreakLaws.{came-least, none-least}
+use Rattle.form.proofs.LeastLaws.{came-least, none-least}
 use Rattle.broken.specs.Internal.Seeks.{afterFlag, firstFlag, isOwn, afterWord}
 
 pub own-kids : (n p e : ℕ) → ltb 0 n ≡ isOwn (parts n p e)

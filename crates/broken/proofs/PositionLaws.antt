@@ -14,7 +14,7 @@ use Rattle.tree.specs.declared.tag.Shape.the-variants.{Unknown}
 use Rattle.tree.proofs.Ranges.{one-sort}
 use Rattle.form.specs.Break.{Next, parts, never, nextOf, nothing, rest, least, leastAll, after, breakFrom, breakSort, breakAt}
 use Rattle.form.specs.declared.answer.Kind.the-variants.{Either}
-use Rattle.form.proofs.BreakLaws.{open-never}
+use Rattle.form.proofs.LeastLaws.{open-never}
 use Rattle.broken.specs.declared.seek.Sought.{Sought}
 use Rattle.broken.specs.Internal.Seeks.{Seeks}
 

@@ -17,7 +17,7 @@ use Rattle.form.specs.declared.head.Word.the-variants.{Is, Not}
 use Rattle.form.specs.declared.head.Head.the-variants.{Kids}
 use Rattle.form.proofs.DecodeLaws.{clash}
 use Rattle.form.proofs.HeadLaws.{gone, here, word-is, asked-in, ask-go, ask-stop}
-use Rattle.form.proofs.BreakLaws.{Fine, fine-word}
+use Rattle.form.proofs.LeastLaws.{Fine, fine-word}
 use Rattle.form.proofs.PositionLaws.{own-fine}
 use Rattle.broken.specs.Internal.Seeks.{isOwn, afterWord, Reaches}
 use Rattle.broken.proofs.SeekLaws.{start, own-go, reached-on}

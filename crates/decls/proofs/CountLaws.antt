@@ -1,18 +1,18 @@
 -- The number of declarations of a quantified row, and where its body starts, are those of the tree. Assumes nothing.
 use mathlib.Core.Path.{_≡_, refl, ap, _∙_}
-use mathlib.Core.Bool.{Bool, true, false, not, _||_}
+use mathlib.Core.Bool.{Bool, true, false, _||_}
 use mathlib.Core.List.{List, [], _∷_, _++_, map}
 use mathlib.Core.Option.{none as absent, some}
 use Prim.Native.Nat.{ℕ, _+_, _≤_, _<_}
 use native.Mathlib.Omega.{arith}
 use borrow.Author.Tests.{lt-leb, lt-ltb, le-ltb, eqb-true}
-use lib.Dec.{leb, ltb, eqb}
+use lib.Dec.{leb, eqb}
 use lib.ListN.{length, getD, drop, length-map}
 use Rattle.tree.specs.Form.{Form, pick, encode, encodeDecls}
 use Rattle.tree.specs.Tag.{pred}
 use Rattle.form.proofs.DecodeLaws.{clash, Ok}
 use Rattle.rules.specs.Fill.{Decl, unnoted, nameOf, unlisted, anyNoted, other, quantified}
-use Rattle.shift.proofs.AroundLaws.{headOf, encode-around, Quant, other-first, quant-first, quant-second, quant-two, quant-tagged}
+use Rattle.shift.proofs.AroundLaws.{headOf, encode-around, Quant, other-first, quant-second, quant-two, quant-tagged}
 use Rattle.decls.specs.Internal.Noted.{countIn, declsEnd, bodyStart}
 use Rattle.decls.proofs.DeclLaws.{GoodDecls, around-good}
 use Rattle.decls.proofs.NotedLaws.{decls-end}
@@ -90,13 +90,6 @@ body-start f ok y =
 module _ {d : ℕ} {f : Form} (y : Quant d f) where
   head-words : encode f ≡ headOf (y .op) (y .decls) ++ encode (y .body)
   head-words = ap encode (y .form) ∙ encode-around (y .op) 0 (y .decls) (y .body)
-
-  pub tag-plain : ltb (getD (encode f) 0 0) 860 ≡ not (anyNoted (y .decls))
-  tag-plain = rw (quant-first y) (go (anyNoted (y .decls)) (op-range (y .op) (y .which)))
-    where
-      go : (z : Bool) → (851 ≤ y .op) × (y .op ≤ 852) → ltb (pick z (y .op + 10) (y .op)) 860 ≡ not z
-      go true (lo, hi) = le-ltb (y .op + 10) 860 (omega arith)
-      go false (lo, hi) = lt-ltb (y .op) 860 (omega arith)
 
   pub noted-words : anyNoted (y .decls) ≡ true → drop 2 (encode f) ≡ encodeDecls (unlisted (y .decls)) ++ encode (y .body)
   noted-words h = rw (head-words, h)

@@ -11,7 +11,7 @@ use Rattle.form.specs.declared.head.Step.{Step}
 use Rattle.form.specs.declared.head.Step.the-variants.{End, Bad}
 use Rattle.form.proofs.DecodeLaws.{clash, OkDecls, decls-sound, decls-at}
 use Rattle.reader.specs.Internal.Reads.{ToldAll, ToldNoted, declsWithin, markDecls}
-use Rattle.reader.proofs.ReaderLaws.{within}
+use Rattle.reader.proofs.DeclReads.{within}
 use Rattle.decls.specs.Internal.Noted.{endDecls}
 
 -- what the reader of declarations tells of a position is where they end

@@ -14,7 +14,7 @@ use Rattle.rules.specs.Prune.{isNot, unused}
 use Rattle.rules.proofs.WalkLaws.{binding-inside, binding-back, eachDecls}
 use Rattle.shift.specs.Internal.Items.{items, allItems, apart}
 use Rattle.shift.specs.declared.items.Item.the-variants.{Plain, Ident}
-use Rattle.shift.proofs.RowLaws.{identOf, itemsOf, itemsDecls, marksOf, marksDecls, marks-lengthDecls, each-items-in, items-encode, items-encodeDecls}
+use Rattle.shift.proofs.RowLaws.{identOf, itemsOf, itemsDecls, marksOf, marksDecls, marks-lengthDecls, each-items-in, items-encodeDecls}
 use Rattle.shift.proofs.WordwiseLaws.{apart-encode}
 use Rattle.replace.specs.Internal.Pieces.{part}
 use Rattle.decls.specs.Internal.Used.{notIndex, cleared, clearedBy, clearedIn}
@@ -61,15 +61,7 @@ items-decls : (n : ℕ) (ds : Decls) → items (encodeDecls ds) (marksDecls n ds
 unfolding items
 items-decls n ds = rw (append-nil, append-nil, append-nil) at (items-encodeDecls n ds [] [])
 
-apart-form : (n : ℕ) (f : Form) → apart n (encode f) (marksOf n f) ≡ true
-unfolding apart
-apart-form n f = rw (append-nil, append-nil) at (apart-encode n n f [] [] (le-refl n))
-
-items-form : (n : ℕ) (f : Form) → items (encode f) (marksOf n f) ≡ itemsOf n f
-unfolding items
-items-form n f = rw (append-nil, append-nil, append-nil) at (items-encode n f [] [])
-
--- what clearing by a part of a row leaves: for the annotations of declarations under n others, and for a form
+-- what clearing by a part of a row leaves, and by the annotations of declarations under n others
 module _ (n : ℕ) (row marks : List ℕ) (start end : ℕ) (words : List ℕ) (long : end ≤ length row) (marked : end ≤ length marks) (count : length words ≡ n + 1) where
   pub clears-items : apart n (part start end row) (part start end marks) ≡ true → clearedIn n row marks start end words ≡ cleared n (drop 1 words) (items (part start end row) (part start end marks))
   clears-items a = clears-is n row marks start end words long marked count ∙ cleared-items n (drop 1 words) (part start end row) (part start end marks) a
@@ -78,10 +70,6 @@ module _ (n : ℕ) (row marks : List ℕ) (start end : ℕ) (words : List ℕ) (
   clears-decls ds e m =
       clears-items (rw (e, m) (apart-decls n ds))
       ∙ rw (e, m, items-decls n ds) (cleared-by n (drop 1 words) (itemsDecls n ds) (λ i. eachDecls (isNot i) 0 ds) (λ i. unused-decls n i ds))
-
-  pub clears-form : (f : Form) → part start end row ≡ encode f → part start end marks ≡ marksOf n f → clearedIn n row marks start end words ≡ clearedBy (λ i. unused i f) (drop 1 words)
-  clears-form f e m =
-      clears-items (rw (e, m) (apart-form n f)) ∙ rw (e, m, items-form n f) (cleared-by n (drop 1 words) (itemsOf n f) (λ i. unused i f) (λ i. unused-items n i f))
 
 -- where they stand in a row
 pub part-at : (row ws r : List ℕ) (start end : ℕ) → drop start row ≡ ws ++ r → end ≡ start + length ws → part start end row ≡ ws

@@ -3,6 +3,7 @@ pub mod HeadLaws
 pub mod LeafLaws
 pub mod RowLaws
 pub mod ListLaws
+pub mod LeastLaws
 pub mod BreakLaws
 pub mod PositionLaws
 pub mod ListPositionLaws

@@ -20,7 +20,8 @@ use Rattle.form.specs.declared.answer.ListKind.{ListKind}
 use Rattle.form.specs.declared.answer.ListKind.the-variants.{Pairs, Places}
 use Rattle.form.proofs.DecodeLaws.{Ok, chain-sound, decode-encode, decode-sound}
 use Rattle.form.proofs.ListLaws.{GoodAll, list-step, list-nil, list-sound}
-use Rattle.form.proofs.BreakLaws.{Fine, fine-parts, fine-never, Runs, too-many, pop, push, kids-run, kids-go}
+use Rattle.form.proofs.LeastLaws.{Fine, fine-parts, fine-never, Runs}
+use Rattle.form.proofs.BreakLaws.{too-many, pop, push, kids-run, kids-go}
 use Rattle.form.proofs.PositionLaws.{own-fine, good-none, goes-on, run-prefix, run-length}
 
 entry-fine : (kind : ListKind) (w : ℕ) → Fine (entryNext kind w)

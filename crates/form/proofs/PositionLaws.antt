@@ -20,7 +20,8 @@ use Rattle.form.specs.declared.answer.Kind.the-variants.{Expression, Pre
 use Rattle.form.proofs.DecodeLaws.{clash, chain-sound, decode-encode}
 use Rattle.form.proofs.HeadLaws.{between-in}
 use Rattle.form.proofs.RowLaws.{found-exact, row-one}
-use Rattle.form.proofs.BreakLaws.{Fine, fine-word, fine-note, fine-parts, fine-never, least-of, decls-fine, flags-grow, open-note, Runs, run-room, too-many, kids-run, kids-go, open-word, open-nil, open-never, open-name, open-pred, open-expr}
+use Rattle.form.proofs.LeastLaws.{Fine, fine-word, fine-note, fine-parts, fine-never, least-of, decls-fine, flags-grow, open-note, Runs, open-word, open-nil, open-never, open-name, open-pred, open-expr}
+use Rattle.form.proofs.BreakLaws.{run-room, too-many, kids-run, kids-go}
 
 -- the table's own words: a count from its least on, and what follows grows with it
 parts-grow : (d n p e n′ p′ e′ : ℕ) → n ≤ n′ → p ≤ p′ → e ≤ e′ → least d (parts n p e) ≤ least d (parts n′ p′ e′)

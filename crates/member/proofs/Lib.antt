@@ -2,6 +2,7 @@ pub mod MemberTree
 pub mod ShareLaws
 pub mod FillingLaws
 pub mod SetLaws
+pub mod InLaws
 pub mod BodyLaws
 pub mod TableLaws
 pub mod NotesLaws

@@ -21,7 +21,8 @@ use Rattle.form.specs.declared.head.Step.the-variants.{End, Bad}
 use Rattle.form.proofs.DecodeLaws.{clash, ok-node, ok-none, ok-more, read-exact, read-at, flags-exact, flags-at, decode-encode, decls-encode}
 use Rattle.form.proofs.HeadLaws.{here, few-decls}
 use Rattle.reader.specs.Internal.Reads.{declsWithin}
-use Rattle.reader.proofs.ReaderLaws.{node-here, within}
+use Rattle.reader.proofs.ReaderLaws.{node-here}
+use Rattle.reader.proofs.DeclReads.{within}
 use Rattle.rules.specs.Fill.{Decl, unnoted, nameOf, listed, around}
 use Rattle.rules.specs.Point.{restOf}
 use Rattle.rules.proofs.JoinLaws.{names-plain}

@@ -23,12 +23,14 @@ pub mod PlaceLaws
 pub mod PointLaws
 pub mod QuantifierLaws
 pub mod ShapeLaws
+pub mod PointShape
 pub mod OutputLaws
 pub mod InsidePoint
 pub mod PointTree
 pub mod FilledWords
 pub mod KeptRows
 pub mod NotedRows
+pub mod JoinedHead
 pub mod JoinedRows
 pub mod RestLaws
 pub mod HeadLaws

@@ -18,7 +18,8 @@ use Rattle.form.proofs.DecodeLaws.{clash, Ok, decode-encode}
 use Rattle.form.proofs.RowLaws.{row-one, found-row}
 use Rattle.replace.proofs.QuantLaws.{pred-sort}
 use Rattle.rules.specs.Point.{onePoint, ofResult, pointOutcome}
-use Rattle.one_point.proofs.ShapeLaws.{Shaped, shaped-decode, point-shaped}
+use Rattle.one_point.proofs.ShapeLaws.{Shaped, shaped-decode}
+use Rattle.one_point.proofs.PointShape.{point-shaped}
 
 -- a row that decodes at all decodes to the form that it was written from
 same-form : (g h : Form) → Shaped pred g → encode g ≡ encode h → Ok 64 pred h → h ≡ g

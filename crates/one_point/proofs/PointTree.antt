@@ -29,7 +29,7 @@ use Rattle.replace.proofs.FillTree.{wordFor}
 use Rattle.decls.specs.Internal.Used.{clearedBy}
 use Rattle.one_point.specs.Internal.Reduce.{placedForm}
 use Rattle.one_point.specs.Internal.Noted.{allOnes, joiningBy}
-use Rattle.one_point.specs.declared.noted.Joining.the-variants.{Apart, Unused, Used}
+use Rattle.one_point.specs.declared.joined.Joining.the-variants.{Apart, Unused, Used}
 use Rattle.one_point.proofs.PartialLaws.{zeros-front}
 
 -- the places of the declarations from the replaced one on

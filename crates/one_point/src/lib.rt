@@ -2,6 +2,8 @@
 mod children;
 mod equality;
 mod heads;
+mod joined;
+mod kept;
 mod marks;
 mod noted;
 pub mod one_point_inference;

@@ -1,5 +1,5 @@
 // A rest of declarations of which the first is replaced, filled in a body, and the declarations before it put round it.
-use crate::noted::put_kept;
+use crate::kept::put_kept;
 use crate::noted::put_noted;
 use form::answer::Answer;
 use replace::instantiate_partial::instantiate_partial;

@@ -1,3 +1,4 @@
 pub mod ReaderLaws
+pub mod DeclReads
 pub mod CheckLaws
 pub mod TableLaws

@@ -3,21 +3,19 @@ use mathlib.Core.Path.{_≡_, refl, ap, sym, _∙_}
 use mathlib.Core.Bool.{Bool, true, false, _||_}
 use mathlib.Core.List.{List, [], _∷_, _++_, append-assoc, append-nil, map}
 use Prim.Native.Nat.{ℕ, zero, suc, _+_, _≤_, _<_}
-use native.Mathlib.Nat.{add-zero}
 use native.Mathlib.Omega.{arith}
 use borrow.Author.Tests.{eqb-true, leb-true, le-ltb}
 use lib.Dec.{leb, eqb, ltb}
-use lib.ListN.{length, getD, take, drop, replicate, length-append, take-append-drop}
+use lib.ListN.{length, getD, drop, length-append}
 use lib.Seq.{drop-at}
 use Rattle.tree.specs.Form.{free, bound, Form, leaf, node, noted, Decls, Forms, none, more, pick, between, encode, encodeDecls, encodeAll}
 use Rattle.tree.specs.Tag.{Sort, pred, ask, kids, own, ownOf, shapeOf, predTags, sorts}
 use Rattle.form.specs.Decode.{Head, head, flagged, bad, addWord, addName, only, names, read, isLeaf, Whole, one, not-one, rowForm, found, asSort, formOf}
 use Rattle.form.specs.declared.answer.Kind.the-variants.{Predicate}
-use Rattle.reader.specs.Internal.Reads.{mark}
 use Rattle.form.proofs.DecodeLaws.{clash, no-flagged, Ok, ok-node, ok-noted, OkAll, ok-none, ok-more}
 use Rattle.shift.specs.Internal.Items.{items, apart}
 use Rattle.rules.proofs.WalkLaws.{and-left, and-right}
-use Rattle.shift.proofs.RowLaws.{itemsOf, marksOf, zeros, zeros-length, items-encode, only-mark}
+use Rattle.shift.proofs.RowLaws.{itemsOf, marksOf, zeros, zeros-length, items-encode}
 use Rattle.shift.proofs.WordwiseLaws.{apart-encode}
 use Rattle.shift.proofs.CheckedLaws.{Checked}
 use Rattle.rules.specs.Fill.{unnoted, quantifier, other, quantified}
@@ -263,18 +261,6 @@ module _ (f : Form) (y : Quant f) where
   -- under u declarations
   pub quant-items-in : (n u : ℕ) (rest : List ℕ) → n ≡ length (y .decls) → items (drop (2 + n) (encode f)) (drop (2 + n) (marksOf u f ++ rest)) ≡ itemsOf (n + u) (y .body)
   quant-items-in n u rest e = rw (y .form) (node-items (y .tag) n u (y .decls) (y .body) rest e)
-
-  quant-apart-in : (n u : ℕ) (rest : List ℕ) → n ≡ length (y .decls) → apart n (drop (2 + n) (encode f)) (drop (2 + n) (marksOf u f ++ rest)) ≡ true
-  quant-apart-in n u rest e = rw (y .form) (node-apart (y .tag) n u (y .decls) (y .body) rest e)
-
-  marks-front : (m : List ℕ) → take (length (encode f)) m ≡ mark f 0 0 (replicate (length (encode f)) 0) → marksOf 0 f ++ drop (length (encode f)) m ≡ m
-  marks-front m k = rw (← (k ∙ only-mark f)) (take-append-drop (length (encode f)) m)
-
-  pub quant-apart : (n : ℕ) (m : List ℕ) → n ≡ length (y .decls) → take (length (encode f)) m ≡ mark f 0 0 (replicate (length (encode f)) 0) → apart n (drop (2 + n) (encode f)) (drop (2 + n) m) ≡ true
-  quant-apart n m e k = rw (← marks-front m k) (quant-apart-in n 0 (drop (length (encode f)) m) e)
-
-  pub quant-items : (n : ℕ) (m : List ℕ) → n ≡ length (y .decls) → take (length (encode f)) m ≡ mark f 0 0 (replicate (length (encode f)) 0) → items (drop (2 + n) (encode f)) (drop (2 + n) m) ≡ itemsOf n (y .body)
-  quant-items n m e k = rw (← marks-front m k) (rw add-zero at (quant-items-in n 0 (drop (length (encode f)) m) e))
 
 -- the row's form
 pub pred-sort : (row : List ℕ) (s : Sort) (f : Form) → formOf Predicate row ≡ found s f → s ≡ pred

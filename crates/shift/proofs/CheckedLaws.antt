@@ -79,9 +79,6 @@ module _ (kind : Kind) (row : List ℕ) (go : Sort → Form → Outcome) where
   pub too-long : 8192 < length row → withForm kind row go ≡ refusal 1
   too-long h = rw (lt-leb (length row) 8192 h)
 
-  pub no-form-there : length row ≤ 8192 → formOf kind row ≡ missing → withForm kind row go ≡ stop 2 (breakAt kind row)
-  no-form-there h e = rw (le-leb (length row) 8192 h, e)
-
   -- what the check refuses is refused so
   pub check-refuses : (r : Answer) (k p : ℕ) → r ≡ told (checkOutcome kind row) → r ≡ No k p → withForm kind row go ≡ stop k p
   unfolding checkOutcome

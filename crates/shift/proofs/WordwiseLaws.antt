@@ -83,16 +83,6 @@ module _ (q : Item → Bool) (plain : (w : ℕ) → q (Plain w) ≡ true) where
   all-words lo (w ∷ v ∷ ws) (suc k ∷ zero ∷ ms) a = rw (plain w, all-words lo ws ms (and-right (leb lo k) (apart lo ws ms) a), tag-first v 0 ws ms)
   all-words lo (w ∷ v ∷ ws) (suc k ∷ suc j ∷ ms) a = absurd (clash cc)
 
--- the items word by word: one more, and no more
-pub words-next : (row marks : List ℕ) (i m t : ℕ) → i < length row → i < length marks
-    → wordItems m t (drop i row) (drop i marks) ≡ wordItem m t (getD row i 0) ∷ wordItems (getD marks i 0) (getD row i 0) (drop (i + 1) row) (drop (i + 1) marks)
-unfolding wordItems
-words-next row marks i m t low marked = rw (here row i low, here marks i marked)
-
-pub words-end : (row marks : List ℕ) (i m t : ℕ) → length row ≤ i → wordItems m t (drop i row) (drop i marks) ≡ []
-unfolding wordItems
-words-end row marks i m t high = rw (gone row i high)
-
 -- further on in a row the marks are apart too
 module _ (lo : ℕ) where
   apart-rest : (w m : ℕ) (ws ms : List ℕ) → apart lo (w ∷ ws) (m ∷ ms) ≡ true → apart lo ws ms ≡ true

@@ -1,5 +1,6 @@
 pub mod WriteLaws
 pub mod PrintLaws
+pub mod PrintDecls
 pub mod NodeLaws
 pub mod AnswerLaws
 pub mod EntryLaws

@@ -15,8 +15,8 @@ use Rattle.replace.specs.Internal.Pieces.{planned, downPlan, placedRow}
 use Rattle.decls.specs.Internal.Noted.{notedHead}
 use Rattle.decls.specs.Internal.Used.{clearedIn}
 use Rattle.one_point.specs.Internal.Reduce.{operatorIn, declsIn, oneTable, placedOutcome, isSimple, targetOf, namedRow, Putting}
-use Rattle.one_point.specs.declared.noted.Joining.{Joining}
-use Rattle.one_point.specs.declared.noted.Joining.the-variants.{Apart, Unused, Used}
+use Rattle.one_point.specs.declared.joined.Joining.{Joining}
+use Rattle.one_point.specs.declared.joined.Joining.the-variants.{Apart, Unused, Used}
 
 -- a row that holds the declarations of a head, each with its flag, from the third word on
 pub record Flags (head row : List ℕ) : Type 0 where

@@ -1,6 +1,6 @@
 -- `member::member/guard_at` meets its contract. Assumes nothing.
 use mathlib.Core.Path.{_∙_}
-use Rattle.member.proofs.SetLaws.{guard-plain, guard-noted}
+use Rattle.member.proofs.InLaws.{guard-plain, guard-noted}
 use borrow.Author.Needs.{needs}
 use Rattle.member.proofs.member.guard_at.Statement.{statement}
 use Rattle.member.proofs.member.guard_at.Tie as tie

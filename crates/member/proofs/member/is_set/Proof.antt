@@ -1,5 +1,5 @@
 -- `member::member/is_set` meets its contract. Assumes nothing.
-use Rattle.member.proofs.SetLaws.{set-first, set-second, set-none}
+use Rattle.member.proofs.InLaws.{set-first, set-second, set-none}
 use Rattle.member.proofs.member.is_set.Statement.{statement}
 use Rattle.member.proofs.member.is_set.Tie as tie
 

@@ -4,7 +4,7 @@ use mathlib.Core.Path.{refl, sym, _∙_}
 use Rattle.member.specs.Internal.Member.{SetTold}
 use Rattle.places.proofs.SidesLaws.{skip-is}
 use Rattle.shift.proofs.ItemLaws.{not-yes, not-no}
-use Rattle.member.proofs.SetLaws.{row-some, not-in, at-in, not-set, count-in, count-low, guard-ends, set-in}
+use Rattle.member.proofs.InLaws.{row-some, not-in, at-in, not-set, count-in, count-low, guard-ends, set-in}
 use borrow.Author.Needs.{needs}
 use Rattle.member.proofs.member.membership_of.Statement.{statement}
 use Rattle.member.proofs.member.membership_of.Tie as tie

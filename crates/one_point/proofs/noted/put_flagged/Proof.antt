@@ -13,9 +13,9 @@ use Rattle.one_point.proofs.noted.put_flagged.Statement.{statement}
 use Rattle.one_point.proofs.noted.put_flagged.Tie as tie
 use Rattle.one_point.proofs.noted.put_flagged.Reads as reads
 use Rattle.one_point.proofs.noted.put_flagged.Lts as lts
-use Rattle.one_point.proofs.noted.put_inner.Reads as put-inner-reads
-use Rattle.one_point.proofs.noted.put_kept.Reads as put-kept-reads
-use Rattle.one_point.proofs.noted.put_names.Reads as put-names-reads
+use Rattle.one_point.proofs.joined.put_inner.Reads as put-inner-reads
+use Rattle.one_point.proofs.kept.put_kept.Reads as put-kept-reads
+use Rattle.one_point.proofs.joined.put_names.Reads as put-names-reads
 
 put-kept-requires : tie.Need-put-kept-requires
 put-kept-requires c κs = let at-pre = c .before .before .before .before .before .before .before .before .before .pre in let at-args = c .before .before .before .before .before .before .before .before .before .args in (at-pre .0 .placing .heading, put-low (at-args .head .now) (at-args .row .now) (at-args .p) (at-args .part .now) (at-args .part-marks .now) (at-args .body .now) (at-args .marks .now) (at-pre .0))

@@ -11,7 +11,7 @@ use Rattle.one_point.proofs.rest.put_rest.Statement.{statement}
 use Rattle.one_point.proofs.rest.put_rest.Tie as tie
 use Rattle.one_point.proofs.rest.put_rest.Reads as reads
 use Rattle.one_point.proofs.rest.put_rest.Lts as lts
-use Rattle.one_point.proofs.noted.put_kept.Reads as put-kept-reads
+use Rattle.one_point.proofs.kept.put_kept.Reads as put-kept-reads
 use Rattle.one_point.proofs.noted.put_noted.Reads as put-noted-reads
 use Rattle.one_point.proofs.rest.is_apart.Reads as is-apart-reads
 use Rattle.one_point.proofs.rest.is_simple.Reads as is-simple-reads

@@ -12,7 +12,8 @@ use Rattle.tree.specs.Tag.{expr, pred}
 use Rattle.form.specs.Decode.{decode, decodeAll, decls}
 use Rattle.reader.specs.Internal.Reads.{ToldAll, ToldDecls, wordsAfter}
 use Rattle.form.proofs.HeadLaws.{few, asked-in}
-use Rattle.reader.proofs.ReaderLaws.{leaf-else, leaf-taken, too-deep, past-end, an-other, other-fits, other-left, fits-noted, words-noted, other-noted, other-bad, a-form, kids-after, all-stop, all-more, all-none, rises, rises-all, both-go, both-stop, decl-no-name, decl-no-flag, decl-bare, decl-typed, decls-more, decls-stop, decls-none, decl-rises, decls-rise, noted-stop, noted-bare, noted-go}
+use Rattle.reader.proofs.ReaderLaws.{leaf-else, leaf-taken, too-deep, past-end, an-other, other-fits, other-left, a-form, kids-after, all-stop, all-more, all-none, rises, rises-all, both-go, both-stop}
+use Rattle.reader.proofs.DeclReads.{fits-noted, words-noted, other-noted, other-bad, decl-no-name, decl-no-flag, decl-bare, decl-typed, decls-more, decls-stop, decls-none, decl-rises, decls-rise, noted-stop, noted-bare, noted-go}
 use Prim.Native.Nat.{ℕ, _<_}
 use borrow.Fn.Kinds.{In}
 use borrow.Fn.PlainCycle.{Measures, is, falls, and}

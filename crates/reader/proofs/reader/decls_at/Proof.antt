@@ -1,5 +1,5 @@
 -- `reader::reader::decls_at` meets its contract. Assumes nothing.
-use Rattle.reader.proofs.ReaderLaws.{decls-deep, decls-under, decls-many, decls-read}
+use Rattle.reader.proofs.DeclReads.{decls-deep, decls-under, decls-many, decls-read}
 use borrow.Author.Needs.{needs}
 use Rattle.reader.proofs.reader.decls_at.Statement.{statement}
 use Rattle.reader.proofs.reader.decls_at.Tie as tie

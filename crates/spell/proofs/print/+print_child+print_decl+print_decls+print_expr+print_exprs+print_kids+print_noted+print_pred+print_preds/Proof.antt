@@ -13,7 +13,8 @@ use Rattle.spell.specs.declared.print.Ends.{Ends}
 use Rattle.spell.specs.Internal.Writes.{PrintedAll, PrintedDecls}
 use Rattle.form.proofs.LeafLaws.{leaf-room}
 use Rattle.spell.proofs.WriteLaws.{wrote-end}
-use Rattle.spell.proofs.PrintLaws.{byte-room, printed-within, all-within, all-more, all-stop, all-none, both-go, both-stop, spaced-two, decl-no-name, decl-no-flag, decl-bare, decl-typed, decls-more, decls-stop, decls-none, decl-within, decls-within, noted-stop, noted-bare, noted-end, noted-go}
+use Rattle.spell.proofs.PrintLaws.{printed-within, all-within, all-more, all-stop, all-none, both-go, both-stop}
+use Rattle.spell.proofs.PrintDecls.{byte-room, spaced-two, decl-no-name, decl-no-flag, decl-bare, decl-typed, decls-more, decls-stop, decls-none, decl-within, decls-within, noted-stop, noted-bare, noted-end, noted-go}
 use Rattle.spell.proofs.NodeLaws.{opening-few, too-deep, past-end, no-own, kids-stop, a-form, kids-within, leaf-printed, a-noted, flags-within}
 use Prim.Native.Nat.{ℕ}
 use Prim.Native.Nat.{_<_}

@@ -5,8 +5,8 @@ use native.Mathlib.Omega.{arith}
 use lib.ListN.{replicate}
 use Rattle.one_point.proofs.NotedRows.{flags-end, add-flags, add-plain}
 use borrow.Author.Needs.{needs}
-use Rattle.one_point.proofs.noted.add_names.Statement.{statement}
-use Rattle.one_point.proofs.noted.add_names.Tie as tie
+use Rattle.one_point.proofs.joined.add_names.Statement.{statement}
+use Rattle.one_point.proofs.joined.add_names.Tie as tie
 
 slice-read-if1 : tie.Need-slice-read-if1
 slice-read-if1 c = search needs

@@ -7,8 +7,8 @@ use Rattle.shift.proofs.CheckedLaws.{passed}
 use Rattle.one_point.proofs.HeadedLaws.{head-two, head-most, head-least, few-zeros}
 use Rattle.one_point.proofs.NotedRows.{names-in, names-most, names-required, end-fits, names-under}
 use borrow.Author.Needs.{needs}
-use Rattle.one_point.proofs.noted.put_names.Statement.{statement}
-use Rattle.one_point.proofs.noted.put_names.Tie as tie
+use Rattle.one_point.proofs.joined.put_names.Statement.{statement}
+use Rattle.one_point.proofs.joined.put_names.Tie as tie
 
 shared-slice-read-j : tie.Need-shared-slice-read-j
 shared-slice-read-j c = let at-args = c .before .before .before .before .before .before .before .before .args in let at-pre = c .before .before .before .before .before .before .before .before .pre in let h = head-two (at-args .head .now) (at-pre .0 .putting .placing .heading) in omega arith

@@ -5,8 +5,8 @@ use native.Mathlib.Omega.{arith}
 use lib.Seq.{length-take-le}
 use Rattle.one_point.proofs.JoinedRows.{inner-two, inner-start, inner-short}
 use borrow.Author.Needs.{needs}
-use Rattle.one_point.proofs.noted.put_inner.Statement.{statement}
-use Rattle.one_point.proofs.noted.put_inner.Tie as tie
+use Rattle.one_point.proofs.joined.put_inner.Statement.{statement}
+use Rattle.one_point.proofs.joined.put_inner.Tie as tie
 
 shared-slice-read-body-start : tie.Need-shared-slice-read-body-start
 shared-slice-read-body-start c = let at-args = c .before .before .before .before .before .before .before .before .args in let at-pre = c .before .before .before .before .before .before .before .before .pre in let h = inner-two (at-args .head .now) (at-args .row .now) (at-args .part .now) (at-args .part-marks .now) (at-args .body .now) (at-args .marks .now) (at-pre .0) (at-pre .1) in omega arith

@@ -7,8 +7,8 @@ use Rattle.shift.proofs.CheckedLaws.{passed}
 use Rattle.one_point.proofs.HeadedLaws.{head-two, head-most, head-least, ones-in, ones-ready, last-low}
 use Rattle.one_point.proofs.JoinedRows.{inner-start, inner-low, inner-marked, inner-few, marks-can, how-apart, how-unused, how-used}
 use borrow.Author.Needs.{needs}
-use Rattle.one_point.proofs.noted.put_raised.Statement.{statement}
-use Rattle.one_point.proofs.noted.put_raised.Tie as tie
+use Rattle.one_point.proofs.joined.put_raised.Statement.{statement}
+use Rattle.one_point.proofs.joined.put_raised.Tie as tie
 
 shared-slice-read-n : tie.Need-shared-slice-read-n
 shared-slice-read-n c = let at-args = c .before .before .before .before .before .before .before .before .before .args in let at-pre = c .before .before .before .before .before .before .before .before .before .pre in let h = head-two (at-args .head .now) (at-pre .0 .putting .placing .heading) in omega arith

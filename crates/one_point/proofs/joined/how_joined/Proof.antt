@@ -4,8 +4,8 @@ use native.Mathlib.Omega.{arith}
 use borrow.Author.Tests.{not-true, not-false}
 use Rattle.one_point.proofs.JoinedRows.{words-in, words-past, join-front, join-unused, join-used, join-apart}
 use borrow.Author.Needs.{needs}
-use Rattle.one_point.proofs.noted.how_joined.Statement.{statement}
-use Rattle.one_point.proofs.noted.how_joined.Tie as tie
+use Rattle.one_point.proofs.joined.how_joined.Statement.{statement}
+use Rattle.one_point.proofs.joined.how_joined.Tie as tie
 
 clear-used-requires : tie.Need-clear-used-requires
 clear-used-requires c κs = search needs

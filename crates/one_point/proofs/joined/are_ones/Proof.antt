@@ -5,8 +5,8 @@ use native.Mathlib.Omega.{arith}
 use lib.ListN.{length, drop}
 use Rattle.one_point.specs.Internal.Noted.{allOnes}
 use Rattle.one_point.proofs.NotedRows.{ones-not, ones-more, ones-end}
-use Rattle.one_point.proofs.noted.are_ones.Statement.{statement}
-use Rattle.one_point.proofs.noted.are_ones.Tie as tie
+use Rattle.one_point.proofs.joined.are_ones.Statement.{statement}
+use Rattle.one_point.proofs.joined.are_ones.Tie as tie
 
 abbrev Inv-loop : tie.InvT-loop
 Inv-loop words i₀ i = allOnes words ≡ allOnes (drop i words)

@@ -1,4 +1,4 @@
--- `one_point::noted::put_kept` meets its contract. Assumes nothing.
+-- `one_point::kept::put_kept` meets its contract. Assumes nothing.
 use borrow.Author.Needs.{needs}
 use mathlib.Core.Path.{sym, _∙_}
 use native.Mathlib.Omega.{arith}
@@ -7,13 +7,13 @@ use Rattle.shift.proofs.CheckedLaws.{passed}
 use Rattle.decls.proofs.HeadLaws.{room-enough}
 use Rattle.one_point.proofs.HeadedLaws.{head-two, head-count, few-words}
 use Rattle.one_point.proofs.KeptRows.{kept-under}
-use Rattle.one_point.proofs.noted.put_kept.Statement.{statement}
-use Rattle.one_point.proofs.noted.put_kept.Tie as tie
-use Rattle.one_point.proofs.noted.put_kept.Reads as reads
-use Rattle.one_point.proofs.noted.put_kept.Lts as lts
+use Rattle.one_point.proofs.kept.put_kept.Statement.{statement}
+use Rattle.one_point.proofs.kept.put_kept.Tie as tie
+use Rattle.one_point.proofs.kept.put_kept.Reads as reads
+use Rattle.one_point.proofs.kept.put_kept.Lts as lts
 use Rattle.decls.proofs.heads.write_noted.Reads as write-noted-reads
 use Rattle.one_point.proofs.heads.operator_of.Reads as operator-of-reads
-use Rattle.one_point.proofs.noted.put_under.Reads as put-under-reads
+use Rattle.one_point.proofs.kept.put_under.Reads as put-under-reads
 
 shared-slice-read-n : tie.Need-shared-slice-read-n
 shared-slice-read-n c = let at-args = c .before .before .before .before .before .before .before .before .args in let at-pre = c .before .before .before .before .before .before .before .before .pre in let h = head-two (at-args .head .now) (at-pre .0) in omega arith

@@ -7,10 +7,11 @@ use lib.ListN.{getD}
 use lib.Seq.{length-take-le}
 use Rattle.one_point.specs.Internal.Noted.{notesIn}
 use Rattle.one_point.proofs.HeadedLaws.{head-two, head-most, head-least, few-zeros, operator-low}
-use Rattle.one_point.proofs.JoinedRows.{notes-refused, notes-answer, is-less, filled-in, set-in, set-same, joined-long, joined-tight, joined-some, start-low}
+use Rattle.one_point.proofs.JoinedHead.{notes-refused, notes-answer, joined-long, joined-tight, joined-some, start-low}
+use Rattle.one_point.proofs.JoinedRows.{is-less, filled-in, set-in, set-same}
 use borrow.Author.Needs.{needs}
-use Rattle.one_point.proofs.noted.write_joined.Statement.{statement}
-use Rattle.one_point.proofs.noted.write_joined.Tie as tie
+use Rattle.one_point.proofs.joined.write_joined.Statement.{statement}
+use Rattle.one_point.proofs.joined.write_joined.Tie as tie
 
 shared-slice-read-j : tie.Need-shared-slice-read-j
 shared-slice-read-j c = let at-args = c .before .before .before .before .before .before .before .before .args in let at-pre = c .before .before .before .before .before .before .before .before .pre in let h = head-two (at-args .head .now) (at-pre .0) in omega arith

@@ -3,10 +3,10 @@ use borrow.Author.Needs.{needs}
 use mathlib.Core.Path.{refl, sym}
 use lib.Seq.{length-take-le}
 use Rattle.shift.proofs.CheckedLaws.{refused, passed}
-use Rattle.one_point.proofs.JoinedRows.{row-none, row-some}
+use Rattle.one_point.proofs.JoinedHead.{row-none, row-some}
 use borrow.Author.Needs.{needs}
-use Rattle.one_point.proofs.noted.put_joined.Statement.{statement}
-use Rattle.one_point.proofs.noted.put_joined.Tie as tie
+use Rattle.one_point.proofs.joined.put_joined.Statement.{statement}
+use Rattle.one_point.proofs.joined.put_joined.Tie as tie
 
 shared-slice-read-write-joined : tie.Need-shared-slice-read-write-joined
 shared-slice-read-write-joined c = search needs
