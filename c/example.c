@@ -1,4 +1,5 @@
-/* Shifts one form by -1 and by -2, asks where a row breaks, and offers one equality to a set of places. Its output is example.out. */
+/* Shifts one form by -1, and by -2 with the command's number; asks where a row breaks, and offers one equality to a set
+ * of places. Its output is example.out. */
 #include <stdio.h>
 
 #include "sogbayile.h"
@@ -20,11 +21,12 @@ int main(void)
 {
     /* there is a v9 with: index 0 equals index 2, which dangles as 1 */
     const uint32_t row[] = {852, 1, 9, 101, 2, 0, 2, 2};
-    static uint32_t out[SGB_MAX_WORDS];
+    static uint32_t out[SGB_MAX_WORDS], work[1];
     size_t n = sizeof row / sizeof *row;
 
     show("shift -1", sgb_shift(row, n, -1, out, SGB_MAX_WORDS), out);
-    show("shift -2", sgb_shift(row, n, -2, out, SGB_MAX_WORDS), out);
+    show("shift -2", sgb_run(SGB_SHIFT, -2, row, 0, row, n, work, 0, out, SGB_MAX_WORDS), out);
+    show("no command", sgb_run(0, 0, row, 0, row, n, work, 0, out, SGB_MAX_WORDS), out);
 
     /* the right side of the equality is a predicate */
     const uint32_t broken[] = {852, 1, 9, 101, 2, 0, 610};

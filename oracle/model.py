@@ -14,7 +14,7 @@ sys.path.insert(0, os.path.join(os.path.dirname(os.path.abspath(__file__)), "../
 import cases
 
 sys.setrecursionlimit(200000)
-ARGUMENTS = {"shift": "ng", "free": "gg", "bind": "gg", "fill": "gg", "prune": "g", "point": "g", "member": "g"}
+ARGUMENTS = {op: {"offset": "ng", "": "g"}.get(args, "gg") for op, (args, _) in cases.COMMANDS.items()}
 TOKEN = re.compile(r"\[|\]| |(?:0|[1-9][0-9]*)(?![0-9])")
 
 
@@ -111,7 +111,7 @@ def read(line):
 def rows(op, lst, form):
     """The words of the list and of the form, where 1, 2 and the late 8 do not refuse them."""
     row = flat(form)
-    f = cases.form(row, "P" if op in cases.PREDICATES else None)
+    f = cases.form(row, cases.COMMANDS[op][1])
     if nested(f) != form:
         raise Misspelled
     listed = place_row(lst) if op == "fill" else flat(lst)

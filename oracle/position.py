@@ -44,7 +44,7 @@ def position(line):
     head, rest = line[1:-1].split(" ", 1)
     groups = [x for x in items(rest) if not isinstance(x, int)]
     try:
-        cases.form(words(groups[-1]), "P" if head in ("fill", "prune", "point", "member") else None)
+        cases.form(words(groups[-1]), cases.COMMANDS[head][1])
         if head == "free":
             cases.entries(words(groups[0]), "pairs")
         if head == "fill":

@@ -404,15 +404,16 @@ def good_names(names):
         raise No(4)
 
 
-# the calls that take a predicate
-PREDICATES = ("fill", "prune", "point", "member")
+# the commands in the order of their numbers: what stands before the form, and the sort that the form must have
+COMMANDS = {"shift": ("offset", None), "free": ("pairs", None), "bind": ("names", None), "fill": ("places", "P"), "prune": ("", "P"), "point": ("", "P"), "member": ("", "P")}
 
 
 def call(op, out, work, by, lst, row):
     if op in ("free", "fill", "point", "member") and work < 16384:
         raise No(15)
-    f = form(row, "P" if op in PREDICATES else None)
-    s = "P" if op in PREDICATES else sort_of(row)
+    _, sort = COMMANDS.get(op, ("", None))
+    f = form(row, sort)
+    s = sort or sort_of(row)
     if op == "dangling":
         d = dangling(f)
         if len(d) > out:
@@ -703,14 +704,16 @@ def cases():
         yield one("offer, annotated, %s" % name, "new", "/".join(rows), "", 0, 0, n)
 
 
-CALLS = ["shift", "bind", "free", "fill", "prune", "point", "dangling", "lift", "new", "forced"]
+# the numbers of the commands, and of the calls that are no command's
+OTHERS = ["dangling", "lift", "new", "forced"]
+NUMBERS = {**{op: i + 1 for i, op in enumerate(COMMANDS)}, **{op: i + 101 for i, op in enumerate(OTHERS)}}
 SIGNS = {-1: 1, -2: 2, -2147483648: 3}
 
 
 def line(case):
     name, op, out, work, by, lst, row = case
     rows = row.split("/") if op in ("new", "forced") and row else []
-    words = [CALLS.index(op) + 1, out, work, abs(by), SIGNS.get(by, 0), len(w(lst)), lst]
+    words = [NUMBERS[op], out, work, abs(by), SIGNS.get(by, 0), len(w(lst)), lst]
     words += [x for r in rows for x in (len(w(r)), r)] if rows else [row]
     return "%s;%s" % (name, "".join(x + " " for x in " ".join(str(x) for x in words).split()))
 

@@ -34,7 +34,7 @@ pub enum Refusal {
     Capture,
     /// a result outside the row limits
     OutsideLimits,
-    /// a line that is not a command ([`text`] alone)
+    /// a line that is not a command ([`text`] alone); a number that is no command's, which [`run`] never asks for
     NotACommand,
     /// nothing to rewrite
     NothingToDo,
@@ -132,6 +132,18 @@ mod c {
         pub fn sgb_prune(row: *const u32, n: usize, out: *mut u32, room: usize) -> u64;
         pub fn sgb_point(row: *const u32, n: usize, work: *mut u32, work_n: usize, out: *mut u32, room: usize) -> u64;
         pub fn sgb_member(row: *const u32, n: usize, work: *mut u32, work_n: usize, out: *mut u32, room: usize) -> u64;
+        pub fn sgb_run(
+            number: u32,
+            offset: i32,
+            list: *const u32,
+            list_n: usize,
+            row: *const u32,
+            n: usize,
+            work: *mut u32,
+            work_n: usize,
+            out: *mut u32,
+            room: usize,
+        ) -> u64;
         pub fn sgb_places(n: usize, starts: *mut usize, ends: *mut usize) -> u64;
         pub fn sgb_offer(n: usize, starts: *mut usize, ends: *mut usize, row: *const u32, row_n: usize) -> u64;
     }
@@ -255,6 +267,43 @@ pub fn point(row: &[u32], work: &mut [u32], out: &mut [u32]) -> Result<usize, Re
 pub fn member(row: &[u32], work: &mut [u32], out: &mut [u32]) -> Result<usize, Refusal> {
     length(unsafe {
         c::sgb_member(row.as_ptr(), row.len(), work.as_mut_ptr(), work.len(), out.as_mut_ptr(), out.len())
+    })
+}
+
+/// A command, with its number in the C header.
+#[derive(Clone, Copy, Debug, PartialEq, Eq)]
+pub enum Command {
+    Shift = 1,
+    Free = 2,
+    Bind = 3,
+    Fill = 4,
+    Prune = 5,
+    Point = 6,
+    Member = 7,
+}
+
+/// Runs any command. One that takes no offset, no list or no `work` does not look at it.
+pub fn run(
+    command: Command,
+    offset: i32,
+    list: &[u32],
+    row: &[u32],
+    work: &mut [u32],
+    out: &mut [u32],
+) -> Result<usize, Refusal> {
+    length(unsafe {
+        c::sgb_run(
+            command as u32,
+            offset,
+            list.as_ptr(),
+            list.len(),
+            row.as_ptr(),
+            row.len(),
+            work.as_mut_ptr(),
+            work.len(),
+            out.as_mut_ptr(),
+            out.len(),
+        )
     })
 }
 

@@ -1,10 +1,33 @@
 //! Bracket text: command lines read into rows, and rows written as text.
 
-use crate::Refusal;
+use crate::{check, check_predicate, Command, Refusal};
+
+/// What stands before the form.
+#[derive(Clone, Copy)]
+enum Args {
+    Nothing,
+    Offset,
+    Names,
+    Pairs,
+    Places,
+}
+
+/// A command's head, what stands before its form, and the form's check.
+type Entry = (&'static str, Command, Args, fn(&[u32]) -> Result<(), Refusal>);
+
+const COMMANDS: [Entry; 7] = [
+    ("shift", Command::Shift, Args::Offset, check),
+    ("free", Command::Free, Args::Pairs, check),
+    ("bind", Command::Bind, Args::Names, check),
+    ("fill", Command::Fill, Args::Places, check_predicate),
+    ("prune", Command::Prune, Args::Nothing, check_predicate),
+    ("point", Command::Point, Args::Nothing, check_predicate),
+    ("member", Command::Member, Args::Nothing, check_predicate),
+];
 
 /// A command, with the text and the row of its list and of its form.
-struct Command<'a> {
-    head: &'a str,
+struct Line<'a> {
+    entry: Entry,
     offset: i32,
     list: Group<'a>,
     form: Group<'a>,
@@ -81,29 +104,29 @@ fn offset(text: &str) -> Option<(i32, &str)> {
     }
 }
 
-fn command(line: &str) -> Option<Command<'_>> {
+fn command(line: &str) -> Option<Line<'_>> {
     if line.len() > 65535 {
         return None;
     }
     let (head, rest) = line.strip_prefix('[')?.split_once(' ')?;
+    let entry = *COMMANDS.iter().find(|entry| entry.0 == head)?;
     let mut z = 0;
     let mut list = Group::default();
-    let rest = match head {
-        "shift" => {
+    let rest = match entry.2 {
+        Args::Nothing => rest,
+        Args::Offset => {
             let (value, rest) = offset(rest)?;
             z = value;
             rest.strip_prefix(' ')?
         }
-        "free" | "bind" | "fill" => {
-            let (got, rest) = group(rest, head == "fill")?;
+        Args::Names | Args::Pairs | Args::Places => {
+            let (got, rest) = group(rest, matches!(entry.2, Args::Places))?;
             list = got;
             rest.strip_prefix(' ')?
         }
-        "prune" | "point" | "member" => rest,
-        _ => return None,
     };
     let (form, rest) = group(rest, false)?;
-    (rest == "]").then_some(Command { head, offset: z, list, form })
+    (rest == "]").then_some(Line { entry, offset: z, list, form })
 }
 
 /// The number of own words after the tag at the front of the row, and of children.
@@ -201,37 +224,26 @@ impl Default for Runner {
 impl Runner {
     /// The row that a command line is answered.
     pub fn run(&mut self, line: &str) -> Result<&[u32], Refusal> {
-        let c = command(line).ok_or(Refusal::NotACommand)?;
-        let (form, list) = (&c.form.row, &c.list.row);
-        match c.head {
-            "fill" | "prune" | "point" | "member" => crate::check_predicate(form)?,
-            _ => crate::check(form)?,
+        let Line { entry, offset, list, form } = command(line).ok_or(Refusal::NotACommand)?;
+        let (_, command, args, check) = entry;
+        check(&form.row)?;
+        held(&form, spell(&form.row))?;
+        match args {
+            Args::Nothing | Args::Offset => {}
+            Args::Names => {
+                early(crate::check_names(&list.row))?;
+                held(&list, Some(spell_names(&list.row)))?;
+            }
+            Args::Pairs => {
+                early(crate::check_pairs(&list.row))?;
+                held(&list, spell_list(&list.row, false))?;
+            }
+            Args::Places => {
+                early(crate::check_places(&list.row, 0))?;
+                held(&list, spell_list(&list.row, true))?;
+            }
         }
-        held(&c.form, spell(form))?;
-        match c.head {
-            "free" => {
-                early(crate::check_pairs(list))?;
-                held(&c.list, spell_list(list, false))?;
-            }
-            "fill" => {
-                early(crate::check_places(list, 0))?;
-                held(&c.list, spell_list(list, true))?;
-            }
-            "bind" => {
-                early(crate::check_names(list))?;
-                held(&c.list, Some(spell_names(list)))?;
-            }
-            _ => {}
-        }
-        let n = match c.head {
-            "shift" => crate::shift(form, c.offset, &mut self.out)?,
-            "free" => crate::free(list, form, &mut self.work, &mut self.out)?,
-            "bind" => crate::bind(list, form, &mut self.out)?,
-            "fill" => crate::fill(list, form, &mut self.work, &mut self.out)?,
-            "prune" => crate::prune(form, &mut self.out)?,
-            "point" => crate::point(form, &mut self.work, &mut self.out)?,
-            _ => crate::member(form, &mut self.work, &mut self.out)?,
-        };
+        let n = crate::run(command, offset, &list.row, &form.row, &mut self.work, &mut self.out)?;
         Ok(&self.out[..n])
     }
 

@@ -2,7 +2,7 @@
 //
 // A case is: name; and then in words the call, the length of the output row, the length of the work row, the parameter, its sign, the
 // number of words of the list, the list, the row. A space ends each word, which may stand behind how often it is repeated and a star. The
-// calls: 1 shift, 2 bind, 3 free, 4 fill, 5 prune, 6 point, 7 dangling, 8 lift, 9 a new set of places, 10 a set that no constructor makes.
+// call is a command's number, or 101 dangling, 102 lift, 103 a new set of places, 104 a set that no constructor makes.
 // The rows that are offered to a set stand in the row, each behind the number of its words. The sign is 1, 2 or 3 for the offsets -1, -2
 // and -2147483648. The output row holds 88 everywhere before the call and the work row 77. What is printed: the name, document 01's number,
 // the length of an answer or the position of a refusal, and every word of the output row. For lift it is the part that it answers; for a set
@@ -45,14 +45,8 @@ fn answer_of(
     out: &mut [u32],
 ) -> Answer {
     match call {
-        1 => shift::shift::shift_bound_identifiers(row, by, out),
-        2 => subst::bind::bind_idents(list, row, out),
-        3 => listed::free::substitute_free_idents(list, row, work, out),
-        4 => listed::fill::instantiate(list, row, work, out),
-        5 => prune::prune::remove_unused_decls(row, out),
-        6 => one_point::one_point_inference::one_point_inference(row, work, out),
-        7 => subst::dangling::dangling_bound_indices(row, out),
-        _ => Answer::No(99, 0),
+        101 => subst::dangling::dangling_bound_indices(row, out),
+        _ => calls::run_number(call, by, list, row, work, out),
     }
 }
 
@@ -107,9 +101,9 @@ fn run_words(words: &[u32]) {
     let n = size_at(words, 5);
     let row = words_part(words, 6 + n, words.len());
     match call {
-        8 => lift_fresh(row, w, param),
-        9 => place_sets::run(row, Replacements::new(param as usize)),
-        10 => place_sets::run(row, place_sets::forced(param as usize)),
+        102 => lift_fresh(row, w, param),
+        103 => place_sets::run(row, Replacements::new(param as usize)),
+        104 => place_sets::run(row, place_sets::forced(param as usize)),
         _ => run_fresh(
             call,
             offset(param, word_at(words, 4)),

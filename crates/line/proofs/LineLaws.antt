@@ -2,7 +2,7 @@
 use mathlib.Core.Path.{_≡_, refl, sym, _∙_}
 use mathlib.Core.Bool.{Bool, true, false}
 use mathlib.Core.List.{List, [], _∷_}
-use Prim.Native.Nat.{ℕ, _+_, _≤_, _<_}
+use Prim.Native.Nat.{ℕ, suc, _+_, _≤_, _<_}
 use native.Mathlib.Omega.{arith}
 use borrow.Author.Tests.{le-leb, lt-leb, eq-eqb, ne-eqb}
 use lib.IntN.{ℤ, pos}
@@ -12,20 +12,24 @@ use Rattle.tree.specs.Form.{pick}
 use Rattle.form.proofs.DecodeLaws.{clash}
 use Rattle.form.proofs.HeadLaws.{gone, here}
 use Rattle.line.specs.Scan.{Scan, ended, broken, scanWords, group, Signed, signed, unsigned, offset}
-use Rattle.line.specs.Line.{heads, prefix, startOf, closing, lastGroup, formArg, nextArg, noList, shiftArgs, listArgs, args, listWords, readLine, listRow, lineOf, formRow}
+use Rattle.line.specs.Line.{prefix, startAt, orLater, startOf, closing, lastGroup, formArg, nextArg, noList, offsetArgs, listArgs, args, listWords, readLine, listRow, lineOf, formRow}
 use Rattle.spell.specs.Put.{put}
 use Rattle.line.specs.Internal.Places.{groupAt, Grouped, offsetAt, FormRead}
 use Rattle.line.specs.declared.group.Group.{Group}
 use Rattle.line.specs.declared.group.Group.the-variants as grp
 use Rattle.line.specs.declared.number.Offset as off
 use Rattle.line.specs.declared.number.Offset.the-variants.{Is, Bad}
-use Rattle.line.specs.declared.head.Head.{Head}
-use Rattle.line.specs.declared.head.Head.the-variants.{Shift}
+use Rattle.rules.specs.Command.{commands, headOf, argsOf, numbered}
+use Rattle.rules.proofs.CommandLaws.{number-here, number-past}
+use Rattle.rules.specs.declared.command.Command.{Command}
+use Rattle.rules.specs.declared.command.Args.{Args}
+use Rattle.rules.specs.declared.command.Numbered.{Numbered}
+use Rattle.rules.specs.declared.command.Numbered.the-variants as num
 use Rattle.line.specs.declared.head.Start.{Start}
 use Rattle.line.specs.declared.head.Start.the-variants.{At, Unknown}
 use Rattle.line.specs.declared.line.Part.{Part}
 use Rattle.line.specs.declared.line.Line.{Line}
-use Rattle.line.specs.declared.line.Line.the-variants.{Command, Misspelled}
+use Rattle.line.specs.declared.line.Line.the-variants.{Read, Misspelled}
 
 -- the head
 module _ (line word : List ℕ) (i : ℕ) where
@@ -45,6 +49,43 @@ module _ (line word : List ℕ) (i : ℕ) where
     pub prefix-more : i < length line → getD line i 0 ≡ getD word i 0 → prefix (drop i word) (drop i line) ≡ prefix (drop (i + 1) word) (drop (i + 1) line)
     unfolding prefix
     prefix-more l e = rw (here word i h, here line i l, eq-eqb (getD line i 0) (getD word i 0) e)
+
+module _ (word : List ℕ) (c : Command) (line : List ℕ) where
+  pub not-begun : prefix word line ≡ false → Unknown ≡ startAt word c line
+  not-begun e = rw e
+
+  pub begun : prefix word line ≡ true → At c (length word) ≡ startAt word c line
+  begun e = rw e
+
+pub headed : (c d : Command) → c ≡ d → (line : List ℕ) (r : Start) → r ≡ startAt (headOf d) c line → r ≡ startAt (headOf c) c line
+headed c d e line r h = h ∙ rw e
+
+-- the commands from number n on, where no command before it is the line's
+abbrev pub From : ℕ → List ℕ → Type 0
+From n line = (k : ℕ) × (n ≡ suc k) × (startOf (drop k commands) line ≡ startOf commands line)
+
+pub from-first : (line : List ℕ) → From 1 line
+from-first line = (0, refl, refl)
+
+module _ (n : ℕ) (line : List ℕ) (f : From n line) {t : Numbered} (e : t ≡ numbered n) where
+  pub head-none : t ≡ num.Unknown → Unknown ≡ startOf commands line
+  unfolding startOf
+  head-none q = let (k, z, s) = f in rw (number-past k (sym (rw z at e) ∙ q)) at s
+
+  module _ (c : Command) (q : t ≡ num.Is c) where
+    pub head-few : n ≤ length commands
+    head-few = let (k, z, s) = f in let l = number-here k c (sym (rw z at e) ∙ q) .0 in omega arith
+
+    here-is : orLater (startAt (headOf c) c line) (startOf (drop n commands) line) ≡ startOf commands line
+    unfolding startOf
+    here-is = let (k, z, s) = f in rw z (rw (number-here k c (sym (rw z at e) ∙ q) .1) at s)
+
+    module _ {u : Start} (h : u ≡ startAt (headOf c) c line) where
+      pub head-here : (d : Command) (at : ℕ) → u ≡ At d at → At d at ≡ startOf commands line
+      head-here d at r = rw (sym h ∙ r) at here-is
+
+      pub head-later : u ≡ Unknown → From (n + 1) line
+      head-later r = (n, omega arith, rw (sym h ∙ r) at here-is)
 
 -- a group's answer taken apart
 group-end : (at : ℕ) (s : Scan) (a b : List ℕ) (r : Group) (p n : ℕ) → Grouped at 0 s a b r → r ≡ grp.End p n
@@ -115,9 +156,9 @@ module _ (line : List ℕ) (at : ℕ) (a b : List ℕ) (r : Group) (t : Grouped 
         rw q (cc, v)
 
 -- the form
-module _ (line : List ℕ) (h : Head) (z : ℤ) (list : Part) (at : ℕ) (a : List ℕ) where
+module _ (line : List ℕ) (h : Command) (z : ℤ) (list : Part) (at : ℕ) (a : List ℕ) where
   made : (b ws : List ℕ) (k p n : ℕ) → lastGroup (drop at line) ≡ ended ws k → p ≡ at + k → n ≡ length ws → b ≡ put a 0 ws
-      → FormRead (formArg h z list at line) a b (Command (record { head = h; offset = z; list = list; form = record { start = at; end = p; count = n } }))
+      → FormRead (formArg h z list at line) a b (Read (record { command = h; offset = z; list = list; form = record { start = at; end = p; count = n } }))
   unfolding FormRead formArg lineOf formRow
   made b ws k p n q l m v = rw (q, l, m) (refl, v)
 
@@ -126,7 +167,7 @@ module _ (line : List ℕ) (h : Head) (z : ℤ) (list : Part) (at : ℕ) (a : Li
     unfolding FormRead formArg lineOf formRow
     form-stop e = let (ws, q, m) = group-broken at (lastGroup (drop at line)) a b r t e in rw q (refl, m)
 
-    pub form-go : (p n : ℕ) → r ≡ grp.End p n → FormRead (formArg h z list at line) a b (Command (record { head = h; offset = z; list = list; form = record { start = at; end = p; count = n } }))
+    pub form-go : (p n : ℕ) → r ≡ grp.End p n → FormRead (formArg h z list at line) a b (Read (record { command = h; offset = z; list = list; form = record { start = at; end = p; count = n } }))
     form-go p n e = let (ws, k, q, l, m, v) = group-end at (lastGroup (drop at line)) a b r p n t e in made b ws k p n q l m v
 
   pub next-past : length line ≤ at → FormRead (nextArg h z list at line) a a Misspelled
@@ -152,21 +193,21 @@ offset-is at (signed y k) z p e = (k, cc, cc)
 offset-is at unsigned z p e = absurd (clash cc)
 
 module _ (line : List ℕ) (at : ℕ) (a : List ℕ) where
-  module _ {t : off.Offset} (o : t ≡ offsetAt at (offset (drop at line))) where
-    pub shift-bad : t ≡ Bad → FormRead (shiftArgs at line) a a Misspelled
-    unfolding FormRead shiftArgs lineOf formRow put
-    shift-bad e = rw (offset-bad at (offset (drop at line)) (sym o ∙ e)) (refl, refl)
+  module _ (h : Command) {t : off.Offset} (o : t ≡ offsetAt at (offset (drop at line))) where
+    pub signed-bad : t ≡ Bad → FormRead (offsetArgs h at line) a a Misspelled
+    unfolding FormRead offsetArgs lineOf formRow put
+    signed-bad e = rw (offset-bad at (offset (drop at line)) (sym o ∙ e)) (refl, refl)
 
-    pub shift-go : (z : ℤ) (p : ℕ) → t ≡ Is z p → (b : List ℕ) (r : Line) → FormRead (nextArg Shift z noList p line) a b r → FormRead (shiftArgs at line) a b r
-    unfolding shiftArgs
-    shift-go z p e b r w = let (k, q, l) = offset-is at (offset (drop at line)) z p (sym o ∙ e) in rw q (rw l at w)
+    pub signed-go : (z : ℤ) (p : ℕ) → t ≡ Is z p → (b : List ℕ) (r : Line) → FormRead (nextArg h z noList p line) a b r → FormRead (offsetArgs h at line) a b r
+    unfolding offsetArgs
+    signed-go z p e b r w = let (k, q, l) = offset-is at (offset (drop at line)) z p (sym o ∙ e) in rw q (rw l at w)
 
-  listed : (h : Head) (places : Bool) (ws : List ℕ) (k p n : ℕ) → group places (drop at line) ≡ ended ws k → p ≡ at + k → n ≡ length ws → (b : List ℕ) (r : Line)
+  listed : (h : Command) (places : Bool) (ws : List ℕ) (k p n : ℕ) → group places (drop at line) ≡ ended ws k → p ≡ at + k → n ≡ length ws → (b : List ℕ) (r : Line)
       → FormRead (nextArg h (pos 0) (record { start = at; end = p; count = n }) p line) a b r → FormRead (listArgs h places at line) a b r
   unfolding listArgs
   listed h places ws k p n q l m b r w = rw q (rw (l, m) at w)
 
-  module _ (h : Head) (places : Bool) (c d : List ℕ) (g : Group) (t : Grouped at 0 (group places (drop at line)) c d g) where
+  module _ (h : Command) (places : Bool) (c d : List ℕ) (g : Group) (t : Grouped at 0 (group places (drop at line)) c d g) where
     pub list-kept : d ≡ put c 0 (scanWords (group places (drop at line)))
     unfolding Grouped
     list-kept = t .1
@@ -187,14 +228,11 @@ module _ (line a b : List ℕ) where
   unfolding readLine listRow lineOf formRow put
   line-long h = rw (lt-leb (length line) 65535 h) (refl, (refl, refl))
 
-  module _ (h : length line ≤ 65535) {t : Start} (s : t ≡ startOf heads line) where
+  module _ (h : length line ≤ 65535) {t : Start} (s : t ≡ startOf commands line) where
     pub line-unknown : t ≡ Unknown → Whole a b Misspelled
     unfolding readLine listRow lineOf formRow put
     line-unknown e = rw (le-leb (length line) 65535 h, sym s ∙ e) (refl, (refl, refl))
 
-    pub line-args : (k : Head) (at : ℕ) → t ≡ At k at → (a′ b′ : List ℕ) (r : Line) → FormRead (args k at line) b b′ r → a′ ≡ put a 0 (listWords k at line) → Whole a′ b′ r
+    pub line-args : (c : Command) (at : ℕ) → t ≡ At c at → (x y : Args) → y ≡ argsOf c → y ≡ x → (a′ b′ : List ℕ) (r : Line) → FormRead (args x c at line) b b′ r → a′ ≡ put a 0 (listWords x at line) → Whole a′ b′ r
     unfolding readLine listRow FormRead
-    line-args k at e a′ b′ r f l = rw (le-leb (length line) 65535 h, sym s ∙ e) (f .0, (l, f .1))
-
-pub at-head : {t : Start} (k h : Head) (at : ℕ) → t ≡ At k at → k ≡ h → t ≡ At h at
-at-head k h at e q = cc
+    line-args c at e x y k q a′ b′ r f l = rw (le-leb (length line) 65535 h, sym s ∙ e, sym k ∙ q) (f .0, (l, f .1))

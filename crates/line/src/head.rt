@@ -1,63 +1,61 @@
 // The heads of commands.
+use rules::command::Command;
+use rules::command::Numbered;
+use rules::command::of_number;
 ghost use mathlib.Core.Path.{_≡_};
-ghost use Rattle.line.specs.Line.{prefix, heads, startOf};
+ghost use Rattle.line.specs.Line.{startAt, startOf};
+ghost use Rattle.rules.specs.Command.{commands, headOf};
 
-pub enum Head {
-    Shift,
-    Free,
-    Bind,
-    Fill,
-    Prune,
-    Point,
-    Member,
-}
-
-// The head, and where its arguments begin.
+// The command, and where its arguments begin.
 pub enum Start {
-    At(Head, usize),
+    At(Command, usize),
     Unknown,
 }
 
-// Whether the line begins with the word.
-fn begins(line: &[u8], word: &[u8]) -> bool
-    ensures { λ r. ⌜ r ≡ prefix (now (word .entry)) (now (line .entry)) ⌝ }
+// Whether the line begins with the word, as the head of the command.
+fn begins(line: &[u8], word: &[u8], command: Command) -> Start
+    ensures { λ r. ⌜ r ≡ startAt (now (word .entry)) command (now (line .entry)) ⌝ }
 {
     let mut i: usize = 0;
     while i < word.len() {
         if line.len() <= i {
-            return false;
+            return Start::Unknown;
         }
         if line[i] != word[i] {
-            return false;
+            return Start::Unknown;
         }
         i += 1;
     }
-    true
+    Start::At(command, word.len())
+}
+
+// Whether the line begins with the command's head.
+fn begins_with(line: &[u8], command: Command) -> Start
+    ensures { λ r. ⌜ r ≡ startAt (headOf command) command (now (line .entry)) ⌝ }
+{
+    match command {
+        Command::Shift => begins(line, b"[shift ", command),
+        Command::Free => begins(line, b"[free ", command),
+        Command::Bind => begins(line, b"[bind ", command),
+        Command::Fill => begins(line, b"[fill ", command),
+        Command::Prune => begins(line, b"[prune ", command),
+        Command::Point => begins(line, b"[point ", command),
+        Command::Member => begins(line, b"[member ", command),
+    }
 }
 
 pub fn read_head(line: &[u8]) -> Start
-    ensures { λ r. ⌜ r ≡ startOf heads (now (line .entry)) ⌝ }
+    ensures { λ r. ⌜ r ≡ startOf commands (now (line .entry)) ⌝ }
 {
-    if begins(line, b"[shift ") {
-        return Start::At(Head::Shift, 7);
+    let mut n: u32 = 1;
+    loop {
+        let Numbered::Is(command) = of_number(n) else {
+            return Start::Unknown;
+        };
+        let start = begins_with(line, command);
+        if let Start::At(found, at) = start {
+            return Start::At(found, at);
+        }
+        n += 1;
     }
-    if begins(line, b"[free ") {
-        return Start::At(Head::Free, 6);
-    }
-    if begins(line, b"[bind ") {
-        return Start::At(Head::Bind, 6);
-    }
-    if begins(line, b"[fill ") {
-        return Start::At(Head::Fill, 6);
-    }
-    if begins(line, b"[prune ") {
-        return Start::At(Head::Prune, 7);
-    }
-    if begins(line, b"[point ") {
-        return Start::At(Head::Point, 7);
-    }
-    if begins(line, b"[member ") {
-        return Start::At(Head::Member, 8);
-    }
-    Start::Unknown
 }

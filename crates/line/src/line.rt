@@ -1,16 +1,18 @@
 // A whole line, read into a command.
 use crate::group::Group;
 use crate::group::read_group;
-use crate::head::Head;
 use crate::head::Start;
 use crate::head::read_head;
 use crate::number::Offset;
 use crate::number::read_offset;
+use rules::command::Args;
+use rules::command::Command;
+use rules::command::args_of;
 ghost use mathlib.Core.Path.{_≡_};
 ghost use mathlib.Core.Bool.{false};
 ghost use lib.ListN.{drop};
 ghost use Rattle.line.specs.Scan.{group, scanWords};
-ghost use Rattle.line.specs.Line.{lastGroup, formArg, nextArg, shiftArgs, listArgs, readLine, listRow, lineOf, formRow};
+ghost use Rattle.line.specs.Line.{lastGroup, formArg, nextArg, offsetArgs, listArgs, readLine, listRow, lineOf, formRow};
 ghost use Rattle.spell.specs.Put.{put};
 ghost use Rattle.line.specs.Internal.Places.{Grouped, FormRead};
 
@@ -23,14 +25,14 @@ pub struct Part {
 
 // The offset is 0 where the command has none, and the list starts and ends at 0.
 pub struct Parts {
-    pub head: Head,
+    pub command: Command,
     pub offset: i32,
     pub list: Part,
     pub form: Part,
 }
 
 pub enum Line {
-    Command(Parts),
+    Read(Parts),
     Misspelled,
 }
 
@@ -54,8 +56,15 @@ fn last_group(line: &[u8], row: &mut [u32], at: usize) -> Group
 }
 
 // The form, as the last argument.
-fn read_form(line: &[u8], form: &mut [u32], at: usize, head: Head, offset: i32, list: Part) -> Line
-    ensures { λ r. ⌜ FormRead (formArg head offset list at (now (line .entry))) (now (form .entry)) (now (form .exit)) r ⌝ }
+fn read_form(
+    line: &[u8],
+    form: &mut [u32],
+    at: usize,
+    command: Command,
+    offset: i32,
+    list: Part,
+) -> Line
+    ensures { λ r. ⌜ FormRead (formArg command offset list at (now (line .entry))) (now (form .entry)) (now (form .exit)) r ⌝ }
 {
     let Group::End(p, n) = last_group(line, form, at) else {
         return Line::Misspelled;
@@ -65,8 +74,8 @@ fn read_form(line: &[u8], form: &mut [u32], at: usize, head: Head, offset: i32, 
         end: p,
         count: n,
     };
-    Line::Command(Parts {
-        head,
+    Line::Read(Parts {
+        command,
         offset,
         list,
         form: part,
@@ -74,8 +83,15 @@ fn read_form(line: &[u8], form: &mut [u32], at: usize, head: Head, offset: i32, 
 }
 
 // A space, and the form.
-fn read_next(line: &[u8], form: &mut [u32], at: usize, head: Head, offset: i32, list: Part) -> Line
-    ensures { λ r. ⌜ FormRead (nextArg head offset list at (now (line .entry))) (now (form .entry)) (now (form .exit)) r ⌝ }
+fn read_next(
+    line: &[u8],
+    form: &mut [u32],
+    at: usize,
+    command: Command,
+    offset: i32,
+    list: Part,
+) -> Line
+    ensures { λ r. ⌜ FormRead (nextArg command offset list at (now (line .entry))) (now (form .entry)) (now (form .exit)) r ⌝ }
 {
     if line.len() <= at {
         return Line::Misspelled;
@@ -83,11 +99,12 @@ fn read_next(line: &[u8], form: &mut [u32], at: usize, head: Head, offset: i32, 
     if line[at] != b' ' {
         return Line::Misspelled;
     }
-    read_form(line, form, at + 1, head, offset, list)
+    read_form(line, form, at + 1, command, offset, list)
 }
 
-fn read_shift(line: &[u8], form: &mut [u32], at: usize) -> Line
-    ensures { λ r. ⌜ FormRead (shiftArgs at (now (line .entry))) (now (form .entry)) (now (form .exit)) r ⌝ }
+// An offset, a space, and the form.
+fn read_signed(line: &[u8], form: &mut [u32], at: usize, command: Command) -> Line
+    ensures { λ r. ⌜ FormRead (offsetArgs command at (now (line .entry))) (now (form .entry)) (now (form .exit)) r ⌝ }
 {
     let Offset::Is(z, p) = read_offset(line, at) else {
         return Line::Misspelled;
@@ -97,18 +114,19 @@ fn read_shift(line: &[u8], form: &mut [u32], at: usize) -> Line
         end: 0,
         count: 0,
     };
-    read_next(line, form, p, Head::Shift, z, none)
+    read_next(line, form, p, command, z, none)
 }
 
+// A list, a space, and the form.
 fn read_listed(
     line: &[u8],
     list: &mut [u32],
     form: &mut [u32],
     at: usize,
-    head: Head,
+    command: Command,
     places: bool,
 ) -> Line
-    ensures { λ r. ⌜ FormRead (listArgs head places at (now (line .entry))) (now (form .entry)) (now (form .exit)) r ⌝ }
+    ensures { λ r. ⌜ FormRead (listArgs command places at (now (line .entry))) (now (form .entry)) (now (form .exit)) r ⌝ }
     ensures { λ r. ⌜ now (list .exit) ≡ put (now (list .entry)) 0 (scanWords (group places (drop at (now (line .entry))))) ⌝ }
 {
     let Group::End(p, n) = read_group(line, list, at, places) else {
@@ -119,7 +137,7 @@ fn read_listed(
         end: p,
         count: n,
     };
-    read_next(line, form, p, head, 0, part)
+    read_next(line, form, p, command, 0, part)
 }
 
 // The command of a line. The words of its list and of its form are stored at the front of the two rows; words past the end of a row
@@ -132,7 +150,7 @@ pub fn read_line(line: &[u8], list: &mut [u32], form: &mut [u32]) -> Line
     if 65535 < line.len() {
         return Line::Misspelled;
     }
-    let Start::At(head, at) = read_head(line) else {
+    let Start::At(command, at) = read_head(line) else {
         return Line::Misspelled;
     };
     let none = Part {
@@ -140,13 +158,12 @@ pub fn read_line(line: &[u8], list: &mut [u32], form: &mut [u32]) -> Line
         end: 0,
         count: 0,
     };
-    match head {
-        Head::Shift => read_shift(line, form, at),
-        Head::Free => read_listed(line, list, form, at, Head::Free, false),
-        Head::Bind => read_listed(line, list, form, at, Head::Bind, false),
-        Head::Fill => read_listed(line, list, form, at, Head::Fill, true),
-        Head::Prune => read_form(line, form, at, Head::Prune, 0, none),
-        Head::Point => read_form(line, form, at, Head::Point, 0, none),
-        Head::Member => read_form(line, form, at, Head::Member, 0, none),
+    let args = args_of(command);
+    match args {
+        Args::Nothing => read_form(line, form, at, command, 0, none),
+        Args::Offset => read_signed(line, form, at, command),
+        Args::Names => read_listed(line, list, form, at, command, false),
+        Args::Pairs => read_listed(line, list, form, at, command, false),
+        Args::Places => read_listed(line, list, form, at, command, true),
     }
 }

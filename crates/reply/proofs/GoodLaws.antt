@@ -31,11 +31,12 @@ use Rattle.spell.specs.Spell.{digits, decimal, spell, ending, spellNo, printOut
 use Rattle.line.specs.Line.{Formed, formed, readLine}
 use Rattle.spell.proofs.PrintLaws.{spell-few}
 use Rattle.spell.proofs.WriteLaws.{digits-few}
-use Rattle.line.specs.declared.head.Head.{Head}
-use Rattle.line.specs.declared.head.Head.the-variants.{Shift, Free, Bind, Fill, Prune, Point, Member}
-use Rattle.line.specs.declared.line.Line.the-variants.{Command, Misspelled}
+use Rattle.rules.specs.Command.{argsOf, kindOf, outcomeOf}
+use Rattle.rules.specs.declared.command.Command.{Command}
+use Rattle.rules.specs.declared.command.Command.the-variants.{Shift, Free, Bind, Fill, Prune, Point, Member}
+use Rattle.line.specs.declared.line.Line.the-variants.{Read, Misspelled}
 use Rattle.reply.specs.Reply.{commandOutcome, ofLine, enoughRows, lineOutcome, printed, replyOutcome}
-use Rattle.reply.proofs.LateLaws.{Gate, passes, refuses, form-tests, list-tests, names-tests}
+use Rattle.reply.proofs.LateLaws.{Gate, passes, refuses, form-tests, args-gate}
 
 -- an answer is the row of one form
 abbrev pub Good : Outcome → Type 0
@@ -119,21 +120,25 @@ good-gate : (g : Outcome → Outcome) → Gate g → (o : Outcome) → Good o �
 good-gate g (passes h) o k = rw (h o) k
 good-gate g (refuses n p h) o k = rw (h o) tt
 
-good-command : (h : Head) (z : ℤ) (listText list text row : List ℕ) (work room : ℕ) → Good (commandOutcome h z listText list text row work room)
-good-command Shift z listText list text row work room = good-gate _ (form-tests Either text row .gate) _ (good-shift row z room)
-good-command Free z listText list text row work room = good-gate _ (form-tests Either text row .gate) _ (good-gate _ (list-tests Pairs listText list .gate) _ (good-free list row work room))
-good-command Bind z listText list text row work room = good-gate _ (form-tests Either text row .gate) _ (good-gate _ (names-tests listText list .gate) _ (good-bind list row room))
-good-command Fill z listText list text row work room = good-gate _ (form-tests Predicate text row .gate) _ (good-gate _ (list-tests Places listText list .gate) _ (good-fill list row work room))
-good-command Prune z listText list text row work room = good-gate _ (form-tests Predicate text row .gate) _ (good-prune row room)
-good-command Point z listText list text row work room = good-gate _ (form-tests Predicate text row .gate) _ (good-point row work room)
-good-command Member z listText list text row work room = good-gate _ (form-tests Predicate text row .gate) _ (good-member row work room)
+good-outcome : (c : Command) (z : ℤ) (list row : List ℕ) (work room : ℕ) → Good (outcomeOf c z list row work room)
+good-outcome Shift z list row work room = good-shift row z room
+good-outcome Free z list row work room = good-free list row work room
+good-outcome Bind z list row work room = good-bind list row room
+good-outcome Fill z list row work room = good-fill list row work room
+good-outcome Prune z list row work room = good-prune row room
+good-outcome Point z list row work room = good-point row work room
+good-outcome Member z list row work room = good-member row work room
+
+good-command : (c : Command) (z : ℤ) (listText list text row : List ℕ) (work room : ℕ) → Good (commandOutcome c z listText list text row work room)
+good-command c z listText list text row work room =
+    good-gate _ (form-tests (kindOf c) text row .gate) _ (good-gate _ (args-gate (argsOf c) listText list) _ (good-outcome c z list row work room))
 
 pub good-line : (line : List ℕ) (list form work room : ℕ) → Good (lineOutcome line list form work room)
 unfolding lineOutcome
 good-line line list form work room = good-needs 15 (enoughRows list form work) _ (by-case (readLine line))
   where
     by-case : (x : Formed) → Good (ofLine line work room x)
-    by-case (formed (Command p) ws) = good-command (p .head) (p .offset) _ _ _ ws work room
+    by-case (formed (Read p) ws) = good-command (p .command) (p .offset) _ _ _ ws work room
     by-case (formed Misspelled ws) = tt
 
 -- a row that is one form is found

@@ -22,7 +22,7 @@ use Rattle.form.specs.declared.answer.Kind.the-variants.{Either}
 use Rattle.form.specs.declared.answer.Answer.{Answer}
 use Rattle.form.specs.declared.answer.Answer.the-variants.{Done, No}
 use Rattle.form.specs.declared.answer.ListKind.{ListKind}
-use Rattle.form.specs.declared.answer.ListKind.the-variants.{Pairs, Places}
+use Rattle.form.specs.declared.answer.ListKind.the-variants as list-of
 use Rattle.reader.specs.declared.lists.Table.{Table}
 use Rattle.form.proofs.DecodeLaws.{clash}
 use Rattle.reader.proofs.CheckLaws.{form-of}
@@ -31,12 +31,14 @@ use Rattle.tree.proofs.Ranges.{split}
 use Rattle.reader.proofs.TableLaws.{listing-no, listing-yes}
 use Rattle.spell.specs.Spell.{spells, fitsForm, fitsList, fitsNames}
 use Rattle.line.specs.Line.{listRow}
-use Rattle.line.specs.declared.head.Head.{Head}
-use Rattle.line.specs.declared.head.Head.the-variants.{Shift, Free, Bind, Fill, Prune, Point, Member}
+use Rattle.calls.proofs.CallLaws.{Said, said-no, said-same}
+use Rattle.rules.specs.Command.{argsOf, kindOf, outcomeOf}
+use Rattle.rules.specs.declared.command.Args.{Args}
+use Rattle.rules.specs.declared.command.Args.the-variants.{Nothing, Offset, Names, Pairs, Places}
 use Rattle.line.specs.declared.line.Part.{Part}
 use Rattle.line.specs.declared.line.Parts.{Parts}
-use Rattle.reply.specs.Reply.{textOf, spelledForm, spelledList, spelledNames}
-use Rattle.reply.specs.Internal.Parts.{Held, HeldBoth, formWords, kindOf, listTest, partsTest, runOutcome}
+use Rattle.reply.specs.Reply.{textOf, spelledForm, spelledList, spelledNames, spelledArgs}
+use Rattle.reply.specs.Internal.Parts.{Held, Bare, HeldBoth, formWords, partsTest}
 
 -- a test before a command: it passes every outcome on, or refuses them all by one number and position
 pub data Gate (g : Outcome → Outcome) : Type 0 where
@@ -160,20 +162,6 @@ module _ (line row ws : List ℕ) (p : Part) (h : Held line row ws p) where
 pub row-holds : (line row ws : List ℕ) (p : Part) → Held line row ws p → (n : ℕ) → n ≤ 8192 → n ≤ length row
 row-holds line row ws p h n l = let c = h .room in omega arith
 
--- what a command answers and writes
-abbrev pub Said : Answer → Outcome → List ℕ → List ℕ → Type 0
-Said r o result result′ = (r ≡ told o) × (result′ ≡ written o result)
-
-pub said-no : (o : Outcome) (n : ℕ) {p : ℕ} (result : List ℕ) → o ≡ stop n p → Said (No n p) o result result
-said-no o n result e = rw e (refl, refl)
-
-pub said-same : (o p : Outcome) (r : Answer) (result result′ : List ℕ) → o ≡ p → Said r o result result′ → Said r p result result′
-said-same o p r result result′ e h = rw e at h
-
-pub run-said : (h x : Head) → h ≡ x → (z : ℤ) (list row : List ℕ) (work room : ℕ) (r : Answer) (result result′ : List ℕ)
-    → Said r (runOutcome x z list row work room) result result′ → Said r (runOutcome h z list row work room) result result′
-run-said h x e z list row work room r result result′ s = rw e s
-
 -- one test after another
 after-gate : (f g : Outcome → Outcome) → Gate f → Gate g → Gate (λ o. f (g o))
 after-gate f g (refuses m p h) k = refuses m p (λ o. h (g o))
@@ -187,49 +175,43 @@ pub test-yes : (row : List ℕ) (g : Outcome → Outcome) → Tests row g → (r
 test-yes row g t r e n q o r′ k = k ∙ sym (ap told (gate-done g r n e (t .gate) q o))
 
 -- a command's list
-list-gate : (h : Head) (text list : List ℕ) → Gate (listTest h text list)
-list-gate Shift text list = passes (λ o. refl)
-list-gate Free text list = list-tests Pairs text list .gate
-list-gate Bind text list = names-tests text list .gate
-list-gate Fill text list = list-tests Places text list .gate
-list-gate Prune text list = passes (λ o. refl)
-list-gate Point text list = passes (λ o. refl)
-list-gate Member text list = passes (λ o. refl)
+pub args-gate : (x : Args) (text list : List ℕ) → Gate (spelledArgs x text list)
+args-gate Nothing text list = passes (λ o. refl)
+args-gate Offset text list = passes (λ o. refl)
+args-gate Names text list = names-tests text list .gate
+args-gate Pairs text list = list-tests list-of.Pairs text list .gate
+args-gate Places text list = list-tests list-of.Places text list .gate
 
 test-short : (row : List ℕ) (g : Outcome → Outcome) → Tests row g → (r : Answer) (n : ℕ) → r ≡ told (g (answer [])) → r ≡ Done n → length row ≤ 8192
 test-short row g t r n e q = ⊎-elim (λ low. omega arith) (λ high. absurd (clash (let z = told-long row g t (omega arith) (answer []) in cc))) (split 8193 (length row))
 
--- the words of a list that is not checked are not used
-list-run : (h : Head) (z : ℤ) (text list part row : List ℕ) (work room : ℕ) (r : Answer) (n : ℕ) → r ≡ told (listTest h text list (answer [])) → r ≡ Done n
-    → (length list ≤ 8192 → part ≡ list) → runOutcome h z part row work room ≡ runOutcome h z list row work room
-list-run Shift z text list part row work room r n e q f = refl
-list-run Free z text list part row work room r n e q f = rw (f (test-short list _ (list-tests Pairs text list) r n e q))
-list-run Bind z text list part row work room r n e q f = rw (f (test-short list _ (names-tests text list) r n e q))
-list-run Fill z text list part row work room r n e q f = rw (f (test-short list _ (list-tests Places text list) r n e q))
-list-run Prune z text list part row work room r n e q f = refl
-list-run Point z text list part row work room r n e q f = refl
-list-run Member z text list part row work room r n e q f = refl
+args-short : (x : Args) (text list : List ℕ) → Bare x list → (r : Answer) (n : ℕ) → r ≡ told (spelledArgs x text list (answer [])) → r ≡ Done n → length list ≤ 8192
+args-short Nothing text list b r n e q = rw b (omega arith)
+args-short Offset text list b r n e q = rw b (omega arith)
+args-short Names text list b r n e q = test-short list _ (names-tests text list) r n e q
+args-short Pairs text list b r n e q = test-short list _ (list-tests list-of.Pairs text list) r n e q
+args-short Places text list b r n e q = test-short list _ (list-tests list-of.Places text list) r n e q
 
 -- a command after its checks
 module _ (line : List ℕ) (p : Parts) (r : Answer) (n : ℕ) (e : r ≡ told (partsTest line p (answer []))) where
   parts-tests : Tests (formWords line) (partsTest line p)
   parts-tests =
-      let t = form-tests (kindOf (p .head)) (textOf line (p .form)) (formWords line) in
-      record { gate = after-gate _ _ (t .gate) (list-gate (p .head) (textOf line (p .list)) (listRow line)); long = λ l o. t .long l _ }
+      let t = form-tests (kindOf (p .command)) (textOf line (p .form)) (formWords line) in
+      record { gate = after-gate _ _ (t .gate) (args-gate (argsOf (p .command)) (textOf line (p .list)) (listRow line)); long = λ l o. t .long l _ }
 
   pub parts-refused : {d : ℕ} → r ≡ No n d → (o : Outcome) (result : List ℕ) → Said r (partsTest line p o) result result
   parts-refused q o result = rw q (said-no _ n result (gate-refused _ r n e (parts-tests .gate) q o))
 
   module _ (q : r ≡ Done n) where
     -- the list's checks pass too
-    listed : r ≡ told (listTest (p .head) (textOf line (p .list)) (listRow line) (answer []))
-    listed = go (form-tests (kindOf (p .head)) (textOf line (p .form)) (formWords line) .gate)
+    listed : r ≡ told (spelledArgs (argsOf (p .command)) (textOf line (p .list)) (listRow line) (answer []))
+    listed = go (form-tests (kindOf (p .command)) (textOf line (p .form)) (formWords line) .gate)
       where
-        go : Gate (spelledForm (kindOf (p .head)) (textOf line (p .form)) (formWords line)) → r ≡ told (listTest (p .head) (textOf line (p .list)) (listRow line) (answer []))
+        go : Gate (spelledForm (kindOf (p .command)) (textOf line (p .form)) (formWords line)) → r ≡ told (spelledArgs (argsOf (p .command)) (textOf line (p .list)) (listRow line) (answer []))
         go (passes h) = e ∙ ap told (h _)
         go (refuses m k h) = let z = rw h at e in absurd (clash cc)
 
-    module _ (z : ℤ) (list row : List ℕ) (held : HeldBoth line list row (p .list) (p .form)) (work room a b : ℕ) (la : p .list .count ≤ 8192 → a ≡ p .list .count) (lb : p .form .count ≤ 8192 → b ≡ p .form .count) where
+    module _ (z : ℤ) (list row : List ℕ) (held : HeldBoth line list row p) (work room a b : ℕ) (la : p .list .count ≤ 8192 → a ≡ p .list .count) (lb : p .form .count ≤ 8192 → b ≡ p .form .count) where
       form-part : take b row ≡ formWords line
       form-part =
           let s = test-short (formWords line) _ parts-tests r n e q in
@@ -237,16 +219,16 @@ module _ (line : List ℕ) (p : Parts) (r : Answer) (n : ℕ) (e : r ≡ told (p
           let k : p .form .count ≤ 8192 = omega arith in
           rw (lb k) (held-row line row (formWords line) (p .form) (held .formed) k)
 
-      list-part : length (listRow line) ≤ 8192 → take a list ≡ listRow line
-      list-part s =
+      list-part : take a list ≡ listRow line
+      list-part =
+          let s = args-short (argsOf (p .command)) (textOf line (p .list)) (listRow line) (held .bare) r n listed q in
           let c = held .listed .counted in
           let k : p .list .count ≤ 8192 = omega arith in
           rw (la k) (held-row line list (listRow line) (p .list) (held .listed) k)
 
-      run-is : runOutcome (p .head) z (take a list) (take b row) work room ≡ partsTest line p (runOutcome (p .head) z (listRow line) (formWords line) work room)
-      run-is =
-          rw form-part (list-run (p .head) z (textOf line (p .list)) (listRow line) (take a list) (formWords line) work room r n listed q list-part ∙ sym (gate-done _ r n e (parts-tests .gate) q _))
+      run-is : outcomeOf (p .command) z (take a list) (take b row) work room ≡ partsTest line p (outcomeOf (p .command) z (listRow line) (formWords line) work room)
+      run-is = rw (form-part, list-part) (sym (gate-done _ r n e (parts-tests .gate) q _))
 
-      pub parts-passed : (r′ : Answer) (result result′ : List ℕ) → Said r′ (runOutcome (p .head) z (take a list) (take b row) work room) result result′
-          → Said r′ (partsTest line p (runOutcome (p .head) z (listRow line) (formWords line) work room)) result result′
+      pub parts-passed : (r′ : Answer) (result result′ : List ℕ) → Said r′ (outcomeOf (p .command) z (take a list) (take b row) work room) result result′
+          → Said r′ (partsTest line p (outcomeOf (p .command) z (listRow line) (formWords line) work room)) result result′
       parts-passed r′ result result′ h = said-same _ _ r′ result result′ run-is h

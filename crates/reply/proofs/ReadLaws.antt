@@ -12,17 +12,20 @@ use Rattle.tree.specs.Form.{pick}
 use Rattle.form.proofs.HeadLaws.{gone}
 use Rattle.tree.proofs.Ranges.{split}
 use Rattle.line.specs.Scan.{Scan, ended, broken, addByte, moved, markWords, note, depthAfter, turn, scan, group, scanWords, Signed, signed, unsigned, offset}
-use Rattle.line.specs.Line.{closing, closed, lastGroup, Formed, formed, formPart, formArg, space, nextArg, noList, ofOffset, shiftArgs, ofList, listArgs, args, listWords, ofStart, listStart, startOf, heads, readLine, listRow}
+use Rattle.line.specs.Line.{closing, closed, lastGroup, Formed, formed, formPart, formArg, space, nextArg, noList, ofOffset, offsetArgs, ofList, listArgs, args, listWords, ofStart, listStart, startOf, readLine, listRow}
 use Rattle.line.specs.declared.turn.State.{State}
 use Rattle.line.specs.declared.turn.State.the-variants.{Opened}
 use Rattle.line.specs.declared.turn.Turn.{Turn}
 use Rattle.line.specs.declared.turn.Turn.the-variants.{To, Bad}
-use Rattle.line.specs.declared.head.Head.{Head}
-use Rattle.line.specs.declared.head.Head.the-variants.{Shift, Free, Bind, Fill, Prune, Point, Member}
+use Rattle.rules.specs.Command.{commands, argsOf}
+use Rattle.rules.specs.declared.command.Command.{Command}
+use Rattle.rules.specs.declared.command.Args.{Args}
+use Rattle.rules.specs.declared.command.Args.the-variants.{Nothing, Offset, Names, Pairs, Places}
+use Rattle.reply.specs.Internal.Parts.{Bare}
 use Rattle.line.specs.declared.head.Start.{Start}
 use Rattle.line.specs.declared.head.Start.the-variants.{At, Unknown}
 use Rattle.line.specs.declared.line.Part.{Part}
-use Rattle.line.specs.declared.line.Line.the-variants.{Command, Misspelled}
+use Rattle.line.specs.declared.line.Line.the-variants.{Read, Misspelled}
 
 -- a group has no more bytes than there are
 abbrev Ends : ℕ → Scan → Type 0
@@ -66,9 +69,13 @@ ends-last bs = ends-closed (length bs) bs (group false bs) (ends-group false bs)
 abbrev pub Lies : List ℕ → List ℕ → Part → Type 0
 Lies line ws p = (p .start ≤ p .end) × (p .end ≤ length line) × (p .count ≡ length ws)
 
--- the form of a command, and its list, whose words are ls
+-- the words ls of a command's list, which are none where it takes no list
+abbrev pub Listed : List ℕ → Command → List ℕ → Part → Type 0
+Listed line h ls p = Lies line ls p × Bare (argsOf h) ls
+
+-- the form of a command, and its list
 abbrev pub Inside : List ℕ → List ℕ → Formed → Type 0
-Inside line ls (formed (Command p) ws) = Lies line ws (p .form) × Lies line ls (p .list)
+Inside line ls (formed (Read p) ws) = Lies line ws (p .form) × Listed line (p .command) ls (p .list)
 Inside line ls (formed Misspelled ws) = Unit {0}
 
 module _ (line : List ℕ) where
@@ -76,15 +83,15 @@ module _ (line : List ℕ) where
   nothing-lies = (omega arith, omega arith, refl)
 
   module _ (ls : List ℕ) where
-    part-inside : (h : Head) (z : ℤ) (list : Part) (at : ℕ) (x : Scan) → Lies line ls list → at ≤ length line → Ends (length line - at) x → Inside line ls (formPart h z list at x)
+    part-inside : (h : Command) (z : ℤ) (list : Part) (at : ℕ) (x : Scan) → Listed line h ls list → at ≤ length line → Ends (length line - at) x → Inside line ls (formPart h z list at x)
     part-inside h z list at (ended ws k) t l e = ((omega arith, omega arith, refl), t)
     part-inside h z list at (broken ws) t l e = tt
 
-    none-inside : (h : Head) (z : ℤ) (list : Part) (at : ℕ) (bs : List ℕ) → bs ≡ [] → Inside line ls (formPart h z list at (lastGroup bs))
+    none-inside : (h : Command) (z : ℤ) (list : Part) (at : ℕ) (bs : List ℕ) → bs ≡ [] → Inside line ls (formPart h z list at (lastGroup bs))
     unfolding lastGroup group
     none-inside h z list at bs e = rw e tt
 
-    form-inside : (h : Head) (z : ℤ) (list : Part) (at : ℕ) → Lies line ls list → Inside line ls (formArg h z list at line)
+    form-inside : (h : Command) (z : ℤ) (list : Part) (at : ℕ) → Listed line h ls list → Inside line ls (formArg h z list at line)
     unfolding formArg
     form-inside h z list at t =
         ⊎-elim (λ low. part-inside h z list at (lastGroup (drop at line)) t (omega arith) (rw length-drop at (ends-last (drop at line))))
@@ -94,45 +101,43 @@ module _ (line : List ℕ) where
     pick-inside true x y h k = h
     pick-inside false x y h k = k
 
-    next-inside : (h : Head) (z : ℤ) (list : Part) (at : ℕ) → Lies line ls list → Inside line ls (nextArg h z list at line)
+    next-inside : (h : Command) (z : ℤ) (list : Part) (at : ℕ) → Listed line h ls list → Inside line ls (nextArg h z list at line)
     unfolding nextArg
     next-inside h z list at t = pick-inside (space (drop at line)) _ _ (form-inside h z list (at + 1) t) tt
 
-  offset-inside : (at : ℕ) (x : Signed) → Inside line [] (ofOffset at line x)
-  offset-inside at (signed z k) = next-inside [] Shift z noList (at + k) nothing-lies
-  offset-inside at unsigned = tt
+  offset-inside : (h : Command) (at : ℕ) (x : Signed) → Bare (argsOf h) [] → Inside line [] (ofOffset h at line x)
+  offset-inside h at (signed z k) b = next-inside [] h z noList (at + k) (nothing-lies, b)
+  offset-inside h at unsigned b = tt
 
-  listed-inside : (h : Head) (at : ℕ) (x : Scan) → at ≤ length line → Ends (length line - at) x → Inside line (scanWords x) (ofList h at line x)
+  listed-inside : (h : Command) (at : ℕ) (x : Scan) → Bare (argsOf h) (scanWords x) → at ≤ length line → Ends (length line - at) x → Inside line (scanWords x) (ofList h at line x)
   unfolding scanWords
-  listed-inside h at (ended ws k) l e = next-inside ws h (pos 0) _ (at + k) (omega arith, omega arith, refl)
-  listed-inside h at (broken ws) l e = tt
+  listed-inside h at (ended ws k) b l e = next-inside ws h (pos 0) _ (at + k) ((omega arith, omega arith, refl), b)
+  listed-inside h at (broken ws) b l e = tt
 
-  no-list-inside : (h : Head) (places : Bool) (at : ℕ) (bs : List ℕ) → bs ≡ [] → Inside line (scanWords (group places bs)) (ofList h at line (group places bs))
+  no-list-inside : (h : Command) (places : Bool) (at : ℕ) (bs : List ℕ) → bs ≡ [] → Inside line (scanWords (group places bs)) (ofList h at line (group places bs))
   unfolding group scanWords
   no-list-inside h places at bs e = rw e tt
 
-  list-inside : (h : Head) (places : Bool) (at : ℕ) → Inside line (scanWords (group places (drop at line))) (listArgs h places at line)
+  list-inside : (h : Command) (places : Bool) (at : ℕ) → ((ls : List ℕ) → Bare (argsOf h) ls) → Inside line (scanWords (group places (drop at line))) (listArgs h places at line)
   unfolding listArgs
-  list-inside h places at =
-      ⊎-elim (λ low. listed-inside h at (group places (drop at line)) (omega arith) (rw length-drop at (ends-group places (drop at line))))
+  list-inside h places at b =
+      ⊎-elim (λ low. listed-inside h at (group places (drop at line)) (b _) (omega arith) (rw length-drop at (ends-group places (drop at line))))
       (λ high. no-list-inside h places at (drop at line) (gone line at (omega arith))) (split (length line) at)
 
-  args-inside : (h : Head) (at : ℕ) → Inside line (listWords h at line) (args h at line)
-  unfolding args shiftArgs listWords
-  args-inside Shift at = offset-inside at (offset (drop at line))
-  args-inside Free at = list-inside Free false at
-  args-inside Bind at = list-inside Bind false at
-  args-inside Fill at = list-inside Fill true at
-  args-inside Prune at = form-inside [] Prune (pos 0) noList at nothing-lies
-  args-inside Point at = form-inside [] Point (pos 0) noList at nothing-lies
-  args-inside Member at = form-inside [] Member (pos 0) noList at nothing-lies
+  args-inside : (x : Args) (h : Command) (at : ℕ) → argsOf h ≡ x → Inside line (listWords x at line) (args x h at line)
+  unfolding args offsetArgs listWords
+  args-inside Nothing h at e = form-inside [] h (pos 0) noList at (nothing-lies, rw e refl)
+  args-inside Offset h at e = offset-inside h at (offset (drop at line)) (rw e refl)
+  args-inside Names h at e = list-inside h false at (λ ls. rw e tt)
+  args-inside Pairs h at e = list-inside h false at (λ ls. rw e tt)
+  args-inside Places h at e = list-inside h true at (λ ls. rw e tt)
 
   start-inside : (x : Start) → Inside line (listStart line x) (ofStart line x)
-  start-inside (At h at) = args-inside h at
+  start-inside (At h at) = args-inside (argsOf h) h at refl
   start-inside Unknown = tt
 
-  line-by : (b : Bool) → Inside line (pick b (listStart line (startOf heads line)) []) (pick b (ofStart line (startOf heads line)) (formed Misspelled []))
-  line-by true = start-inside (startOf heads line)
+  line-by : (b : Bool) → Inside line (pick b (listStart line (startOf commands line)) []) (pick b (ofStart line (startOf commands line)) (formed Misspelled []))
+  line-by true = start-inside (startOf commands line)
   line-by false = tt
 
   pub line-inside : Inside line (listRow line) (readLine line)

@@ -6,7 +6,6 @@ use Prim.Native.Nat.{ℕ, _≤_, _<_}
 use native.Mathlib.Omega.{arith}
 use borrow.Author.Tests.{le-leb, lt-leb, leb-true}
 use lib.Dec.{leb}
-use lib.IntN.{ℤ}
 use lib.ListN.{length, take, drop, length-append}
 use lib.Seq.{take-append-seam}
 use Rattle.form.specs.Answer.{Outcome, answer, stop, refusal, told, written}
@@ -16,15 +15,14 @@ use Rattle.form.proofs.DecodeLaws.{clash}
 use Rattle.spell.specs.Put.{put}
 use Rattle.line.specs.Line.{Formed, formed, readLine, listRow, lineOf, formRow}
 use Rattle.spell.proofs.AnswerLaws.{put-front}
-use Rattle.line.specs.declared.head.Head.{Head}
-use Rattle.line.specs.declared.head.Head.the-variants.{Shift, Free, Bind, Fill, Prune, Point, Member}
+use Rattle.calls.proofs.CallLaws.{Said, said-no, said-same}
+use Rattle.rules.specs.Command.{outcomeOf}
 use Rattle.line.specs.declared.line.Part.{Part}
 use Rattle.line.specs.declared.line.Parts.{Parts}
 use Rattle.line.specs.declared.line.Line.{Line}
-use Rattle.line.specs.declared.line.Line.the-variants.{Command, Misspelled}
-use Rattle.reply.specs.Reply.{textOf, spelledForm, commandOutcome, ofLine, enoughRows, lineOutcome, printed}
-use Rattle.reply.specs.Internal.Parts.{Held, HeldBoth, formWords, kindOf, listTest, partsTest, runOutcome}
-use Rattle.reply.proofs.LateLaws.{Said, said-no, said-same}
+use Rattle.line.specs.declared.line.Line.the-variants.{Read, Misspelled}
+use Rattle.reply.specs.Reply.{ofLine, enoughRows, lineOutcome, printed}
+use Rattle.reply.specs.Internal.Parts.{Held, HeldBoth, formWords, partsTest}
 use Rattle.reply.proofs.ReadLaws.{Lies, Inside, line-inside}
 
 -- rows of these lengths
@@ -55,17 +53,7 @@ pub held-by : (line row row′ ws : List ℕ) (p : Part) → Lies line ws p → 
 held-by line row row′ ws p (a, b, c) m w l =
     record { ordered = a; inside = b; counted = c; room = omega arith; front = λ k. rw (w, put-front row ws (omega arith)) (take-append-seam ws (drop (length ws) row)) }
 
--- a command's answer: its checks, then its call
-command-is : (h : Head) (z : ℤ) (listText list text row : List ℕ) (work room : ℕ)
-    → commandOutcome h z listText list text row work room ≡ spelledForm (kindOf h) text row (listTest h listText list (runOutcome h z list row work room))
-command-is Shift z listText list text row work room = refl
-command-is Free z listText list text row work room = refl
-command-is Bind z listText list text row work room = refl
-command-is Fill z listText list text row work room = refl
-command-is Prune z listText list text row work room = refl
-command-is Point z listText list text row work room = refl
-command-is Member z listText list text row work room = refl
-
+-- the answer of a line
 module _ (line : List ℕ) (list form work room : ℕ) where
   pub not-enough : enoughRows list form work ≡ false → (result : List ℕ) → Said (No 15 0) (lineOutcome line list form work room) result result
   unfolding lineOutcome
@@ -78,39 +66,39 @@ module _ (line : List ℕ) (list form work room : ℕ) where
 
     bad-by : (x : Formed) → Misspelled ≡ lineOf x → ofLine line work room x ≡ refusal 8
     unfolding lineOf
-    bad-by (formed (Command p) ws) e = absurd (clash cc)
+    bad-by (formed (Read p) ws) e = absurd (clash cc)
     bad-by (formed Misspelled ws) e = refl
 
     module _ (l : Line) (e : l ≡ lineOf (readLine line)) where
       pub misspelled : l ≡ Misspelled → (result : List ℕ) → Said (No 8 0) (lineOutcome line list form work room) result result
       misspelled q result = said-no _ 8 result (is-line ∙ bad-by (readLine line) (sym q ∙ e))
 
-      module _ (p : Parts) (q : l ≡ Command p) where
-        is-by : (x : Formed) → Command p ≡ lineOf x → x ≡ formed (Command p) (formRow x)
+      module _ (p : Parts) (q : l ≡ Read p) where
+        is-by : (x : Formed) → Read p ≡ lineOf x → x ≡ formed (Read p) (formRow x)
         unfolding lineOf formRow
-        is-by (formed (Command p′) ws) k = let z : p′ ≡ p = cc in rw z
+        is-by (formed (Read p′) ws) k = let z : p′ ≡ p = cc in rw z
         is-by (formed Misspelled ws) k = absurd (clash cc)
 
-        is-command : readLine line ≡ formed (Command p) (formWords line)
+        is-command : readLine line ≡ formed (Read p) (formWords line)
         is-command = is-by (readLine line) (sym q ∙ e)
 
-        where-it-is : Inside line (listRow line) (formed (Command p) (formWords line))
+        where-it-is : Inside line (listRow line) (formed (Read p) (formWords line))
         where-it-is = rw is-command at (line-inside line)
 
         pub held-form : (row row′ : List ℕ) → form ≡ length row → row′ ≡ put row 0 (formWords line) → length row′ ≡ length row → Held line row′ (formWords line) (p .form)
         held-form row row′ n w k = held-by line row row′ (formWords line) (p .form) (where-it-is .0) (let z = enough-form list form work enough in omega arith) w k
 
         pub held-list : (row row′ : List ℕ) → list ≡ length row → row′ ≡ put row 0 (listRow line) → length row′ ≡ length row → Held line row′ (listRow line) (p .list)
-        held-list row row′ n w k = held-by line row row′ (listRow line) (p .list) (where-it-is .1) (let z = enough-list list form work enough in omega arith) w k
+        held-list row row′ n w k = held-by line row row′ (listRow line) (p .list) (where-it-is .1 .0) (let z = enough-list list form work enough in omega arith) w k
 
         pub held-both : (listed listed′ row row′ : List ℕ) → list ≡ length listed → form ≡ length row → listed′ ≡ put listed 0 (listRow line) → row′ ≡ put row 0 (formWords line)
-            → length listed′ ≡ length listed → length row′ ≡ length row → HeldBoth line listed′ row′ (p .list) (p .form)
-        held-both listed listed′ row row′ a b w v k m = record { listed = held-list listed listed′ a w k; formed = held-form row row′ b v m }
+            → length listed′ ≡ length listed → length row′ ≡ length row → HeldBoth line listed′ row′ p
+        held-both listed listed′ row row′ a b w v k m = record { listed = held-list listed listed′ a w k; formed = held-form row row′ b v m; bare = where-it-is .1 .1 }
 
-        pub command-said : (r : Answer) (result result′ : List ℕ) → Said r (partsTest line p (runOutcome (p .head) (p .offset) (listRow line) (formWords line) work room)) result result′
+        pub command-said : (r : Answer) (result result′ : List ℕ) → Said r (partsTest line p (outcomeOf (p .command) (p .offset) (listRow line) (formWords line) work room)) result result′
             → Said r (lineOutcome line list form work room) result result′
         command-said r result result′ s =
-            said-same _ _ r result result′ (sym (is-line ∙ ap (ofLine line work room) is-command ∙ command-is (p .head) (p .offset) (textOf line (p .list)) (listRow line) (textOf line (p .form)) (formWords line) work room)) s
+            said-same _ _ r result result′ (sym (is-line ∙ ap (ofLine line work room) is-command)) s
 
 -- printing
 module _ (o : Outcome) (r : Answer) (before result : List ℕ) (s : Said r o before result) where

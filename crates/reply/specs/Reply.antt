@@ -8,22 +8,16 @@ use lib.IntN.{ℤ}
 use lib.ListN.{take, drop}
 use Rattle.form.specs.Answer.{Outcome, answer, stop, refusal, within, withForm, withList, needs}
 use Rattle.form.specs.declared.answer.Kind.{Kind}
-use Rattle.form.specs.declared.answer.Kind.the-variants.{Predicate, Either}
 use Rattle.form.specs.declared.answer.ListKind.{ListKind}
-use Rattle.form.specs.declared.answer.ListKind.the-variants.{Pairs, Places}
-use Rattle.rules.specs.Shift.{shiftOutcome}
-use Rattle.rules.specs.Bind.{bindOutcome}
-use Rattle.rules.specs.Free.{freeOutcome}
-use Rattle.rules.specs.Fill.{fillOutcome}
-use Rattle.rules.specs.Prune.{pruneOutcome}
-use Rattle.rules.specs.Point.{pointOutcome}
-use Rattle.rules.specs.Member.{memberOutcome}
+use Rattle.form.specs.declared.answer.ListKind.the-variants as list-of
+use Rattle.rules.specs.Command.{argsOf, kindOf, outcomeOf}
+use Rattle.rules.specs.declared.command.Command.{Command}
+use Rattle.rules.specs.declared.command.Args.{Args}
+use Rattle.rules.specs.declared.command.Args.the-variants.{Nothing, Offset, Names, Pairs, Places}
 use Rattle.spell.specs.Spell.{fitsForm, fitsList, fitsNames, printOutcome, printNo}
 use Rattle.line.specs.Line.{Formed, formed, readLine, listRow}
-use Rattle.line.specs.declared.head.Head.{Head}
-use Rattle.line.specs.declared.head.Head.the-variants.{Shift, Free, Bind, Fill, Prune, Point, Member}
 use Rattle.line.specs.declared.line.Part.{Part}
-use Rattle.line.specs.declared.line.Line.the-variants.{Command, Misspelled}
+use Rattle.line.specs.declared.line.Line.the-variants.{Read, Misspelled}
 
 -- the bytes of a group
 abbrev pub textOf : List ℕ → Part → List ℕ
@@ -39,19 +33,22 @@ spelledList kind text row o = withList kind row (λ es. needs 8 (fitsList kind t
 unfoldable pub spelledNames : List ℕ → List ℕ → Outcome → Outcome
 spelledNames text row o = within row (needs 8 (fitsNames text row) o)
 
+-- the list by the shape of the arguments
+abbrev pub spelledArgs : Args → List ℕ → List ℕ → Outcome → Outcome
+spelledArgs Nothing text list o = o
+spelledArgs Offset text list o = o
+spelledArgs Names text list o = spelledNames text list o
+spelledArgs Pairs text list o = spelledList list-of.Pairs text list o
+spelledArgs Places text list o = spelledList list-of.Places text list o
+
 -- the list's text and row, the form's text and row, and the room in the work row and in the output
-abbrev pub commandOutcome : Head → ℤ → List ℕ → List ℕ → List ℕ → List ℕ → ℕ → ℕ → Outcome
-commandOutcome Shift z listText list text row work room = spelledForm Either text row (shiftOutcome row z room)
-commandOutcome Free z listText list text row work room = spelledForm Either text row (spelledList Pairs listText list (freeOutcome list row work room))
-commandOutcome Bind z listText list text row work room = spelledForm Either text row (spelledNames listText list (bindOutcome list row room))
-commandOutcome Fill z listText list text row work room = spelledForm Predicate text row (spelledList Places listText list (fillOutcome list row work room))
-commandOutcome Prune z listText list text row work room = spelledForm Predicate text row (pruneOutcome row room)
-commandOutcome Point z listText list text row work room = spelledForm Predicate text row (pointOutcome row work room)
-commandOutcome Member z listText list text row work room = spelledForm Predicate text row (memberOutcome row work room)
+abbrev pub commandOutcome : Command → ℤ → List ℕ → List ℕ → List ℕ → List ℕ → ℕ → ℕ → Outcome
+commandOutcome c z listText list text row work room =
+    spelledForm (kindOf c) text row (spelledArgs (argsOf c) listText list (outcomeOf c z list row work room))
 
 abbrev pub ofLine : List ℕ → ℕ → ℕ → Formed → Outcome
-ofLine line work room (formed (Command p) ws) =
-    commandOutcome (p .head) (p .offset) (textOf line (p .list)) (listRow line) (textOf line (p .form)) ws work room
+ofLine line work room (formed (Read p) ws) =
+    commandOutcome (p .command) (p .offset) (textOf line (p .list)) (listRow line) (textOf line (p .form)) ws work room
 ofLine line work room (formed Misspelled ws) = refusal 8
 
 -- 15 where the row for the list or for the form has under 8,192 words, or the work row under 16,384

@@ -1,6 +1,5 @@
 // The answer to a line of commands: a row, and its bytes.
 use crate::commands::check_parts;
-use crate::commands::run_command;
 use crate::commands::words_of;
 use form::answer::Answer;
 use form::answer::Limit;
@@ -39,17 +38,17 @@ pub fn answer_line(
     if !are_enough(list.len(), form.len(), work.len()) {
         return Answer::No(15, 0);
     }
-    let Line::Command(parts) = line::line::read_line(line, list, form) else {
+    let Line::Read(parts) = line::line::read_line(line, list, form) else {
         return Answer::No(8, 0);
     };
     let checked = check_parts(line, list, form, parts);
     let Answer::Done(k) = checked else {
         return checked;
     };
-    let head = parts.head;
+    let command = parts.command;
     let n = words_of(parts.list);
     let m = words_of(parts.form);
-    run_command(head, parts.offset, &list[..n], &form[..m], work, result)
+    calls::run(command, parts.offset, &list[..n], &form[..m], work, result)
 }
 
 // The bytes that answer the line, at the front of the buffer. All other rows are work rows.

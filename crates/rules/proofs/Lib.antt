@@ -5,4 +5,5 @@ pub mod OkLaws
 pub mod FrontLaws
 pub mod JoinLaws
 pub mod JoinFill
+pub mod CommandLaws
 pub mod Starred

@@ -1,7 +1,8 @@
 -- Document 01's starred cases, from row to row: one table, one statement about the definitions. Assumes nothing.
 use mathlib.Core.Path.{_≡_, refl}
-use mathlib.Core.List.{List, [], _∷_, map}
-use lib.IntN.{negsuc}
+use mathlib.Core.List.{List, [], _∷_}
+use Prim.Native.Nat.{ℕ}
+use lib.IntN.{ℤ, pos, negsuc}
 use Rattle.tree.specs.Form.{encode}
 use Rattle.tree.specs.Tag.{own, ownOf, shapeOf, exprTags, predTags}
 use Rattle.form.specs.Decode.{read, declAt, decls, decode, decodeAll, rowForm, formOf}
@@ -20,21 +21,27 @@ use Rattle.rules.specs.Scan.{offerParts, scan}
 use Rattle.rules.specs.Partial.{putRound, instantiatePartial}
 use Rattle.rules.specs.Point.{onePoint, pointOutcome}
 use Rattle.rules.specs.Member.{offerAll, membership, memberOutcome}
-use Rattle.rules.specs.Command.{Command, shift, free, bind, fill, prune, point, member, outcomeOf}
+use Rattle.rules.specs.Command.{outcomeOf}
+use Rattle.rules.specs.declared.command.Command.{Command}
+use Rattle.rules.specs.declared.command.Command.the-variants.{Shift, Free, Bind, Fill, Prune, Point, Member}
 
-abbrev commands : List Command
-commands =
-    shift (negsuc 1) (852 ∷ 1 ∷ 9 ∷ 101 ∷ 2 ∷ 0 ∷ 2 ∷ 2 ∷ [])
-    ∷ shift (negsuc 0) (852 ∷ 1 ∷ 9 ∷ 101 ∷ 2 ∷ 0 ∷ 2 ∷ 2 ∷ [])
-    ∷ free (4 ∷ 2 ∷ 0 ∷ []) (852 ∷ 1 ∷ 9 ∷ 101 ∷ 2 ∷ 0 ∷ 1 ∷ 4 ∷ [])
-    ∷ bind (4 ∷ 5 ∷ []) (101 ∷ 1 ∷ 4 ∷ 2 ∷ 0 ∷ [])
-    ∷ fill (0 ∷ 1 ∷ 1 ∷ 5 ∷ []) (852 ∷ 2 ∷ 4 ∷ 5 ∷ 101 ∷ 2 ∷ 1 ∷ 2 ∷ 2 ∷ [])
-    ∷ prune (852 ∷ 2 ∷ 4 ∷ 5 ∷ 101 ∷ 2 ∷ 1 ∷ 1 ∷ 7 ∷ [])
-    ∷ point (852 ∷ 1 ∷ 4 ∷ 101 ∷ 2 ∷ 0 ∷ 1 ∷ 7 ∷ [])
-    ∷ point (851 ∷ 1 ∷ 4 ∷ 8 ∷ 101 ∷ 2 ∷ 0 ∷ 1 ∷ 7 ∷ [])
-    ∷ point (852 ∷ 1 ∷ 4 ∷ 101 ∷ 2 ∷ 0 ∷ 2 ∷ 0 ∷ [])
-    ∷ point (852 ∷ 2 ∷ 4 ∷ 5 ∷ 351 ∷ 2 ∷ 101 ∷ 2 ∷ 0 ∷ 2 ∷ 1 ∷ 851 ∷ 1 ∷ 6 ∷ 101 ∷ 2 ∷ 0 ∷ 2 ∷ 1 ∷ [])
-    ∷ member (107 ∷ 1 ∷ 7 ∷ 803 ∷ 0 ∷ 1 ∷ 4 ∷ 610 ∷ 3 ∷ 5 ∷ [])
+-- a command with an output row of 8,192 words and a work row of 16,384
+abbrev run : Command → ℤ → List ℕ → List ℕ → Outcome
+run c z list row = outcomeOf c z list row 16384 8192
+
+abbrev cases : List Outcome
+cases =
+    run Shift (negsuc 1) [] (852 ∷ 1 ∷ 9 ∷ 101 ∷ 2 ∷ 0 ∷ 2 ∷ 2 ∷ [])
+    ∷ run Shift (negsuc 0) [] (852 ∷ 1 ∷ 9 ∷ 101 ∷ 2 ∷ 0 ∷ 2 ∷ 2 ∷ [])
+    ∷ run Free (pos 0) (4 ∷ 2 ∷ 0 ∷ []) (852 ∷ 1 ∷ 9 ∷ 101 ∷ 2 ∷ 0 ∷ 1 ∷ 4 ∷ [])
+    ∷ run Bind (pos 0) (4 ∷ 5 ∷ []) (101 ∷ 1 ∷ 4 ∷ 2 ∷ 0 ∷ [])
+    ∷ run Fill (pos 0) (0 ∷ 1 ∷ 1 ∷ 5 ∷ []) (852 ∷ 2 ∷ 4 ∷ 5 ∷ 101 ∷ 2 ∷ 1 ∷ 2 ∷ 2 ∷ [])
+    ∷ run Prune (pos 0) [] (852 ∷ 2 ∷ 4 ∷ 5 ∷ 101 ∷ 2 ∷ 1 ∷ 1 ∷ 7 ∷ [])
+    ∷ run Point (pos 0) [] (852 ∷ 1 ∷ 4 ∷ 101 ∷ 2 ∷ 0 ∷ 1 ∷ 7 ∷ [])
+    ∷ run Point (pos 0) [] (851 ∷ 1 ∷ 4 ∷ 8 ∷ 101 ∷ 2 ∷ 0 ∷ 1 ∷ 7 ∷ [])
+    ∷ run Point (pos 0) [] (852 ∷ 1 ∷ 4 ∷ 101 ∷ 2 ∷ 0 ∷ 2 ∷ 0 ∷ [])
+    ∷ run Point (pos 0) [] (852 ∷ 2 ∷ 4 ∷ 5 ∷ 351 ∷ 2 ∷ 101 ∷ 2 ∷ 0 ∷ 2 ∷ 1 ∷ 851 ∷ 1 ∷ 6 ∷ 101 ∷ 2 ∷ 0 ∷ 2 ∷ 1 ∷ [])
+    ∷ run Member (pos 0) [] (107 ∷ 1 ∷ 7 ∷ 803 ∷ 0 ∷ 1 ∷ 4 ∷ 610 ∷ 3 ∷ 5 ∷ [])
     ∷ []
 
 abbrev answers : List Outcome
@@ -52,25 +59,25 @@ answers =
     ∷ answer (852 ∷ 1 ∷ 4 ∷ 351 ∷ 2 ∷ 610 ∷ 101 ∷ 3 ∷ 5 ∷ 1 ∷ 7 ∷ [])
     ∷ []
 
-pub starred : map outcomeOf commands ≡ answers
-unfolding outcomeOf S.shiftOutcome S.shift freeOutcome substitute B.bindOutcome B.bind F.fillOutcome F.fill F.quantified P.pruneOutcome P.prune pointOutcome onePoint memberOutcome membership offerAll instantiatePartial putRound scan offerParts accept parts walk collect finish goodNames distinct listOf entries entryOf formOf rowForm decode decodeAll declAt decls read own ownOf shapeOf exprTags predTags encode
+pub starred : cases ≡ answers
+unfolding S.shiftOutcome S.shift freeOutcome substitute B.bindOutcome B.bind F.fillOutcome F.fill F.quantified P.pruneOutcome P.prune pointOutcome onePoint memberOutcome membership offerAll instantiatePartial putRound scan offerParts accept parts walk collect finish goodNames distinct listOf entries entryOf formOf rowForm decode decodeAll declAt decls read own ownOf shapeOf exprTags predTags encode
 starred = refl
 
 -- the same for annotated declarations
-abbrev notedCommands : List Command
-notedCommands =
-    shift (negsuc 0) (861 ∷ 1 ∷ 9 ∷ 1 ∷ 2 ∷ 1 ∷ 101 ∷ 2 ∷ 0 ∷ 2 ∷ 2 ∷ [])
-    ∷ shift (negsuc 0) (861 ∷ 1 ∷ 9 ∷ 1 ∷ 2 ∷ 0 ∷ 101 ∷ 2 ∷ 0 ∷ 2 ∷ 2 ∷ [])
-    ∷ shift (negsuc 0) (861 ∷ 1 ∷ 9 ∷ 0 ∷ 610 ∷ [])
-    ∷ bind (7 ∷ []) (861 ∷ 1 ∷ 9 ∷ 1 ∷ 1 ∷ 7 ∷ 101 ∷ 2 ∷ 0 ∷ 1 ∷ 7 ∷ [])
-    ∷ fill (0 ∷ 1 ∷ 1 ∷ 5 ∷ []) (862 ∷ 2 ∷ 4 ∷ 1 ∷ 2 ∷ 0 ∷ 5 ∷ 0 ∷ 101 ∷ 2 ∷ 1 ∷ 2 ∷ 2 ∷ [])
-    ∷ fill (1 ∷ 1 ∷ 5 ∷ 0 ∷ []) (862 ∷ 2 ∷ 4 ∷ 1 ∷ 1 ∷ 6 ∷ 5 ∷ 0 ∷ 101 ∷ 2 ∷ 0 ∷ 2 ∷ 1 ∷ [])
-    ∷ prune (862 ∷ 2 ∷ 4 ∷ 0 ∷ 5 ∷ 1 ∷ 1 ∷ 8 ∷ 101 ∷ 2 ∷ 1 ∷ 1 ∷ 7 ∷ [])
-    ∷ prune (862 ∷ 2 ∷ 4 ∷ 1 ∷ 2 ∷ 0 ∷ 5 ∷ 1 ∷ 1 ∷ 8 ∷ 101 ∷ 2 ∷ 1 ∷ 1 ∷ 7 ∷ [])
-    ∷ point (852 ∷ 2 ∷ 4 ∷ 5 ∷ 351 ∷ 2 ∷ 101 ∷ 2 ∷ 0 ∷ 2 ∷ 1 ∷ 862 ∷ 1 ∷ 6 ∷ 1 ∷ 2 ∷ 2 ∷ 101 ∷ 2 ∷ 0 ∷ 2 ∷ 1 ∷ [])
-    ∷ point (852 ∷ 2 ∷ 4 ∷ 5 ∷ 351 ∷ 2 ∷ 101 ∷ 2 ∷ 0 ∷ 2 ∷ 1 ∷ 862 ∷ 1 ∷ 6 ∷ 1 ∷ 2 ∷ 1 ∷ 101 ∷ 2 ∷ 0 ∷ 2 ∷ 1 ∷ [])
-    ∷ point (862 ∷ 3 ∷ 4 ∷ 0 ∷ 5 ∷ 0 ∷ 6 ∷ 1 ∷ 2 ∷ 3 ∷ 351 ∷ 2 ∷ 101 ∷ 2 ∷ 1 ∷ 2 ∷ 2 ∷ 101 ∷ 2 ∷ 0 ∷ 2 ∷ 1 ∷ [])
-    ∷ member (107 ∷ 1 ∷ 7 ∷ 873 ∷ 0 ∷ 1 ∷ 4 ∷ 1 ∷ 2 ∷ 3 ∷ 610 ∷ 3 ∷ 5 ∷ [])
+abbrev notedCases : List Outcome
+notedCases =
+    run Shift (negsuc 0) [] (861 ∷ 1 ∷ 9 ∷ 1 ∷ 2 ∷ 1 ∷ 101 ∷ 2 ∷ 0 ∷ 2 ∷ 2 ∷ [])
+    ∷ run Shift (negsuc 0) [] (861 ∷ 1 ∷ 9 ∷ 1 ∷ 2 ∷ 0 ∷ 101 ∷ 2 ∷ 0 ∷ 2 ∷ 2 ∷ [])
+    ∷ run Shift (negsuc 0) [] (861 ∷ 1 ∷ 9 ∷ 0 ∷ 610 ∷ [])
+    ∷ run Bind (pos 0) (7 ∷ []) (861 ∷ 1 ∷ 9 ∷ 1 ∷ 1 ∷ 7 ∷ 101 ∷ 2 ∷ 0 ∷ 1 ∷ 7 ∷ [])
+    ∷ run Fill (pos 0) (0 ∷ 1 ∷ 1 ∷ 5 ∷ []) (862 ∷ 2 ∷ 4 ∷ 1 ∷ 2 ∷ 0 ∷ 5 ∷ 0 ∷ 101 ∷ 2 ∷ 1 ∷ 2 ∷ 2 ∷ [])
+    ∷ run Fill (pos 0) (1 ∷ 1 ∷ 5 ∷ 0 ∷ []) (862 ∷ 2 ∷ 4 ∷ 1 ∷ 1 ∷ 6 ∷ 5 ∷ 0 ∷ 101 ∷ 2 ∷ 0 ∷ 2 ∷ 1 ∷ [])
+    ∷ run Prune (pos 0) [] (862 ∷ 2 ∷ 4 ∷ 0 ∷ 5 ∷ 1 ∷ 1 ∷ 8 ∷ 101 ∷ 2 ∷ 1 ∷ 1 ∷ 7 ∷ [])
+    ∷ run Prune (pos 0) [] (862 ∷ 2 ∷ 4 ∷ 1 ∷ 2 ∷ 0 ∷ 5 ∷ 1 ∷ 1 ∷ 8 ∷ 101 ∷ 2 ∷ 1 ∷ 1 ∷ 7 ∷ [])
+    ∷ run Point (pos 0) [] (852 ∷ 2 ∷ 4 ∷ 5 ∷ 351 ∷ 2 ∷ 101 ∷ 2 ∷ 0 ∷ 2 ∷ 1 ∷ 862 ∷ 1 ∷ 6 ∷ 1 ∷ 2 ∷ 2 ∷ 101 ∷ 2 ∷ 0 ∷ 2 ∷ 1 ∷ [])
+    ∷ run Point (pos 0) [] (852 ∷ 2 ∷ 4 ∷ 5 ∷ 351 ∷ 2 ∷ 101 ∷ 2 ∷ 0 ∷ 2 ∷ 1 ∷ 862 ∷ 1 ∷ 6 ∷ 1 ∷ 2 ∷ 1 ∷ 101 ∷ 2 ∷ 0 ∷ 2 ∷ 1 ∷ [])
+    ∷ run Point (pos 0) [] (862 ∷ 3 ∷ 4 ∷ 0 ∷ 5 ∷ 0 ∷ 6 ∷ 1 ∷ 2 ∷ 3 ∷ 351 ∷ 2 ∷ 101 ∷ 2 ∷ 1 ∷ 2 ∷ 2 ∷ 101 ∷ 2 ∷ 0 ∷ 2 ∷ 1 ∷ [])
+    ∷ run Member (pos 0) [] (107 ∷ 1 ∷ 7 ∷ 873 ∷ 0 ∷ 1 ∷ 4 ∷ 1 ∷ 2 ∷ 3 ∷ 610 ∷ 3 ∷ 5 ∷ [])
     ∷ []
 
 abbrev notedAnswers : List Outcome
@@ -89,6 +96,6 @@ notedAnswers =
     ∷ answer (862 ∷ 1 ∷ 4 ∷ 1 ∷ 2 ∷ 3 ∷ 351 ∷ 2 ∷ 610 ∷ 101 ∷ 3 ∷ 5 ∷ 1 ∷ 7 ∷ [])
     ∷ []
 
-pub noted-cases : map outcomeOf notedCommands ≡ notedAnswers
-unfolding outcomeOf S.shiftOutcome S.shift freeOutcome substitute B.bindOutcome B.bind F.fillOutcome F.fill F.quantified P.pruneOutcome P.prune pointOutcome onePoint memberOutcome membership offerAll instantiatePartial putRound scan offerParts accept parts walk collect finish goodNames distinct listOf entries entryOf formOf rowForm decode decodeAll declAt decls read breakAt breakFrom after least leastAll declsNext nextOf own ownOf shapeOf exprTags predTags encode
+pub noted-cases : notedCases ≡ notedAnswers
+unfolding S.shiftOutcome S.shift freeOutcome substitute B.bindOutcome B.bind F.fillOutcome F.fill F.quantified P.pruneOutcome P.prune pointOutcome onePoint memberOutcome membership offerAll instantiatePartial putRound scan offerParts accept parts walk collect finish goodNames distinct listOf entries entryOf formOf rowForm decode decodeAll declAt decls read breakAt breakFrom after least leastAll declsNext nextOf own ownOf shapeOf exprTags predTags encode
 noted-cases = refl

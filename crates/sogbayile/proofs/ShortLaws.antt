@@ -30,6 +30,11 @@ use Rattle.rules.specs.Fill.{Decl, Quantified, quantifier, other, quantified, k
 use Rattle.rules.specs.Prune.{usedPlaces, prune, pruneOutcome}
 use Rattle.rules.specs.Point.{ofResult, onePoint, pointOutcome}
 use Rattle.rules.specs.Member.{membership, memberOutcome}
+use Rattle.rules.specs.Command.{outcomeOf, numbered, ofNumbered, numberOutcome}
+use Rattle.rules.specs.declared.command.Command.{Command}
+use Rattle.rules.specs.declared.command.Command.the-variants.{Shift, Free, Bind, Fill, Prune, Point, Member}
+use Rattle.rules.specs.declared.command.Numbered.{Numbered}
+use Rattle.rules.specs.declared.command.Numbered.the-variants.{Is, Unknown}
 use Rattle.sogbayile.specs.Code.{codeOf}
 use Rattle.sogbayile.proofs.CodeLaws.{finish-short}
 
@@ -168,6 +173,23 @@ point-short row work room = tested 15 (leb 16384 work) _ (form-short Predicate r
 pub member-short : (row : List ℕ) (work room : ℕ) → Short (memberOutcome row work room)
 unfolding memberOutcome
 member-short row work room = tested 15 (leb 16384 work) _ (form-short Predicate row _ (λ s f. result-short room (membership f)))
+
+outcome-short : (c : Command) (z : ℤ) (list row : List ℕ) (work room : ℕ) → Short (outcomeOf c z list row work room)
+outcome-short Shift z list row work room = shift-short row z room
+outcome-short Free z list row work room = free-short list row work room
+outcome-short Bind z list row work room = bind-short list row room
+outcome-short Fill z list row work room = fill-short list row work room
+outcome-short Prune z list row work room = prune-short row room
+outcome-short Point z list row work room = point-short row work room
+outcome-short Member z list row work room = member-short row work room
+
+pub number-short : (n : ℕ) (z : ℤ) (list row : List ℕ) (work room : ℕ) → Short (numberOutcome n z list row work room)
+unfolding numberOutcome
+number-short n z list row work room = by (numbered n)
+  where
+    by : (x : Numbered) → Short (ofNumbered x z list row work room)
+    by (Is c) = outcome-short c z list row work room
+    by Unknown = refused 8
 
 -- the dangling set: an index of it stands in the row
 insert-length : (i : ℕ) (js : List ℕ) → length (insert i js) ≤ 1 + length js

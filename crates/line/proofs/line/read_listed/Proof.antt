@@ -20,7 +20,7 @@ same-length c = c .before .before .before .before .read-group .kept .1 .0
 returns : tie.Need-returns
 returns c =
     let b4 = c .before .before .before .before in let b9 = b4 .before .before .before .before .before in
-    (list-bad _ _ _ _ _ _ _ _ (b4 .read-group .ensures) (c .enum-told .given .1), list-kept _ _ (b9 .args .form .now) (b9 .args .head) _ _ _ _ (b4 .read-group .ensures))
+    (list-bad _ _ _ _ _ _ _ _ (b4 .read-group .ensures) (c .enum-told .given .1), list-kept _ _ (b9 .args .form .now) (b9 .args .command) _ _ _ _ (b4 .read-group .ensures))
 
 read-next-requires : tie.Need-read-next-requires
 read-next-requires c κs = search needs
@@ -34,7 +34,7 @@ same-length-3 c = c .before .before .read-next .kept .1 .0
 returns-2 : tie.Need-returns-2
 returns-2 c =
     let b5 = c .before .before .before .before .before in let b9 = b5 .before .before .before .before in let b14 = b9 .before .before .before .before .before in
-    (list-go _ _ _ _ _ _ _ _ (b9 .read-group .ensures) _ _ (b5 .p .given .1) _ _ (c .before .before .read-next .ensures), list-kept _ _ (b14 .args .form .now) (b14 .args .head) _ _ _ _ (b9 .read-group .ensures))
+    (list-go _ _ _ _ _ _ _ _ (b9 .read-group .ensures) _ _ (b5 .p .given .1) _ _ (c .before .before .read-next .ensures), list-kept _ _ (b14 .args .form .now) (b14 .args .command) _ _ _ _ (b9 .read-group .ensures))
 
 pub read-listed-spec : {M : Type 1} → statement M
 read-listed-spec =

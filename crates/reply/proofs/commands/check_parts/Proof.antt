@@ -21,13 +21,16 @@ returns c =
     let b3 = c .before .before .before in
     test-no _ _ (form-tests _ _ _) _ (rw (b3 .kind-of .ensures) at (c .before .before .check-form-part .ensures)) _ (c .enum-told .given .1) _
 
+args-of-requires : tie.Need-args-of-requires
+args-of-requires c κs = search needs
+
 check-list-requires : tie.Need-check-list-requires
 check-list-requires c κs = search needs
 
 returns-2 : tie.Need-returns-2
 returns-2 c =
-    let b4 = c .before .before .before .before in
-    test-yes _ _ (form-tests _ _ _) _ (rw (b4 .before .kind-of .ensures) at (b4 .check-form-part .ensures)) _ (c .before .before .checked .given .1) _ _ (c .check-list .ensures)
+    let b5 = c .before .before .before .before .before in
+    test-yes _ _ (form-tests _ _ _) _ (rw (b5 .before .kind-of .ensures) at (b5 .check-form-part .ensures)) _ (c .before .before .before .checked .given .1) _ _ (rw (c .before .args-of .ensures) at (c .check-list .ensures))
 
 pub check-parts-spec : {M : Type 1} → statement M
 check-parts-spec =
@@ -38,5 +41,6 @@ check-parts-spec =
     enum-known-checked
     enum-told
     returns
+    args-of-requires
     check-list-requires
     returns-2)

@@ -82,40 +82,40 @@ words-of-requires c κs = search needs
 words-of-requires-2 : tie.Need-words-of-requires-2
 words-of-requires-2 c κs = search needs
 
-slice-reshare-prefix-run-command : tie.Need-slice-reshare-prefix-run-command
-slice-reshare-prefix-run-command c =
+slice-reshare-prefix-run : tie.Need-slice-reshare-prefix-run
+slice-reshare-prefix-run c =
     let b9 = c .before .before .before .before .before .before .before .before .before in
     let b15 = b9 .before .before .before .before .before .before in
     let b18 = b15 .before .before .before in
     let b25 = b18 .before .before .before .before .before .before .before in
     let h = held-both (b25 .args .line .now) (length (b25 .args .list .now)) (length (b25 .args .form .now)) (length (b25 .args .work .now)) (length (b25 .args .result .now)) (sym (b18 .before .are-enough .ensures) ∙ not-false _ (b18 .if1 .left)) _ (b15 .read-line .ensures .0) _ (b9 .parts .given .1) (b25 .args .list .now) _ (b25 .args .form .now) _ refl refl (b15 .read-line .ensures .1 .0) (b15 .read-line .ensures .1 .1) (b15 .read-line .kept .1 .0) (b15 .read-line .kept .1 .1 .0) in row-holds _ _ _ _ (h .listed) _ (c .before .words-of .ensures .0)
 
-slice-aggregate-run-command : tie.Need-slice-aggregate-run-command
-slice-aggregate-run-command c =
+slice-aggregate-run : tie.Need-slice-aggregate-run
+slice-aggregate-run c =
     let b10 = c .before .before .before .before .before .before .before .before .before .before in
     let b16 = b10 .before .before .before .before .before .before in
     let b19 = b16 .before .before .before in
     let b26 = b19 .before .before .before .before .before .before .before in
     let h = held-both (b26 .args .line .now) (length (b26 .args .list .now)) (length (b26 .args .form .now)) (length (b26 .args .work .now)) (length (b26 .args .result .now)) (sym (b19 .before .are-enough .ensures) ∙ not-false _ (b19 .if1 .left)) _ (b16 .read-line .ensures .0) _ (b10 .parts .given .1) (b26 .args .list .now) _ (b26 .args .form .now) _ refl refl (b16 .read-line .ensures .1 .0) (b16 .read-line .ensures .1 .1) (b16 .read-line .kept .1 .0) (b16 .read-line .kept .1 .1 .0) in sym (length-take-le _ _ (row-holds _ _ _ _ (h .listed) _ (c .before .before .words-of .ensures .0)))
 
-slice-reshare-prefix-run-command-2 : tie.Need-slice-reshare-prefix-run-command-2
-slice-reshare-prefix-run-command-2 c =
+slice-reshare-prefix-run-2 : tie.Need-slice-reshare-prefix-run-2
+slice-reshare-prefix-run-2 c =
     let b10 = c .before .before .before .before .before .before .before .before .before .before in
     let b16 = b10 .before .before .before .before .before .before in
     let b19 = b16 .before .before .before in
     let b26 = b19 .before .before .before .before .before .before .before in
     let h = held-both (b26 .args .line .now) (length (b26 .args .list .now)) (length (b26 .args .form .now)) (length (b26 .args .work .now)) (length (b26 .args .result .now)) (sym (b19 .before .are-enough .ensures) ∙ not-false _ (b19 .if1 .left)) _ (b16 .read-line .ensures .0) _ (b10 .parts .given .1) (b26 .args .list .now) _ (b26 .args .form .now) _ refl refl (b16 .read-line .ensures .1 .0) (b16 .read-line .ensures .1 .1) (b16 .read-line .kept .1 .0) (b16 .read-line .kept .1 .1 .0) in row-holds _ _ _ _ (h .formed) _ (c .before .words-of2 .ensures .0)
 
-slice-aggregate-run-command-2 : tie.Need-slice-aggregate-run-command-2
-slice-aggregate-run-command-2 c =
+slice-aggregate-run-2 : tie.Need-slice-aggregate-run-2
+slice-aggregate-run-2 c =
     let b11 = c .before .before .before .before .before .before .before .before .before .before .before in
     let b17 = b11 .before .before .before .before .before .before in
     let b20 = b17 .before .before .before in
     let b27 = b20 .before .before .before .before .before .before .before in
     let h = held-both (b27 .args .line .now) (length (b27 .args .list .now)) (length (b27 .args .form .now)) (length (b27 .args .work .now)) (length (b27 .args .result .now)) (sym (b20 .before .are-enough .ensures) ∙ not-false _ (b20 .if1 .left)) _ (b17 .read-line .ensures .0) _ (b11 .parts .given .1) (b27 .args .list .now) _ (b27 .args .form .now) _ refl refl (b17 .read-line .ensures .1 .0) (b17 .read-line .ensures .1 .1) (b17 .read-line .kept .1 .0) (b17 .read-line .kept .1 .1 .0) in sym (length-take-le _ _ (row-holds _ _ _ _ (h .formed) _ (c .before .before .words-of2 .ensures .0)))
 
-run-command-requires : tie.Need-run-command-requires
-run-command-requires c κs = search needs
+run-requires : tie.Need-run-requires
+run-requires c κs = search needs
 
 same-length-5 : tie.Need-same-length-5
 same-length-5 c =
@@ -130,12 +130,12 @@ same-length-6 c =
 same-length-7 : tie.Need-same-length-7
 same-length-7 c =
     let b4 = c .before .before .before .before in
-    b4 .run-command .kept .1 .1 .1 .1 .0
+    b4 .run .kept .1 .1 .1 .1 .0
 
 same-length-8 : tie.Need-same-length-8
 same-length-8 c =
     let b4 = c .before .before .before .before in
-    b4 .run-command .kept .1 .1 .1 .1 .1 .0
+    b4 .run .kept .1 .1 .1 .1 .1 .0
 
 returns-4 : tie.Need-returns-4
 returns-4 c =
@@ -146,7 +146,7 @@ returns-4 c =
     let b25 = b19 .before .before .before .before .before .before in
     let b28 = b25 .before .before .before in
     let b35 = b28 .before .before .before .before .before .before .before in
-    command-said (b35 .args .line .now) (length (b35 .args .list .now)) (length (b35 .args .form .now)) (length (b35 .args .work .now)) (length (b35 .args .result .now)) (sym (b28 .before .are-enough .ensures) ∙ not-false _ (b28 .if1 .left)) _ (b25 .read-line .ensures .0) _ (b19 .parts .given .1) _ _ _ (parts-passed (b35 .args .line .now) (b19 .parts .given .0 .0) _ _ (b13 .before .before .check-parts .ensures) (b13 .checked .given .1) _ _ _ (held-both (b35 .args .line .now) (length (b35 .args .list .now)) (length (b35 .args .form .now)) (length (b35 .args .work .now)) (length (b35 .args .result .now)) (sym (b28 .before .are-enough .ensures) ∙ not-false _ (b28 .if1 .left)) _ (b25 .read-line .ensures .0) _ (b19 .parts .given .1) (b35 .args .list .now) _ (b35 .args .form .now) _ refl refl (b25 .read-line .ensures .1 .0) (b25 .read-line .ensures .1 .1) (b25 .read-line .kept .1 .0) (b25 .read-line .kept .1 .1 .0)) _ _ _ _ (b10 .before .words-of .ensures .1) (b10 .words-of2 .ensures .1) _ _ _ (rw (back (b19 .parts .given .0 .0 .offset) (record { sfits = b4 .before .struct-told .given .1 .0 .1 })) at (b4 .run-command .ensures)))
+    command-said (b35 .args .line .now) (length (b35 .args .list .now)) (length (b35 .args .form .now)) (length (b35 .args .work .now)) (length (b35 .args .result .now)) (sym (b28 .before .are-enough .ensures) ∙ not-false _ (b28 .if1 .left)) _ (b25 .read-line .ensures .0) _ (b19 .parts .given .1) _ _ _ (parts-passed (b35 .args .line .now) (b19 .parts .given .0 .0) _ _ (b13 .before .before .check-parts .ensures) (b13 .checked .given .1) _ _ _ (held-both (b35 .args .line .now) (length (b35 .args .list .now)) (length (b35 .args .form .now)) (length (b35 .args .work .now)) (length (b35 .args .result .now)) (sym (b28 .before .are-enough .ensures) ∙ not-false _ (b28 .if1 .left)) _ (b25 .read-line .ensures .0) _ (b19 .parts .given .1) (b35 .args .list .now) _ (b35 .args .form .now) _ refl refl (b25 .read-line .ensures .1 .0) (b25 .read-line .ensures .1 .1) (b25 .read-line .kept .1 .0) (b25 .read-line .kept .1 .1 .0)) _ _ _ _ (b10 .before .words-of .ensures .1) (b10 .words-of2 .ensures .1) _ _ _ (rw (back (b19 .parts .given .0 .0 .offset) (record { sfits = b4 .before .struct-told .given .1 .0 .1 })) at (b4 .run .ensures)))
 
 pub answer-line-spec : {M : Type 1} → statement M
 answer-line-spec =
@@ -168,11 +168,11 @@ answer-line-spec =
     returns-3
     words-of-requires
     words-of-requires-2
-    slice-reshare-prefix-run-command
-    slice-aggregate-run-command
-    slice-reshare-prefix-run-command-2
-    slice-aggregate-run-command-2
-    run-command-requires
+    slice-reshare-prefix-run
+    slice-aggregate-run
+    slice-reshare-prefix-run-2
+    slice-aggregate-run-2
+    run-requires
     same-length-5
     same-length-6
     same-length-7

@@ -1,53 +1,53 @@
--- `reply::commands::run_command` meets its contract. Assumes nothing.
+-- `sogbayile::commands::run_command` meets its contract. Assumes nothing.
 use lib.ListN.{length}
 use Rattle.shift.proofs.SignedLaws.{back}
-use Rattle.line.specs.declared.head.Head.the-variants.{Shift, Free, Bind, Fill, Prune, Point, Member}
-use Rattle.reply.proofs.LateLaws.{run-said}
+use Rattle.rules.specs.declared.command.Command.the-variants.{Shift, Free, Bind, Fill, Prune, Point, Member}
+use Rattle.sogbayile.proofs.RunLaws.{run-coded}
 use borrow.Author.Needs.{needs}
-use Rattle.reply.proofs.commands.run_command.Statement.{statement}
-use Rattle.reply.proofs.commands.run_command.Tie as tie
+use Rattle.sogbayile.proofs.commands.run_command.Statement.{statement}
+use Rattle.sogbayile.proofs.commands.run_command.Tie as tie
 
 enum-told : tie.Need-enum-told
 enum-told c = search needs
 
-shift-bound-identifiers-requires : tie.Need-shift-bound-identifiers-requires
-shift-bound-identifiers-requires c κs = search needs
+sgb-shift-requires : tie.Need-sgb-shift-requires
+sgb-shift-requires c κs = search needs
 
 enum-told-2 : tie.Need-enum-told-2
 enum-told-2 c = search needs
 
-substitute-free-idents-requires : tie.Need-substitute-free-idents-requires
-substitute-free-idents-requires c κs = search needs
+sgb-free-requires : tie.Need-sgb-free-requires
+sgb-free-requires c κs = search needs
 
 enum-told-3 : tie.Need-enum-told-3
 enum-told-3 c = search needs
 
-bind-idents-requires : tie.Need-bind-idents-requires
-bind-idents-requires c κs = search needs
+sgb-bind-requires : tie.Need-sgb-bind-requires
+sgb-bind-requires c κs = search needs
 
 enum-told-4 : tie.Need-enum-told-4
 enum-told-4 c = search needs
 
-instantiate-requires : tie.Need-instantiate-requires
-instantiate-requires c κs = search needs
+sgb-fill-requires : tie.Need-sgb-fill-requires
+sgb-fill-requires c κs = search needs
 
 enum-told-5 : tie.Need-enum-told-5
 enum-told-5 c = search needs
 
-remove-unused-decls-requires : tie.Need-remove-unused-decls-requires
-remove-unused-decls-requires c κs = search needs
+sgb-prune-requires : tie.Need-sgb-prune-requires
+sgb-prune-requires c κs = search needs
 
 enum-told-6 : tie.Need-enum-told-6
 enum-told-6 c = search needs
 
-one-point-inference-requires : tie.Need-one-point-inference-requires
-one-point-inference-requires c κs = search needs
+sgb-point-requires : tie.Need-sgb-point-requires
+sgb-point-requires c κs = search needs
 
 enum-told-7 : tie.Need-enum-told-7
 enum-told-7 c = search needs
 
-rewrite-in-compset-requires : tie.Need-rewrite-in-compset-requires
-rewrite-in-compset-requires c κs = search needs
+sgb-member-requires : tie.Need-sgb-member-requires
+sgb-member-requires c κs = search needs
 
 same-length : tie.Need-same-length
 same-length c = search needs
@@ -56,7 +56,7 @@ returns : tie.Need-returns
 returns c =
     let b4 = c .before .before .before .before in
     let b10 = b4 .before .before .before .before .before .before in
-    run-said _ Shift (b4 .enum-told .given .1) _ (b10 .args .list .now) (b10 .args .row .now) (length (b10 .args .work .now)) (length (b10 .args .result .now)) _ _ _ (rw (back (b10 .args .offset) (b10 .fits .offset)) at (c .before .before .shift-bound-identifiers .ensures))
+    run-coded _ Shift (b4 .enum-told .given .1) _ (b10 .args .list .now) (b10 .args .row .now) (length (b10 .args .work .now)) (length (b10 .args .out .now)) _ _ _ (rw (back (b10 .args .offset) (b10 .fits .offset)) at (c .before .before .sgb-shift .ensures))
 
 same-length-2 : tie.Need-same-length-2
 same-length-2 c = search needs
@@ -69,7 +69,7 @@ returns-2 c =
     let b4 = c .before .before .before .before in
     let b7 = b4 .before .before .before in
     let b13 = b7 .before .before .before .before .before .before in
-    run-said _ Free (b7 .enum-told2 .given .1) _ (b13 .args .list .now) (b13 .args .row .now) (length (b13 .args .work .now)) (length (b13 .args .result .now)) _ _ _ (b4 .substitute-free-idents .ensures)
+    run-coded _ Free (b7 .enum-told2 .given .1) _ (b13 .args .list .now) (b13 .args .row .now) (length (b13 .args .work .now)) (length (b13 .args .out .now)) _ _ _ (b4 .sgb-free .ensures)
 
 same-length-4 : tie.Need-same-length-4
 same-length-4 c = search needs
@@ -78,7 +78,7 @@ returns-3 : tie.Need-returns-3
 returns-3 c =
     let b4 = c .before .before .before .before in
     let b10 = b4 .before .before .before .before .before .before in
-    run-said _ Bind (b4 .enum-told3 .given .1) _ (b10 .args .list .now) (b10 .args .row .now) (length (b10 .args .work .now)) (length (b10 .args .result .now)) _ _ _ (c .before .before .bind-idents .ensures)
+    run-coded _ Bind (b4 .enum-told3 .given .1) _ (b10 .args .list .now) (b10 .args .row .now) (length (b10 .args .work .now)) (length (b10 .args .out .now)) _ _ _ (c .before .before .sgb-bind .ensures)
 
 same-length-5 : tie.Need-same-length-5
 same-length-5 c = search needs
@@ -91,7 +91,7 @@ returns-4 c =
     let b4 = c .before .before .before .before in
     let b7 = b4 .before .before .before in
     let b13 = b7 .before .before .before .before .before .before in
-    run-said _ Fill (b7 .enum-told4 .given .1) _ (b13 .args .list .now) (b13 .args .row .now) (length (b13 .args .work .now)) (length (b13 .args .result .now)) _ _ _ (b4 .instantiate .ensures)
+    run-coded _ Fill (b7 .enum-told4 .given .1) _ (b13 .args .list .now) (b13 .args .row .now) (length (b13 .args .work .now)) (length (b13 .args .out .now)) _ _ _ (b4 .sgb-fill .ensures)
 
 same-length-7 : tie.Need-same-length-7
 same-length-7 c = search needs
@@ -100,7 +100,7 @@ returns-5 : tie.Need-returns-5
 returns-5 c =
     let b4 = c .before .before .before .before in
     let b10 = b4 .before .before .before .before .before .before in
-    run-said _ Prune (b4 .enum-told5 .given .1) _ (b10 .args .list .now) (b10 .args .row .now) (length (b10 .args .work .now)) (length (b10 .args .result .now)) _ _ _ (c .before .before .remove-unused-decls .ensures)
+    run-coded _ Prune (b4 .enum-told5 .given .1) _ (b10 .args .list .now) (b10 .args .row .now) (length (b10 .args .work .now)) (length (b10 .args .out .now)) _ _ _ (c .before .before .sgb-prune .ensures)
 
 same-length-8 : tie.Need-same-length-8
 same-length-8 c = search needs
@@ -113,7 +113,7 @@ returns-6 c =
     let b4 = c .before .before .before .before in
     let b7 = b4 .before .before .before in
     let b13 = b7 .before .before .before .before .before .before in
-    run-said _ Point (b7 .enum-told6 .given .1) _ (b13 .args .list .now) (b13 .args .row .now) (length (b13 .args .work .now)) (length (b13 .args .result .now)) _ _ _ (b4 .one-point-inference .ensures)
+    run-coded _ Point (b7 .enum-told6 .given .1) _ (b13 .args .list .now) (b13 .args .row .now) (length (b13 .args .work .now)) (length (b13 .args .out .now)) _ _ _ (b4 .sgb-point .ensures)
 
 same-length-10 : tie.Need-same-length-10
 same-length-10 c = search needs
@@ -126,26 +126,26 @@ returns-7 c =
     let b4 = c .before .before .before .before in
     let b7 = b4 .before .before .before in
     let b13 = b7 .before .before .before .before .before .before in
-    run-said _ Member (b7 .enum-told7 .given .1) _ (b13 .args .list .now) (b13 .args .row .now) (length (b13 .args .work .now)) (length (b13 .args .result .now)) _ _ _ (b4 .rewrite-in-compset .ensures)
+    run-coded _ Member (b7 .enum-told7 .given .1) _ (b13 .args .list .now) (b13 .args .row .now) (length (b13 .args .work .now)) (length (b13 .args .out .now)) _ _ _ (b4 .sgb-member .ensures)
 
 pub run-command-spec : {M : Type 1} → statement M
 run-command-spec =
     tie.close
     (tie.spec
     enum-told
-    shift-bound-identifiers-requires
+    sgb-shift-requires
     enum-told-2
-    substitute-free-idents-requires
+    sgb-free-requires
     enum-told-3
-    bind-idents-requires
+    sgb-bind-requires
     enum-told-4
-    instantiate-requires
+    sgb-fill-requires
     enum-told-5
-    remove-unused-decls-requires
+    sgb-prune-requires
     enum-told-6
-    one-point-inference-requires
+    sgb-point-requires
     enum-told-7
-    rewrite-in-compset-requires
+    sgb-member-requires
     same-length
     returns
     same-length-2
