@@ -1,5 +1,5 @@
 -- What a row says: the form at its front, and whether it is exactly one form within the limits.
-use mathlib.Core.Bool.{Bool, true, false, _||_}
+use mathlib.Core.Bool.{Bool, true, false, _&&_, _||_}
 use mathlib.Core.List.{List, [], _∷_}
 use Prim.Native.Nat.{ℕ, zero, suc}
 use lib.Dec.{leb, eqb}
@@ -135,6 +135,22 @@ whole no-form = not-one
 
 unfoldable pub rowForm : Sort → List ℕ → Whole
 rowForm s row = let w = whole (decode 64 s row) in pick (leb (length row) 8192) w not-one
+
+-- no index stands in the form
+unfoldable mutual
+  pub indexFree : Form → Bool
+  indexFree (leaf x) = elim x [ free n ↦ true | bound i ↦ false ]
+  indexFree (node t o ds ks) = indexFreeAll ks
+  indexFree (noted t o ds ks) = indexFreeDecls ds && indexFreeAll ks
+
+  pub indexFreeDecls : Decls → Bool
+  indexFreeDecls undeclared = true
+  indexFreeDecls (bare n ds) = indexFreeDecls ds
+  indexFreeDecls (typed n f ds) = indexFree f && indexFreeDecls ds
+
+  pub indexFreeAll : Forms → Bool
+  indexFreeAll none = true
+  indexFreeAll (more f fs) = indexFree f && indexFreeAll fs
 
 -- a row that is one form of the kind asked for, and its sort
 pub data Found : Type 0 where

@@ -10,3 +10,4 @@ pub mod PointTruth
 pub mod PointOutput
 pub mod Notes
 pub mod Worked
+pub mod NamedTruth

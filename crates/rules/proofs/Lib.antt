@@ -2,8 +2,10 @@ pub mod WalkLaws
 pub mod LimitLaws
 pub mod TreeLaws
 pub mod OkLaws
+pub mod NamedLaws
 pub mod FrontLaws
 pub mod JoinLaws
 pub mod JoinFill
 pub mod CommandLaws
 pub mod Starred
+pub mod NamedCases

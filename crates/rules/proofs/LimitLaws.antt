@@ -130,7 +130,7 @@ noted-if d t o p e true true ds ks x r a q = rw (q, a)
 noted-if d t o p e true false ds ks x r a q = rw q
 noted-if d t o p e false b ds ks x r a q = refl
 
-two-words : (y : Leaf) → length (encode (leaf y)) ≡ 2
+pub two-words : (y : Leaf) → length (encode (leaf y)) ≡ 2
 unfolding encode
 two-words (free n) = refl
 two-words (bound n) = refl

@@ -33,7 +33,7 @@ mutual
   ok-deepAll ok-none e l = ok-none
   ok-deepAll (ok-more h k) e l = ok-more (ok-deep h e l) (ok-deepAll k e l)
 
-ok-leaf : (d : ℕ) (y : Leaf) → fineLeaf y ≡ true → Ok (suc d) expr (leaf y)
+pub ok-leaf : (d : ℕ) (y : Leaf) → fineLeaf y ≡ true → Ok (suc d) expr (leaf y)
 ok-leaf d (free n) h = ok-free h
 ok-leaf d (bound n) h = ok-bound h
 

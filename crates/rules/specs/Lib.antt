@@ -12,4 +12,5 @@ pub mod Scan
 pub mod Partial
 pub mod Point
 pub mod Member
+pub mod Named
 pub mod Command
