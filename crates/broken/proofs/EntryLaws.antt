@@ -69,7 +69,7 @@ module _ (row : List ℕ) (at : ℕ) (h : at < length row) where
 
 -- the entries of a list, one after another: the search has come to p
 pub record Lists (kind : ListKind) (row : List ℕ) (p : ℕ) : Type 0 where
-  pub same : breakList kind row ≡ breakFrom (entryNext kind) p nothing (drop p row)
+  pub same : breakList kind row ≡ breakFrom false (entryNext kind) p nothing (drop p row)
   pub room : p ≤ 8192
 
 pub no-entry : (kind : ListKind) (row : List ℕ) → Lists kind row 0
@@ -78,18 +78,18 @@ no-entry kind row = record { same = refl; room = omega arith }
 
 module _ (kind : ListKind) (row : List ℕ) (p : ℕ) (i : Lists kind row p) where
   pub list-over : length row ≤ p → p ≡ breakList kind row
-  list-over h = sym (i .same ∙ ran-out row (entryNext kind) p nothing h)
+  list-over h = sym (i .same ∙ ran-out false row (entryNext kind) p nothing h)
 
   module _ (h : p < length row) (o : Next) (e : o ≡ entryNext kind (getD row p 0)) where
-    entry-next : breakList kind row ≡ pick (leb (p + 1 + (least 64 o + 0)) 8192) (breakFrom (entryNext kind) (p + 1) (rest 64 o nothing) (drop (p + 1) row)) p
+    entry-next : breakList kind row ≡ pick (leb (p + 1 + (least 64 o + 0)) 8192) (breakFrom false (entryNext kind) (p + 1) (rest 64 o nothing) (drop (p + 1) row)) p
     unfolding leastAll after
-    entry-next = i .same ∙ (one-word row (entryNext kind) p nothing h ∙ rw (← e))
+    entry-next = i .same ∙ (one-word false row (entryNext kind) p nothing h ∙ rw (← e))
 
     pub entry-stop : leb (p + 1 + (least 64 o + 0)) 8192 ≡ false → p ≡ breakList kind row
     entry-stop f = sym (entry-next ∙ rw f)
 
-    module _ (t : leb (p + 1 + (least 64 o + 0)) 8192 ≡ true) (s : Sought) (r : Seeks row (p + 1) 64 o 0 s) where
-      entry-sought : breakList kind row ≡ pick (s .ok) (breakFrom (entryNext kind) (s .at) nothing (drop (s .at) row)) (s .at)
+    module _ (t : leb (p + 1 + (least 64 o + 0)) 8192 ≡ true) (s : Sought) (r : Seeks false row (p + 1) 64 o 0 s) where
+      entry-sought : breakList kind row ≡ pick (s .ok) (breakFrom false (entryNext kind) (s .at) nothing (drop (s .at) row)) (s .at)
       unfolding leastAll
       entry-sought = entry-next ∙ rw t (r .breaks (entryNext kind) nothing refl)
 
@@ -100,11 +100,11 @@ module _ (kind : ListKind) (row : List ℕ) (p : ℕ) (i : Lists kind row p) whe
       entry-go y = record { same = entry-sought ∙ rw y; room = let v = r .room y in omega arith }
 
 -- an entry that is passed at once is one that the search would pass
-entry-done : (row : List ℕ) (p : ℕ) → p ≤ 8192 → Seeks row p 64 (parts 0 0 0) 0 (record { ok = true; at = p })
+entry-done : (row : List ℕ) (p : ℕ) → p ≤ 8192 → Seeks false row p 64 (parts 0 0 0) 0 (record { ok = true; at = p })
 unfolding noKids least
 entry-done row p h = kids-there row p 64 (parts 0 0 0) 0 p 0 0 (start row p 64 (parts 0 0 0) 0 (omega arith)) refl
 
-entry-leaf : (row : List ℕ) (p : ℕ) → p + 2 ≤ 8192 → startsLeaf 64 (drop p row) ≡ true → Seeks row p 64 (parts 0 0 1) 0 (record { ok = true; at = p + 2 })
+entry-leaf : (row : List ℕ) (p : ℕ) → p + 2 ≤ 8192 → startsLeaf 64 (drop p row) ≡ true → Seeks false row p 64 (parts 0 0 1) 0 (record { ok = true; at = p + 2 })
 unfolding noKids least
 entry-leaf row p h s =
     let (tag, short, low) = leaf-words row p 64 s in

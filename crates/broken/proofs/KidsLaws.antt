@@ -1,13 +1,13 @@
 -- Children: so many predicates, then so many expressions. Assumes nothing.
 use mathlib.Core.Path.{_≡_, refl}
-use mathlib.Core.Bool.{true, false}
+use mathlib.Core.Bool.{Bool, true, false}
 use mathlib.Core.List.{List, [], _∷_}
 use Prim.Native.Nat.{ℕ, zero, suc, _+_, _-_, _≤_, _<_}
 use native.Mathlib.Omega.{arith}
 use borrow.Author.Tests.{ne-eqb}
 use lib.Dec.{eqb}
-use Rattle.tree.specs.Tag.{expr, pred, own}
-use Rattle.form.specs.Break.{Next, parts, nextOf, Open, rest, leastForm, least, after, breakFrom}
+use Rattle.tree.specs.Tag.{expr, pred}
+use Rattle.form.specs.Break.{Next, parts, nextOf, ownIn, Open, rest, leastForm, least, after, breakFrom}
 use Rattle.form.proofs.DecodeLaws.{clash}
 use Rattle.broken.specs.Internal.Seeks.{sortOf, noKids, exprsAfter}
 
@@ -43,11 +43,11 @@ after-pred zero e h = absurd (h refl)
 after-pred (suc p) e h = refl
 
 -- the first child and those after it
-pub kids-step : (z : ℕ → Next) (d p e : ℕ) (x : Open) (w : ℕ) → noKids p e ≡ false → after z (rest d (parts 0 p e) x) w ≡ rest (d - 1) (nextOf (own (sortOf p) w)) (rest d (parts 0 (p - 1) (exprsAfter p e)) x)
+pub kids-step : (named : Bool) (z : ℕ → Next) (d p e : ℕ) (x : Open) (w : ℕ) → noKids p e ≡ false → after named z (rest d (parts 0 p e) x) w ≡ rest (d - 1) (nextOf (ownIn named (sortOf p) w)) (rest d (parts 0 (p - 1) (exprsAfter p e)) x)
 unfolding after sortOf noKids exprsAfter
-kids-step z d zero zero x w h = absurd (clash cc)
-kids-step z d zero (suc e) x w h = let q : suc e - 1 ≡ e = omega arith in rw q
-kids-step z d (suc p) e x w h = let q : suc p - 1 ≡ p = omega arith in rw q
+kids-step named z d zero zero x w h = absurd (clash cc)
+kids-step named z d zero (suc e) x w h = let q : suc e - 1 ≡ e = omega arith in rw q
+kids-step named z d (suc p) e x w h = let q : suc p - 1 ≡ p = omega arith in rw q
 
 pub kids-least : (d p e : ℕ) → noKids p e ≡ false → least d (parts 0 p e) ≡ leastForm d + least d (parts 0 (p - 1) (exprsAfter p e))
 unfolding least noKids exprsAfter
@@ -57,9 +57,9 @@ kids-least (suc d) zero (suc e) h = omega arith
 kids-least zero (suc p) e h = omega arith
 kids-least (suc d) (suc p) e h = omega arith
 
-pub kids-over : (z : ℕ → Next) (at d p e : ℕ) (x : Open) (ws : List ℕ) → noKids p e ≡ true → breakFrom z at (rest d (parts 0 p e) x) ws ≡ breakFrom z at x ws
+pub kids-over : (named : Bool) (z : ℕ → Next) (at d p e : ℕ) (x : Open) (ws : List ℕ) → noKids p e ≡ true → breakFrom named z at (rest d (parts 0 p e) x) ws ≡ breakFrom named z at x ws
 unfolding after breakFrom noKids
-kids-over z at d zero zero x [] h = refl
-kids-over z at d zero zero x (w ∷ ws) h = refl
-kids-over z at d zero (suc e) x ws h = absurd (clash cc)
-kids-over z at d (suc p) e x ws h = absurd (clash cc)
+kids-over named z at d zero zero x [] h = refl
+kids-over named z at d zero zero x (w ∷ ws) h = refl
+kids-over named z at d zero (suc e) x ws h = absurd (clash cc)
+kids-over named z at d (suc p) e x ws h = absurd (clash cc)

@@ -24,14 +24,14 @@ use Rattle.broken.proofs.SeekLaws.{start, own-go, reached-on}
 
 -- from a position on, the rest o has room and the search comes to the children
 abbrev Begins : List ℕ → ℕ → ℕ → ℕ → Next → ℕ → ℕ → ℕ → Type 0
-Begins row d need at o p x y = (at + (least d o + need) ≤ 8192) × Reaches row at d o need p (parts 0 x y)
+Begins row d need at o p x y = (at + (least d o + need) ≤ 8192) × ((named : Bool) → Reaches named row at d o need p (parts 0 x y))
 
 module _ (row : List ℕ) (d need p x y : ℕ) where
   -- one word more before it
   one-before : (at : ℕ) (o a : Next) → isOwn o ≡ true → a ≡ afterWord o (getD row at 0) → at < length row → least d o ≤ suc (least d a) → Begins row d need (at + 1) a p x y → Begins row d need at o p x y
   one-before at o a k q h l (r, i) =
       let room : at + (least d o + need) ≤ 8192 = omega arith in
-      (room, reached-on (own-go row at d o need at o (start row at d o need room) h k a q (le-leb (at + 1 + (least d a + need)) 8192 r)) i)
+      (room, λ named. reached-on (own-go row at d o need at o (start row at d o need room) h k a q (le-leb (at + 1 + (least d a + need)) 8192 r)) (i named))
 
   -- declared names
   after-name : (at w n : ℕ) (h : Head) → headAt at (addName w h) ≡ Kids p x y n → (m : ℕ) × (headAt (at + 1) h ≡ Kids p x y m)
@@ -56,7 +56,7 @@ module _ (row : List ℕ) (d need p x y : ℕ) where
       let preds : x′ ≡ x = cc in
       let exprs : y′ ≡ y = cc in
       let here : at ≡ p = omega arith in
-      rw (preds, exprs, here) (h, start row p d (parts 0 x y) need h)
+      rw (preds, exprs, here) (h, λ named. start row p d (parts 0 x y) need h)
   names-begin (suc k) x′ y′ at n e h = by (leb (length row) at) refl (between 0 65535 (getD row at 0)) refl (λ m g. names-begin k x′ y′ (at + 1) m g h)
     where
       by : (b : Bool) → leb (length row) at ≡ b → (c : Bool) → between 0 65535 (getD row at 0) ≡ c

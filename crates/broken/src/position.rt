@@ -10,32 +10,38 @@ use form::head::is_leaf;
 ghost use mathlib.Core.Path.{_≡_};
 ghost use Prim.Native.Nat.{_+_, _≤_, _<_};
 ghost use lib.ListN.{length, drop};
-ghost use Rattle.form.specs.Break.{parts, never, nothing, rest, least, breakFrom, breakAt, breakList, entryNext};
+ghost use Rattle.form.specs.Break.{parts, never, nothing, rest, least, breakFrom, breakEither, breakAt, breakList, entryNext};
 ghost use Rattle.broken.specs.Internal.Seeks.{nextDue, leafEntry, quickEntry};
 
-// Where a row breaks that must have so many predicates and expressions, and nothing after them.
-fn broken_kids(row: &[u32], preds: u32, exprs: u32) -> u32
+// Where a row breaks that must have so many predicates and expressions, and nothing after them; a named one must have no index.
+fn broken_kids(row: &[u32], preds: u32, exprs: u32, named: bool) -> u32
     requires { ⌜ least 64 (parts 0 preds exprs) ≤ 8192 ⌝ }
-    ensures { λ r. ⌜ r ≡ breakFrom (λ w. never) 0 (rest 64 (parts 0 preds exprs) nothing) (now (row .entry)) ⌝ }
+    ensures { λ r. ⌜ r ≡ breakFrom named (λ w. never) 0 (rest 64 (parts 0 preds exprs) nothing) (now (row .entry)) ⌝ }
 {
-    let s = seek_kids(row, 0, preds, exprs, Limit::DEPTH, 0);
+    let s = seek_kids(row, 0, preds, exprs, Limit::DEPTH, 0, named);
     s.at as u32
 }
 
-// Where a row breaks as a form of the kind. Where either sort is asked for, a row that begins as a predicate begins as no expression.
+// Where a row breaks as a form of either sort: a row that begins as a predicate begins as no expression.
+fn broken_either(row: &[u32], named: bool) -> u32
+    ensures { λ r. ⌜ r ≡ breakEither named (now (row .entry)) ⌝ }
+{
+    let p = broken_kids(row, 1, 0, named);
+    if 0 < p {
+        return p;
+    }
+    broken_kids(row, 0, 1, named)
+}
+
+// Where a row breaks as a form of the kind.
 pub fn broken_at(row: &[u32], kind: Kind) -> u32
     ensures { λ r. ⌜ r ≡ breakAt kind (now (row .entry)) ⌝ }
 {
     match kind {
-        Kind::Expression => broken_kids(row, 0, 1),
-        Kind::Predicate => broken_kids(row, 1, 0),
-        Kind::Either => {
-            let p = broken_kids(row, 1, 0);
-            if 0 < p {
-                return p;
-            }
-            broken_kids(row, 0, 1)
-        }
+        Kind::Expression => broken_kids(row, 0, 1, false),
+        Kind::Predicate => broken_kids(row, 1, 0, false),
+        Kind::Either => broken_either(row, false),
+        Kind::Named => broken_either(row, true),
     }
 }
 
@@ -103,7 +109,7 @@ pub fn broken_list(row: &[u32], kind: ListKind) -> u32
             if !fits(p + 1, Limit::DEPTH, due, 0) {
                 return p as u32;
             }
-            let s = seek(row, p + 1, due, Limit::DEPTH, 0);
+            let s = seek(row, p + 1, due, Limit::DEPTH, 0, false);
             if !s.ok {
                 return s.at as u32;
             }

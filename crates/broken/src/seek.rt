@@ -18,11 +18,12 @@ use form::head::asked;
 use tree::tag::Tag;
 ghost use mathlib.Core.Path.{_≡_};
 ghost use Prim.Native.Nat.{_+_, _≤_, _<_};
-ghost use lib.Dec.{leb};
+ghost use mathlib.Core.Bool.{_&&_};
+ghost use lib.Dec.{leb, eqb};
 ghost use lib.ListN.{length};
 ghost use Rattle.tree.specs.Tag.{own};
 ghost use Rattle.form.specs.Break.{parts, nextOf, least};
-ghost use Rattle.broken.specs.Internal.Seeks.{sortOf, nextDue, leafNext, Starts, SeeksOwn, SeeksChild, Seeks};
+ghost use Rattle.broken.specs.Internal.Seeks.{sortOf, nextDue, leafIn, leafNext, Starts, SeeksOwn, SeeksChild, Seeks};
 
 // Whether the rest of a node was there, and where it ended; or else where the row breaks.
 pub struct Sought {
@@ -102,10 +103,41 @@ fn start_of(row: &[u32], at: usize, preds: u32, tag: u32, depth: u32, need: usiz
     Start::At(end, inner_preds, inner_exprs)
 }
 
+// Whether the tag is that of a name or, where the row is not named, of an index.
+fn is_leaf_tag(tag: u32, named: bool) -> bool
+    ensures { λ r. ⌜ r ≡ leafIn named tag ⌝ }
+{
+    if tag == Tag::FREE_IDENT {
+        return true;
+    }
+    if tag == Tag::BOUND_IDENT {
+        return !named;
+    }
+    false
+}
+
+// Whether the tag is that of an index, which no named row has.
+fn is_index(tag: u32, named: bool) -> bool
+    ensures { λ r. ⌜ r ≡ (named && eqb tag 2) ⌝ }
+{
+    if tag == Tag::BOUND_IDENT {
+        return named;
+    }
+    false
+}
+
 // Whether only expressions must come, the first of them has the tag of a name or an index, the common case, and there is room for its word.
-fn is_leaf_next(tag: u32, at: usize, preds: u32, exprs: u32, depth: u32, need: usize) -> bool
+fn is_leaf_next(
+    tag: u32,
+    at: usize,
+    preds: u32,
+    exprs: u32,
+    depth: u32,
+    need: usize,
+    named: bool,
+) -> bool
     requires { ⌜ at + (least depth (parts 0 preds exprs) + need) ≤ 8192 ⌝ }
-    ensures { λ r. ⌜ r ≡ leafNext depth preds exprs need at tag ⌝ }
+    ensures { λ r. ⌜ r ≡ leafNext named depth preds exprs need at tag ⌝ }
 {
     if 0 < preds {
         return false;
@@ -113,27 +145,27 @@ fn is_leaf_next(tag: u32, at: usize, preds: u32, exprs: u32, depth: u32, need: u
     if Limit::WORDS <= at + (least_kids(depth, 0, 0, exprs) + need) {
         return false;
     }
-    if tag == 0 {
-        return false;
-    }
-    tag <= Tag::BOUND_IDENT
+    is_leaf_tag(tag, named)
 }
 
 // A child whose tag stands at `at`: a predicate where predicates must still come, or else an expression. Its own children may be so deep, and
 // at least so many words must come after it.
-fn seek_child(row: &[u32], at: usize, preds: u32, depth: u32, need: usize) -> Sought
+fn seek_child(row: &[u32], at: usize, preds: u32, depth: u32, need: usize, named: bool) -> Sought
     requires { ⌜ (at < length (now row)) × (at + (1 + need) ≤ 8192) ⌝ }
-    ensures { λ r. ⌜ SeeksChild (now (row .entry)) at depth (sortOf preds) need r ⌝ }
+    ensures { λ r. ⌜ SeeksChild named (now (row .entry)) at depth (sortOf preds) need r ⌝ }
 {
+    if is_index(row[at], named) {
+        return Sought { ok: false, at: at };
+    }
     let Start::At(p, inner_preds, inner_exprs) = start_of(row, at + 1, preds, row[at], depth, need)
     else {
         let due = child_due(preds, row[at]);
         if !fits(at + 1, depth, due, need) {
             return Sought { ok: false, at: at };
         }
-        return seek(row, at + 1, due, depth, need);
+        return seek(row, at + 1, due, depth, need, named);
     };
-    seek_kids(row, p, inner_preds, inner_exprs, depth, need)
+    seek_kids(row, p, inner_preds, inner_exprs, depth, need, named)
 }
 
 // So many predicates and expressions from `at` on, which may be so deep and after which at least so many words must come.
@@ -144,9 +176,10 @@ pub(crate) fn seek_kids(
     exprs: u32,
     depth: u32,
     need: usize,
+    named: bool,
 ) -> Sought
     requires { ⌜ at + (least depth (parts 0 preds exprs) + need) ≤ 8192 ⌝ }
-    ensures { λ r. ⌜ Seeks (now (row .entry)) at depth (parts 0 preds exprs) need r ⌝ }
+    ensures { λ r. ⌜ Seeks named (now (row .entry)) at depth (parts 0 preds exprs) need r ⌝ }
 {
     let mut p = at;
     let mut more_preds = preds;
@@ -155,7 +188,7 @@ pub(crate) fn seek_kids(
         if row.len() <= p {
             return Sought { ok: false, at: p };
         }
-        if is_leaf_next(row[p], p, more_preds, more_exprs, depth, need) {
+        if is_leaf_next(row[p], p, more_preds, more_exprs, depth, need, named) {
             let Word::Is(name) = asked(row, p + 1, 0, Limit::NAME) else {
                 return Sought {
                     ok: false,
@@ -169,7 +202,7 @@ pub(crate) fn seek_kids(
             more_exprs = exprs_after(more_preds, more_exprs);
             more_preds = one_less(more_preds);
             let more = least_kids(depth, 0, more_preds, more_exprs) + need;
-            let s = seek_child(row, p, first_preds, depth - 1, more);
+            let s = seek_child(row, p, first_preds, depth - 1, more, named);
             if !s.ok {
                 return s;
             }
@@ -181,9 +214,9 @@ pub(crate) fn seek_kids(
 
 // The rest of a node from `at` on, whose children may be so deep and after which at least so many words must come. Own words may stand again
 // after an annotation.
-pub(crate) fn seek(row: &[u32], at: usize, due: Due, depth: u32, need: usize) -> Sought
+pub(crate) fn seek(row: &[u32], at: usize, due: Due, depth: u32, need: usize, named: bool) -> Sought
     requires { ⌜ at + (least depth (nextDue due) + need) ≤ 8192 ⌝ }
-    ensures { λ r. ⌜ Seeks (now (row .entry)) at depth (nextDue due) need r ⌝ }
+    ensures { λ r. ⌜ Seeks named (now (row .entry)) at depth (nextDue due) need r ⌝ }
 {
     let mut p = at;
     let mut rest = due;
@@ -196,14 +229,14 @@ pub(crate) fn seek(row: &[u32], at: usize, due: Due, depth: u32, need: usize) ->
         let next = own.due;
         match next {
             Due::Kids(names, preds, exprs) => {
-                return seek_kids(row, p, preds, exprs, depth, need);
+                return seek_kids(row, p, preds, exprs, depth, need, named);
             }
             Due::Note(decls, exprs) => {
                 if row.len() <= p {
                     return Sought { ok: false, at: p };
                 }
                 let more = least_later(depth, decls, exprs) + need;
-                let note = seek_child(row, p, 0, depth - 1, more);
+                let note = seek_child(row, p, 0, depth - 1, more, named);
                 if !note.ok {
                     return note;
                 }

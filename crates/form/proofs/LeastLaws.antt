@@ -49,9 +49,9 @@ open-expr zero x e = omega arith
 open-expr (suc d) x e = omega arith
 
 -- every word is taken, and nothing must come after the last
-unfoldable pub Runs : (ℕ → Next) → ℕ → Open → List ℕ → Type 0
-Runs z at x [] = (at ≤ 8192) × (leastAll x ≡ 0)
-Runs z at x (w ∷ ws) = (at + leastAll x ≤ 8192) × Runs z (suc at) (after z x w) ws
+unfoldable pub Runs : Bool → (ℕ → Next) → ℕ → Open → List ℕ → Type 0
+Runs named z at x [] = (at ≤ 8192) × (leastAll x ≡ 0)
+Runs named z at x (w ∷ ws) = (at + leastAll x ≤ 8192) × Runs named z (suc at) (after named z x w) ws
 
 -- words of a node's own in which the least count takes the fewest words, and is a count
 pub data Fine : Next → Type 0 where

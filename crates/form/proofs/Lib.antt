@@ -4,7 +4,9 @@ pub mod LeafLaws
 pub mod RowLaws
 pub mod ListLaws
 pub mod LeastLaws
+pub mod IndexLaws
 pub mod BreakLaws
+pub mod RunLaws
 pub mod PositionLaws
 pub mod ListPositionLaws
 pub mod ViableLaws

@@ -6,7 +6,7 @@ use lib.ListN.{replicate}
 use Rattle.tree.specs.Tag.{own, ownOf, shapeOf, exprTags, predTags}
 use Rattle.form.specs.Decode.{missing, formOf, rowForm, decode, decodeAll, read}
 use Rattle.form.specs.Break.{declsNext, nextOf, least, leastAll, after, breakFrom, breakAt, breakList}
-use Rattle.form.specs.declared.answer.Kind.the-variants.{Expression, Predicate, Either}
+use Rattle.form.specs.declared.answer.Kind.the-variants.{Expression, Predicate, Either, Named}
 use Rattle.form.specs.declared.answer.ListKind.the-variants.{Pairs, Places}
 
 abbrev nots : ℕ → List ℕ
@@ -75,6 +75,32 @@ annotatedBreaks = 3 ∷ 3 ∷ 9 ∷ 6 ∷ 6 ∷ 8 ∷ 67 ∷ 63 ∷ []
 pub worked-annotations : map (λ row. breakAt Either row) annotated ≡ annotatedBreaks
 unfolding breakAt breakFrom leastAll least after nextOf declsNext own ownOf shapeOf exprTags predTags
 worked-annotations = refl
+
+-- named rows: an index as the whole row; an index after a name; an index before a later break; an index in an annotation. The word 2 is no
+-- index as a name, a literal, a count, a predicate variable, the name and the count of a predicate's application, the number and the names of
+-- declarations, also with annotations, and a comprehension's form
+abbrev namedRows : List (List ℕ)
+namedRows =
+    (2 ∷ 0 ∷ [])
+    ∷ (101 ∷ 1 ∷ 4 ∷ 2 ∷ 0 ∷ [])
+    ∷ (101 ∷ 2 ∷ 0 ∷ 2 ∷ 65536 ∷ [])
+    ∷ (862 ∷ 1 ∷ 4 ∷ 1 ∷ 2 ∷ 0 ∷ 610 ∷ [])
+    ∷ (1 ∷ 2 ∷ [])
+    ∷ (3 ∷ 2 ∷ [])
+    ∷ (4 ∷ 2 ∷ 1 ∷ 2 ∷ 1 ∷ 2 ∷ [])
+    ∷ (7 ∷ 2 ∷ [])
+    ∷ (11 ∷ 2 ∷ 2 ∷ 1 ∷ 2 ∷ 3 ∷ 2 ∷ [])
+    ∷ (851 ∷ 2 ∷ 2 ∷ 2 ∷ 610 ∷ [])
+    ∷ (862 ∷ 2 ∷ 2 ∷ 0 ∷ 2 ∷ 1 ∷ 1 ∷ 2 ∷ 610 ∷ [])
+    ∷ (803 ∷ 2 ∷ 1 ∷ 2 ∷ 610 ∷ 1 ∷ 2 ∷ [])
+    ∷ []
+
+abbrev namedBreaks : List ℕ
+namedBreaks = 0 ∷ 3 ∷ 1 ∷ 4 ∷ 2 ∷ 2 ∷ 6 ∷ 2 ∷ 7 ∷ 5 ∷ 9 ∷ 7 ∷ []
+
+pub worked-named : map (λ row. breakAt Named row) namedRows ≡ namedBreaks
+unfolding breakAt breakFrom leastAll least after nextOf declsNext own ownOf shapeOf exprTags predTags
+worked-named = refl
 
 -- a row breaks by the kind that is asked for
 pub worked-kinds : (breakAt Expression (610 ∷ []) ≡ 0) × (breakAt Predicate (1 ∷ 4 ∷ []) ≡ 0) × (breakAt Predicate (610 ∷ []) ≡ 1)

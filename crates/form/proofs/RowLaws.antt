@@ -1,17 +1,17 @@
 -- A row is at most one form, and it is the row of that form. Assumes nothing.
 use mathlib.Core.Path.{_≡_, refl, _∙_}
 use mathlib.Core.Bool.{Bool, true, false}
-use mathlib.Core.List.{List, [], _∷_, append-nil}
+use mathlib.Core.List.{List, [], _∷_, _++_, append-nil}
 use Prim.Native.Nat.{ℕ, zero, suc, _≤_}
 use borrow.Author.Tests.{le-leb, leb-true}
 use lib.Dec.{leb}
 use lib.ListN.{length}
 use Rattle.tree.specs.Form.{Form, pick, encode}
 use Rattle.tree.specs.Tag.{Sort, expr, pred, own, ownOf, shapeOf}
-use Rattle.form.specs.Decode.{read, Got, got, no-form, decode, Whole, one, not-one, whole, rowForm, found, asSort, either, formOf}
+use Rattle.form.specs.Decode.{read, Got, got, no-form, decode, Whole, one, not-one, whole, rowForm, Found, found, missing, asSort, either, onlyNames, formOf, indexFree}
 use Rattle.form.specs.declared.answer.Kind.{Kind}
 use Rattle.tree.specs.declared.tag.Shape.the-variants.{Unknown}
-use Rattle.form.specs.declared.answer.Kind.the-variants.{Expression, Predicate, Either}
+use Rattle.form.specs.declared.answer.Kind.the-variants.{Expression, Predicate, Either, Named}
 use Rattle.form.proofs.DecodeLaws.{clash, Ok, decode-encode, decode-sound}
 use Rattle.tree.proofs.Ranges.{one-table}
 
@@ -71,19 +71,53 @@ either-exact : (s : Sort) (row : List ℕ) (f : Form) (w : Whole) → rowForm ex
 either-exact s row f (one f′) q e = sort-exact expr s row f (one f′) q e
 either-exact s row f not-one q e = sort-exact pred s row f (rowForm pred row) refl e
 
+-- a named row is a form of either sort in which no index stands
+only-exact : (o : Found) (s : Sort) (f : Form) → onlyNames o ≡ found s f → (o ≡ found s f) × (indexFree f ≡ true)
+only-exact missing s f e = absurd (clash cc)
+only-exact (found s′ f′) s f e = go (indexFree f′) refl e
+  where
+    go : (b : Bool) → indexFree f′ ≡ b → pick b (found s′ f′) missing ≡ found s f → (found s′ f′ ≡ found s f) × (indexFree f ≡ true)
+    go true q e = let same : f′ ≡ f = cc in (e, rw (← same) q)
+    go false q e = absurd (clash cc)
+
+module _ (row : List ℕ) (s : Sort) (f : Form) where
+  pub named-found : formOf Named row ≡ found s f → (formOf Either row ≡ found s f) × (indexFree f ≡ true)
+  unfolding formOf
+  named-found e = only-exact (either (asSort expr (rowForm expr row)) (asSort pred (rowForm pred row))) s f e
+
+  pub found-named : formOf Either row ≡ found s f → indexFree f ≡ true → formOf Named row ≡ found s f
+  unfolding formOf
+  found-named e i = rw (e, i)
+
 pub found-exact : (kind : Kind) (row : List ℕ) (s : Sort) (f : Form) → formOf kind row ≡ found s f → rowForm s row ≡ one f
 unfolding formOf
 found-exact Expression row s f e = sort-exact expr s row f (rowForm expr row) refl e
 found-exact Predicate row s f e = sort-exact pred s row f (rowForm pred row) refl e
 found-exact Either row s f e = either-exact s row f (rowForm expr row) refl e
+found-exact Named row s f e = either-exact s row f (rowForm expr row) refl (named-found row s f e .0)
 
--- no row is an expression and a predicate
-one-sort : (row : List ℕ) (f g : Form) → rowForm expr row ≡ one f → rowForm pred row ≡ one g → ⊥
-unfolding decode
-one-sort [] f g p q = let n = no-whole expr [] refl in clash cc
-one-sort (t ∷ ws) f g p q =
-    let n = no-whole pred (t ∷ ws) (unknown-no pred 64 t ws (one-table t (λ u. let n = no-whole expr (t ∷ ws) (unknown-no expr 64 t ws u) in clash cc))) in
+-- no row is an expression and a predicate: no tag begins both
+one-tag : (t : ℕ) (ws ws′ : List ℕ) (f g : Form) → rowForm expr (t ∷ ws) ≡ one f → rowForm pred (t ∷ ws′) ≡ one g → ⊥
+one-tag t ws ws′ f g p q =
+    let n = no-whole pred (t ∷ ws′) (unknown-no pred 64 t ws′ (one-table t (λ u. let n = no-whole expr (t ∷ ws) (unknown-no expr 64 t ws u) in clash cc))) in
     clash cc
+
+some-tag : (s : Sort) (f : Form) → rowForm s [] ≡ one f → ⊥
+unfolding decode
+some-tag s f p = let n = no-whole s [] refl in clash cc
+
+one-sort : (row : List ℕ) (f g : Form) → rowForm expr row ≡ one f → rowForm pred row ≡ one g → ⊥
+one-sort [] f g p q = some-tag expr f p
+one-sort (t ∷ ws) f g p q = one-tag t ws ws f g p q
+
+pub found-either : (row : List ℕ) (s : Sort) (f : Form) → rowForm s row ≡ one f → formOf Either row ≡ found s f
+unfolding formOf
+found-either row expr f e = rw e
+found-either row pred f e = rw e (go (rowForm expr row) refl)
+  where
+    go : (w : Whole) → rowForm expr row ≡ w → either (asSort expr w) (found pred f) ≡ found pred f
+    go (one g) q = absurd (one-sort row g f q e)
+    go not-one q = refl
 
 one-form : (row : List ℕ) (s s′ : Sort) (f f′ : Form) → rowForm s row ≡ one f → rowForm s′ row ≡ one f′ → (s ≡ s′) × (f ≡ f′)
 one-form row expr expr f f′ p q = (refl, cc)
@@ -93,6 +127,24 @@ one-form row pred pred f f′ p q = (refl, cc)
 
 pub at-most-one : (kind kind′ : Kind) (row : List ℕ) (s s′ : Sort) (f f′ : Form) → formOf kind row ≡ found s f → formOf kind′ row ≡ found s′ f′ → (s ≡ s′) × (f ≡ f′)
 at-most-one kind kind′ row s s′ f f′ p q = one-form row s s′ f f′ (found-exact kind row s f p) (found-exact kind′ row s′ f′ q)
+
+-- no row of a form begins another
+longer : (s : Sort) (row v : List ℕ) (f g : Form) → rowForm s row ≡ one f → rowForm s (row ++ v) ≡ one g → v ≡ []
+longer s row v f g p q =
+    let (w, k) = row-exact s row f p in
+    let (x, l) = row-exact s (row ++ v) g q in
+    let a = decode-encode k v in
+    let b = decode-encode l [] in
+    let c = append-nil (encode g) in
+    cc
+
+pub no-longer : (row v : List ℕ) (s s′ : Sort) (f g : Form) → rowForm s row ≡ one f → rowForm s′ (row ++ v) ≡ one g → v ≡ []
+no-longer row v expr expr f g p q = longer expr row v f g p q
+no-longer row v pred pred f g p q = longer pred row v f g p q
+no-longer [] v expr pred f g p q = absurd (some-tag expr f p)
+no-longer [] v pred expr f g p q = absurd (some-tag pred f p)
+no-longer (t ∷ ws) v expr pred f g p q = absurd (one-tag t ws (ws ++ v) f g p q)
+no-longer (t ∷ ws) v pred expr f g p q = absurd (one-tag t (ws ++ v) ws g f q p)
 
 -- a row that is one form: its length, its words, its limits
 pub row-one : (s : Sort) (row : List ℕ) (f : Form) → rowForm s row ≡ one f → (length row ≤ 8192) × (row ≡ encode f) × Ok 64 s f

@@ -17,11 +17,12 @@ use Rattle.tree.specs.Form.{Form, pick}
 use Rattle.tree.specs.Tag.{Sort, expr, pred}
 use Rattle.form.specs.Decode.{Found, found, missing, formOf}
 use Rattle.form.specs.Lists.{Entry, listOf}
-use Rattle.form.specs.Break.{Next, Open, leastAll, after, breakFrom, breakSort, breakAt, breakList}
+use Rattle.form.specs.Break.{Next, Open, leastAll, after, breakFrom, breakSort, breakEither, breakAt, breakList}
 use Rattle.form.specs.declared.answer.Kind.{Kind}
-use Rattle.form.specs.declared.answer.Kind.the-variants.{Expression, Predicate, Either}
+use Rattle.form.specs.declared.answer.Kind.the-variants.{Expression, Predicate, Either, Named}
 use Rattle.form.specs.declared.answer.ListKind.{ListKind}
 use Rattle.form.proofs.DecodeLaws.{clash}
+use Rattle.form.proofs.RowLaws.{found-exact, at-most-one, no-longer}
 use Rattle.form.proofs.PositionLaws.{row-goes-on, row-breaks}
 use Rattle.form.proofs.ListPositionLaws.{list-goes-on, list-breaks}
 
@@ -62,34 +63,38 @@ viable-list-shorter : (kind : ListKind) (a b : List ℕ) → ViableList kind (a 
 viable-list-shorter kind a b (v, es, l, e) = (b ++ v, es, rw (← append-assoc a b v) l, rw (← append-assoc a b v) e)
 
 -- no break stands past the end of the row
-break-within : (z : ℕ → Next) (at : ℕ) (x : Open) (ws : List ℕ) → breakFrom z at x ws ≤ at + length ws
+break-within : (named : Bool) (z : ℕ → Next) (at : ℕ) (x : Open) (ws : List ℕ) → breakFrom named z at x ws ≤ at + length ws
 unfolding breakFrom
-break-within z at x [] = omega arith
-break-within z at x (w ∷ ws) = go (leb (suc at + leastAll (after z x w)) 8192) (break-within z (suc at) (after z x w) ws)
+break-within named z at x [] = omega arith
+break-within named z at x (w ∷ ws) = go (leb (suc at + leastAll (after named z x w)) 8192) (break-within named z (suc at) (after named z x w) ws)
   where
-    go : (b : Bool) → breakFrom z (suc at) (after z x w) ws ≤ suc at + length ws → pick b (breakFrom z (suc at) (after z x w) ws) at ≤ at + length (w ∷ ws)
+    go : (b : Bool) → breakFrom named z (suc at) (after named z x w) ws ≤ suc at + length ws → pick b (breakFrom named z (suc at) (after named z x w) ws) at ≤ at + length (w ∷ ws)
     go true h = omega arith
     go false h = omega arith
 
-from-start : (z : ℕ → Next) (x : Open) (row : List ℕ) → breakFrom z 0 x row ≤ length row
-from-start z x row = let h : breakFrom z 0 x row ≤ 0 + length row = break-within z 0 x row in omega arith
+from-start : (named : Bool) (z : ℕ → Next) (x : Open) (row : List ℕ) → breakFrom named z 0 x row ≤ length row
+from-start named z x row = let h : breakFrom named z 0 x row ≤ 0 + length row = break-within named z 0 x row in omega arith
 
-sort-within : (s : Sort) (row : List ℕ) → breakSort s row ≤ length row
-sort-within s row = from-start _ _ row
+sort-within : (named : Bool) (s : Sort) (row : List ℕ) → breakSort named s row ≤ length row
+sort-within named s row = from-start _ _ _ row
+
+either-within : (named : Bool) (row : List ℕ) → breakEither named row ≤ length row
+either-within named row = go (leb (breakSort named expr row) (breakSort named pred row))
+  where
+    go : (b : Bool) → pick b (breakSort named pred row) (breakSort named expr row) ≤ length row
+    go true = sort-within named pred row
+    go false = sort-within named expr row
 
 row-within : (kind : Kind) (row : List ℕ) → breakAt kind row ≤ length row
 unfolding breakAt
-row-within Expression row = sort-within expr row
-row-within Predicate row = sort-within pred row
-row-within Either row = go (leb (breakSort expr row) (breakSort pred row))
-  where
-    go : (b : Bool) → pick b (breakSort pred row) (breakSort expr row) ≤ length row
-    go true = sort-within pred row
-    go false = sort-within expr row
+row-within Expression row = sort-within false expr row
+row-within Predicate row = sort-within false pred row
+row-within Either row = either-within false row
+row-within Named row = either-within true row
 
 list-within : (kind : ListKind) (row : List ℕ) → breakList kind row ≤ length row
 unfolding breakList
-list-within kind row = from-start _ _ row
+list-within kind row = from-start _ _ _ row
 
 -- document 02's sentence, of forms and of lists
 pub row-breaks-at : (kind : Kind) (row : List ℕ) → BreaksAt (Viable kind) row (breakAt kind row)
@@ -117,6 +122,16 @@ at-end viable row h = record { within = le-refl (length row); before = rw (take-
 
 pub row-unbroken : (kind : Kind) (row : List ℕ) (s : Sort) (f : Form) → formOf kind row ≡ found s f → breakAt kind row ≡ length row
 row-unbroken kind row s f e = sym (row-break-only kind row (length row) (at-end (Viable kind) row ([], s, f, rw (append-nil row) e)))
+
+-- a form that breaks nowhere before its end as a named row has no index
+pub named-unbroken : (row : List ℕ) (s : Sort) (f : Form) → formOf Either row ≡ found s f → breakAt Named row ≡ length row → formOf Named row ≡ found s f
+named-unbroken row s f e q =
+    let (v, s′, g, k) = row-goes-on Named row in
+    let longer : formOf Named (row ++ v) ≡ found s′ g = rw (q, take-length row) at k in
+    let none = no-longer row v s s′ f g (found-exact Either row s f e) (found-exact Named (row ++ v) s′ g longer) in
+    let named : formOf Named row ≡ found s′ g = rw (none, append-nil row) at longer in
+    let (same, form) = at-most-one Either Named row s s′ f g e named in
+    rw (same, form) named
 
 pub list-unbroken : (kind : ListKind) (row : List ℕ) (es : List Entry) → length row ≤ 8192 → listOf kind row ≡ some es → breakList kind row ≡ length row
 list-unbroken kind row es l e = sym (list-break-only kind row (length row) (at-end (ViableList kind) row ([], es, rw (append-nil row) l, rw (append-nil row) e)))

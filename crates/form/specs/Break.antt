@@ -1,13 +1,13 @@
 -- Where a row breaks: the position of the first word at which no row of the kind can go on within the limits, or the row's length. It goes word
 -- by word, with what must still come and the fewest words that this takes.
-use mathlib.Core.Bool.{Bool, true, false}
+use mathlib.Core.Bool.{Bool, true, false, _&&_}
 use mathlib.Core.List.{List, [], _∷_}
 use Prim.Native.Nat.{ℕ, zero, suc, _+_, _-_, _*_}
 use lib.Dec.{leb, eqb}
 use Rattle.tree.specs.Form.{pick, between}
 use Rattle.tree.specs.Tag.{Sort, expr, pred, Own, ask, kids, flags, wrong, own}
 use Rattle.form.specs.declared.answer.Kind.{Kind}
-use Rattle.form.specs.declared.answer.Kind.the-variants.{Expression, Predicate, Either}
+use Rattle.form.specs.declared.answer.Kind.the-variants.{Expression, Predicate, Either, Named}
 use Rattle.form.specs.declared.answer.ListKind.{ListKind}
 use Rattle.form.specs.declared.answer.ListKind.the-variants.{Pairs, Places}
 
@@ -36,6 +36,10 @@ nextOf (kids n p e) = parts n p e
 nextOf (flags n p e) = declsNext false n p e
 nextOf wrong = never
 
+-- what follows a tag; in a named row the tag of an index is none
+abbrev pub ownIn : Bool → Sort → ℕ → Own
+ownIn named s t = pick (named && eqb t 2) wrong (own s t)
+
 -- what must still come of the nodes that are open, the innermost first: how deep its children may be, and its rest
 pub data Open : Type 0 where
   nothing : Open
@@ -56,29 +60,33 @@ unfoldable pub leastAll : Open → ℕ
 leastAll nothing = 0
 leastAll (rest d o x) = least d o + leastAll x
 
--- what must come after the next word; where nothing is open, z says it
-unfoldable pub after : (ℕ → Next) → Open → ℕ → Open
-after z nothing w = rest 64 (z w) nothing
-after z (rest d (word lo hi k) x) w = rest d (pick (between lo hi w) (k w) never) x
-after z (rest d (note k) x) w = rest (d - 1) (nextOf (own expr w)) (rest d k x)
-after z (rest d (parts (suc n) p e) x) w = rest d (pick (between 0 65535 w) (parts n p e) never) x
-after z (rest d (parts zero (suc p) e) x) w = rest (d - 1) (nextOf (own pred w)) (rest d (parts zero p e) x)
-after z (rest d (parts zero zero (suc e)) x) w = rest (d - 1) (nextOf (own expr w)) (rest d (parts zero zero e) x)
-after z (rest d (parts zero zero zero) x) w = after z x w
-after z (rest d never x) w = rest d never x
+-- what must come after the next word, in a named row or in another; where nothing is open, z says it
+unfoldable pub after : Bool → (ℕ → Next) → Open → ℕ → Open
+after named z nothing w = rest 64 (z w) nothing
+after named z (rest d (word lo hi k) x) w = rest d (pick (between lo hi w) (k w) never) x
+after named z (rest d (note k) x) w = rest (d - 1) (nextOf (ownIn named expr w)) (rest d k x)
+after named z (rest d (parts (suc n) p e) x) w = rest d (pick (between 0 65535 w) (parts n p e) never) x
+after named z (rest d (parts zero (suc p) e) x) w = rest (d - 1) (nextOf (ownIn named pred w)) (rest d (parts zero p e) x)
+after named z (rest d (parts zero zero (suc e)) x) w = rest (d - 1) (nextOf (ownIn named expr w)) (rest d (parts zero zero e) x)
+after named z (rest d (parts zero zero zero) x) w = after named z x w
+after named z (rest d never x) w = rest d never x
 
 -- from a position on: a word is taken if what must come after it has room
-unfoldable pub breakFrom : (ℕ → Next) → ℕ → Open → List ℕ → ℕ
-breakFrom z at x [] = at
-breakFrom z at x (w ∷ ws) = pick (leb (suc at + leastAll (after z x w)) 8192) (breakFrom z (suc at) (after z x w) ws) at
+unfoldable pub breakFrom : Bool → (ℕ → Next) → ℕ → Open → List ℕ → ℕ
+breakFrom named z at x [] = at
+breakFrom named z at x (w ∷ ws) = pick (leb (suc at + leastAll (after named z x w)) 8192) (breakFrom named z (suc at) (after named z x w) ws) at
 
-abbrev pub breakSort : Sort → List ℕ → ℕ
-breakSort s row = breakFrom (λ w. never) 0 (rest 64 (elim s [ expr ↦ parts 0 0 1 | pred ↦ parts 0 1 0 ]) nothing) row
+abbrev pub breakSort : Bool → Sort → List ℕ → ℕ
+breakSort named s row = breakFrom named (λ w. never) 0 (rest 64 (elim s [ expr ↦ parts 0 0 1 | pred ↦ parts 0 1 0 ]) nothing) row
+
+abbrev pub breakEither : Bool → List ℕ → ℕ
+breakEither named row = pick (leb (breakSort named expr row) (breakSort named pred row)) (breakSort named pred row) (breakSort named expr row)
 
 unfoldable pub breakAt : Kind → List ℕ → ℕ
-breakAt Expression row = breakSort expr row
-breakAt Predicate row = breakSort pred row
-breakAt Either row = pick (leb (breakSort expr row) (breakSort pred row)) (breakSort pred row) (breakSort expr row)
+breakAt Expression row = breakSort false expr row
+breakAt Predicate row = breakSort false pred row
+breakAt Either row = breakEither false row
+breakAt Named row = breakEither true row
 
 -- a list has any number of entries
 abbrev pub entryNext : ListKind → ℕ → Next
@@ -86,4 +94,4 @@ entryNext Pairs w = parts 0 0 1
 entryNext Places w = pick (leb w 1) (parts 0 0 w) never
 
 unfoldable pub breakList : ListKind → List ℕ → ℕ
-breakList kind row = breakFrom (entryNext kind) 0 nothing row
+breakList kind row = breakFrom false (entryNext kind) 0 nothing row

@@ -7,7 +7,7 @@ use lib.ListN.{length, getD}
 use Rattle.tree.specs.Form.{Leaf, free, bound, Form, leaf, node, noted, Decls, undeclared, bare, typed, anyTyped, Forms, none, more, pick, between}
 use Rattle.tree.specs.Tag.{Sort, expr, pred, Own, ask, kids, flags, wrong, own, sorts}
 use Rattle.form.specs.declared.answer.Kind.{Kind}
-use Rattle.form.specs.declared.answer.Kind.the-variants.{Expression, Predicate, Either}
+use Rattle.form.specs.declared.answer.Kind.the-variants.{Expression, Predicate, Either, Named}
 
 -- what was read after a tag: own words, declared names, the numbers of predicates and of expressions, and the words left; where the
 -- names have flags, only their number
@@ -163,7 +163,12 @@ asSort s = elim [ one f ↦ found s f | not-one ↦ missing ]
 abbrev pub either : Found → Found → Found
 either x o = elim x [ found s f ↦ found s f | missing ↦ o ]
 
+-- a named row has no index
+abbrev pub onlyNames : Found → Found
+onlyNames = elim [ found s f ↦ pick (indexFree f) (found s f) missing | missing ↦ missing ]
+
 unfoldable pub formOf : Kind → List ℕ → Found
 formOf Expression row = asSort expr (rowForm expr row)
 formOf Predicate row = asSort pred (rowForm pred row)
 formOf Either row = either (asSort expr (rowForm expr row)) (asSort pred (rowForm pred row))
+formOf Named row = onlyNames (either (asSort expr (rowForm expr row)) (asSort pred (rowForm pred row)))

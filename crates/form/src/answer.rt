@@ -6,11 +6,12 @@ pub enum Answer {
     No(u32, u32),
 }
 
-// Which kind of form is asked for.
+// Which kind of form is asked for. A named one is a form of either sort in which no index stands.
 pub enum Kind {
     Expression,
     Predicate,
     Either,
+    Named,
 }
 
 // Which list of entries: name and expression in turn, or one place for each declaration.

@@ -9,14 +9,14 @@ use Rattle.tree.specs.Form.{Form, pick, encode}
 use Rattle.tree.specs.Tag.{Sort}
 use Rattle.form.specs.Break.{breakAt}
 use Rattle.form.specs.Decode.{decode, Whole, one, not-one, whole, rowForm, Found, found, missing, asSort, formOf}
-use Rattle.reader.specs.Internal.Reads.{Told, decodeIn, Marked, asExpr}
+use Rattle.reader.specs.Internal.Reads.{mark, Told, decodeIn, Marked, asExpr, ofKind}
 use Rattle.form.specs.declared.answer.Kind.{Kind}
 use Rattle.form.specs.declared.answer.Answer.the-variants.{No}
 use Rattle.form.specs.declared.head.Step.{Step}
 use Rattle.form.specs.declared.head.Step.the-variants.{End, Bad}
 use Rattle.form.proofs.DecodeLaws.{clash, Ok}
 use Rattle.reader.proofs.ReaderLaws.{in-decode}
-use Rattle.reader.proofs.CheckLaws.{sortFor, form-of, read-bad, read-whole, read-part}
+use Rattle.reader.proofs.CheckLaws.{sortFor, kind-found, read-bad, read-whole, read-part}
 use Rattle.form.proofs.RowLaws.{whole-exact, row-encode}
 use Rattle.shift.specs.Internal.Items.{store}
 use Rattle.shift.proofs.CheckedLaws.{Checked, marks-of, not-found}
@@ -31,43 +31,59 @@ pub told-shallow : (deep : ℕ) → deep ≤ 64 → (s : Sort) (row a b : List �
 told-shallow deep most s row a b r t = rw (in-decode s row deep 0 (omega arith) (omega arith)) at t
 
 module _ (deep : ℕ) (most : deep ≤ 64) (kind : Kind) (row : List ℕ) where
-  shallow-of : (x : Bool) → x ≡ asExpr kind row → (w : Whole) → whole (decode deep (sortFor x) row) ≡ w → shallowForm deep kind row ≡ asSort (sortFor x) w
+  shallow-of : (x : Bool) → x ≡ asExpr kind row → (w : Whole) → whole (decode deep (sortFor x) row) ≡ w → shallowForm deep kind row ≡ pick (ofKind kind row) (asSort (sortFor x) w) missing
   unfolding shallowForm
   shallow-of x k w e = rw (← k, e)
+
+  shallow-none : (x : Bool) → x ≡ asExpr kind row → whole (decode deep (sortFor x) row) ≡ not-one → shallowForm deep kind row ≡ missing
+  shallow-none x k e = shallow-of x k not-one e ∙ go (ofKind kind row)
+    where
+      go : (b : Bool) → pick b missing missing ≡ missing
+      go true = refl
+      go false = refl
 
   -- by the reader's answer
   module _ (a b : List ℕ) (x : Bool) (k : x ≡ asExpr kind row) (r : Step) (t : Told 0 0 (decode deep (sortFor x) row) a b r) where
     pub shallow-bad : r ≡ Bad → (false ≡ isFound (shallowForm deep kind row)) × Marked (shallowForm deep kind row) a b
     unfolding Marked
-    shallow-bad e = rw (shallow-of x k not-one (read-bad deep (sortFor x) row a b r t e)) (refl, tt)
+    shallow-bad e = rw (shallow-none x k (read-bad deep (sortFor x) row a b r t e)) (refl, tt)
 
     pub shallow-part : (p : ℕ) → r ≡ End p → (p ≡ length row → ⊥) → (false ≡ isFound (shallowForm deep kind row)) × Marked (shallowForm deep kind row) a b
     unfolding Marked
-    shallow-part p e n = rw (shallow-of x k not-one (read-part deep (sortFor x) row a b r t p e n)) (refl, tt)
+    shallow-part p e n = rw (shallow-none x k (read-part deep (sortFor x) row a b r t p e n)) (refl, tt)
 
-    pub shallow-whole : (p : ℕ) → r ≡ End p → p ≡ length row → (true ≡ isFound (shallowForm deep kind row)) × Marked (shallowForm deep kind row) a b
+    pub shallow-whole : (p : ℕ) → r ≡ End p → p ≡ length row → (v : Bool) → v ≡ ofKind kind row → (v ≡ isFound (shallowForm deep kind row)) × Marked (shallowForm deep kind row) a b
     unfolding Marked
-    shallow-whole p e q =
+    shallow-whole p e q v o =
         let (f, w, m) = read-whole deep (sortFor x) row a b r t p e q in
-        rw (shallow-of x k (one f) w) (refl, m)
+        rw (shallow-of x k (one f) w) (go f m (ofKind kind row) o)
+      where
+        go : (f : Form) → b ≡ mark f 0 0 a → (c : Bool) → v ≡ c → (v ≡ isFound (pick c (found (sortFor x) f) missing)) × Marked (pick c (found (sortFor x) f) missing) a b
+        go f m true o = (o, m)
+        go f m false o = (o, tt)
 
   -- it is the row's form
-  shallow-exact : (s : Sort) (f : Form) → shallowForm deep kind row ≡ found s f → (sortFor (asExpr kind row) ≡ s) × (row ≡ encode f) × Ok deep s f
-  shallow-exact s f e = go (whole (decode deep (sortFor (asExpr kind row)) row)) refl
+  shallow-exact : (s : Sort) (f : Form) → shallowForm deep kind row ≡ found s f → (sortFor (asExpr kind row) ≡ s) × (row ≡ encode f) × Ok deep s f × (ofKind kind row ≡ true)
+  shallow-exact s f e = go (whole (decode deep (sortFor (asExpr kind row)) row)) refl (ofKind kind row) refl
     where
-      go : (w : Whole) → whole (decode deep (sortFor (asExpr kind row)) row) ≡ w → (sortFor (asExpr kind row) ≡ s) × (row ≡ encode f) × Ok deep s f
-      go (one g) q =
+      go : (w : Whole) → whole (decode deep (sortFor (asExpr kind row)) row) ≡ w → (c : Bool) → ofKind kind row ≡ c → (sortFor (asExpr kind row) ≡ s) × (row ≡ encode f) × Ok deep s f × (ofKind kind row ≡ true)
+      go (one g) q true k =
           let c = shallow-of (asExpr kind row) refl (one g) q in
+          let is : found (sortFor (asExpr kind row)) g ≡ found s f = sym (rw k at c) ∙ e in
           let a : sortFor (asExpr kind row) ≡ s = cc in
           let b : g ≡ f = cc in
           let (w, o) = whole-exact deep (sortFor (asExpr kind row)) row g q in
-          (a, w ∙ ap encode b, rw (a, b) at o)
-      go not-one q = let c = shallow-of (asExpr kind row) refl not-one q in absurd (clash cc)
+          (a, w ∙ ap encode b, rw (a, b) at o, k)
+      go (one g) q false k =
+          let c = shallow-of (asExpr kind row) refl (one g) q in
+          let none : shallowForm deep kind row ≡ missing = rw k at c in
+          absurd (clash cc)
+      go not-one q c k = let none = shallow-none (asExpr kind row) refl q in absurd (clash cc)
 
   shallow-same : length row ≤ 8192 → (s : Sort) (f : Form) → shallowForm deep kind row ≡ found s f → formOf kind row ≡ found s f
   shallow-same h s f e =
-      let (a, w, o) = shallow-exact s f e in
-      form-of kind row (asExpr kind row) refl ∙ (rw (a, row-whole w o))
+      let (a, w, o, k) = shallow-exact s f e in
+      kind-found kind row s f a (row-whole w o) k
     where
       row-whole : row ≡ encode f → Ok deep s f → rowForm s row ≡ one f
       row-whole w o = rw w (row-encode (ok-deep o 64 (omega arith)) (rw w at h))

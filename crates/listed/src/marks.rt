@@ -5,6 +5,7 @@ use form::answer::Kind;
 use form::answer::ListKind;
 use form::head::Step;
 use reader::check::is_expr;
+use reader::check::is_of_kind;
 use reader::lists::Listed;
 use reader::reader::expr_at;
 use reader::reader::pred_at;
@@ -60,7 +61,7 @@ fn mark_shallow(row: &[u32], kind: Kind, depth: u32, marks: &mut [u32]) -> bool
         return false;
     };
     if p == row.len() {
-        return true;
+        return is_of_kind(row, kind);
     }
     false
 }

@@ -13,7 +13,7 @@ ghost use Rattle.tree.specs.Form.{pick};
 ghost use Rattle.tree.specs.Tag.{expr, pred};
 ghost use Rattle.form.specs.Decode.{decode, formOf};
 ghost use Rattle.form.specs.Answer.{told, checkOutcome};
-ghost use Rattle.reader.specs.Internal.Reads.{Told, isFound, Marked, known, asExpr};
+ghost use Rattle.reader.specs.Internal.Reads.{Told, isFound, Marked, known, knownAt, asExpr, ofKind};
 
 fn is_known(shape: Shape) -> bool
     ensures { λ r. ⌜ r ≡ known shape ⌝ }
@@ -33,6 +33,16 @@ fn is_known(shape: Shape) -> bool
     }
 }
 
+// Whether the row begins with the tag of an expression.
+fn begins_expr(row: &[u32]) -> bool
+    ensures { λ r. ⌜ r ≡ knownAt (now (row .entry)) ⌝ }
+{
+    if row.len() == 0 {
+        return false;
+    }
+    is_known(expr_shape(row[0]))
+}
+
 // Whether the row is read as an expression: as the kind says, or by its first tag.
 pub fn is_expr(row: &[u32], kind: Kind) -> bool
     ensures { λ r. ⌜ r ≡ asExpr kind (now (row .entry)) ⌝ }
@@ -40,12 +50,20 @@ pub fn is_expr(row: &[u32], kind: Kind) -> bool
     match kind {
         Kind::Expression => true,
         Kind::Predicate => false,
-        Kind::Either => {
-            if row.len() == 0 {
-                return false;
-            }
-            is_known(expr_shape(row[0]))
-        }
+        Kind::Either => begins_expr(row),
+        Kind::Named => begins_expr(row),
+    }
+}
+
+// Whether a row that is one form of its sort is of the kind: a named one has no index, and then it breaks nowhere before its end.
+pub fn is_of_kind(row: &[u32], kind: Kind) -> bool
+    ensures { λ r. ⌜ r ≡ ofKind kind (now (row .entry)) ⌝ }
+{
+    match kind {
+        Kind::Expression => true,
+        Kind::Predicate => true,
+        Kind::Either => true,
+        Kind::Named => broken_at(row, kind) as usize == row.len(),
     }
 }
 
@@ -72,7 +90,7 @@ pub fn mark_form(row: &[u32], kind: Kind, marks: &mut [u32]) -> bool
         return false;
     };
     if p == row.len() {
-        return true;
+        return is_of_kind(row, kind);
     }
     false
 }

@@ -10,7 +10,7 @@ use lib.Dec.{leb, eqb}
 use lib.IntN.{ℤ}
 use lib.ListN.{length, length-append}
 use Rattle.tree.specs.Form.{Form, pick, encode}
-use Rattle.tree.specs.Tag.{Sort, expr, pred}
+use Rattle.tree.specs.Tag.{Sort, pred}
 use Rattle.form.specs.Decode.{Whole, one, not-one, rowForm, Found, found, missing, formOf}
 use Rattle.form.specs.Break.{breakAt, breakList}
 use Rattle.form.specs.Lists.{Entry, wordOf, placeOf, listOf, goodNames}
@@ -19,7 +19,7 @@ use Rattle.form.specs.declared.answer.Kind.{Kind}
 use Rattle.form.specs.declared.answer.Kind.the-variants.{Predicate, Either}
 use Rattle.form.specs.declared.answer.ListKind.{ListKind}
 use Rattle.form.specs.declared.answer.ListKind.the-variants.{Pairs, Places}
-use Rattle.form.proofs.RowLaws.{found-exact, row-one}
+use Rattle.form.proofs.RowLaws.{found-either, row-one}
 use Rattle.rules.specs.Shift.{shift, ofShifted, shiftOutcome}
 use Rattle.rules.specs.Bind.{bind, bindOutcome}
 use Rattle.rules.specs.Free.{substitute, freeOutcome}
@@ -141,16 +141,6 @@ good-line line list form work room = good-needs 15 (enoughRows list form work) _
     by-case (formed (Read p) ws) = good-command (p .command) (p .offset) _ _ _ ws work room
     by-case (formed Misspelled ws) = tt
 
--- a row that is one form is found
-either-found : (row : List ℕ) (s : Sort) (f : Form) → rowForm s row ≡ one f → (t : Sort) × (g : Form) × (formOf Either row ≡ found t g)
-unfolding formOf
-either-found row expr f e = (expr, f, rw e)
-either-found row pred f e = by-case (rowForm expr row) refl
-  where
-    by-case : (x : Whole) → rowForm expr row ≡ x → (t : Sort) × (g : Form) × (formOf Either row ≡ found t g)
-    by-case (one g) h = (expr, g, rw h)
-    by-case not-one h = (pred, f, rw (h, e))
-
 ending-few : (k p : ℕ) → length (ending k p) ≤ 12
 unfolding ending decimal
 ending-few k p = by-case (eqb k 2)
@@ -168,11 +158,10 @@ module _ (P : List ℕ → Type 0) (forms : (f : Form) → P (spell f)) (refusal
   good-printed : (o : Outcome) (bytes : ℕ) → Good o → 106496 ≤ bytes → (bs : List ℕ) × (printed bytes o ≡ answer bs) × P bs
   unfolding printOutcome printNo
   good-printed (answer ws) bytes (s, f, e) h =
-      let (t, g, k) = either-found ws s f e in
-      let (short, is, ok) = row-one t ws g (found-exact Either ws t g k) in
-      let n : length (encode g) ≤ 8192 = rw (← is) short in
-      let m = spell-few g in
-      (spell g, rw (le-leb (length ws) 8192 short, k, le-leb (length (spell g)) bytes (omega arith)), forms g)
+      let (short, is, ok) = row-one s ws f e in
+      let n : length (encode f) ≤ 8192 = rw (← is) short in
+      let m = spell-few f in
+      (spell f, rw (le-leb (length ws) 8192 short, found-either ws s f e, le-leb (length (spell f)) bytes (omega arith)), forms f)
   good-printed (stop k p) bytes g h = let m = no-few k p in (spellNo k p, rw (le-leb (length (spellNo k p)) bytes (omega arith)), refusals k p)
 
   pub reply-answers : (line : List ℕ) (list form work room bytes : ℕ) → 106496 ≤ bytes → (bs : List ℕ) × (replyOutcome line list form work room bytes ≡ answer bs) × P bs

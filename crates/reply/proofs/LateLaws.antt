@@ -12,11 +12,11 @@ use lib.IntN.{ℤ}
 use lib.ListN.{length, take}
 use Rattle.tree.specs.Form.{Form, pick}
 use Rattle.tree.specs.Tag.{Sort}
-use Rattle.form.specs.Decode.{Found, found, missing, formOf}
+use Rattle.form.specs.Decode.{rowForm, Found, found, missing, formOf}
 use Rattle.form.specs.Break.{breakAt, breakList}
 use Rattle.form.specs.Lists.{Entry, listOf}
 use Rattle.form.specs.Answer.{Outcome, answer, stop, refusal, told, written, within, ofFound, ofList, withForm, needs, checkOutcome}
-use Rattle.reader.specs.Internal.Reads.{asExpr, Listing}
+use Rattle.reader.specs.Internal.Reads.{asExpr, ofKind, Listing}
 use Rattle.form.specs.declared.answer.Kind.{Kind}
 use Rattle.form.specs.declared.answer.Kind.the-variants.{Either}
 use Rattle.form.specs.declared.answer.Answer.{Answer}
@@ -25,8 +25,9 @@ use Rattle.form.specs.declared.answer.ListKind.{ListKind}
 use Rattle.form.specs.declared.answer.ListKind.the-variants as list-of
 use Rattle.reader.specs.declared.lists.Table.{Table}
 use Rattle.form.proofs.DecodeLaws.{clash}
-use Rattle.reader.proofs.CheckLaws.{form-of}
+use Rattle.reader.proofs.CheckLaws.{sortFor, form-of, kind-found}
 use Rattle.form.proofs.RowLaws.{row-short, found-exact}
+use Rattle.form.proofs.PositionLaws.{of-sort}
 use Rattle.tree.proofs.Ranges.{split}
 use Rattle.reader.proofs.TableLaws.{listing-no, listing-yes}
 use Rattle.spell.specs.Spell.{spells, fitsForm, fitsList, fitsNames}
@@ -126,12 +127,13 @@ module _ (kind : Kind) (text row : List ℕ) where
   unfolding fitsForm
   form-there t = fits-found (leb (length text) 65535) text (formOf Either row) (sym t)
 
-  pub late-fits : true ≡ fitsForm text row → (x y : Bool) → x ≡ asExpr kind row → y ≡ asExpr Either row → not (Bool·beq x y) ≡ false → Done 0 ≡ told (spelledForm kind text row (answer []))
+  pub late-fits : true ≡ fitsForm text row → (x y : Bool) → x ≡ asExpr kind row → y ≡ asExpr Either row → not (Bool·beq x y) ≡ false → ofKind kind row ≡ true → Done 0 ≡ told (spelledForm kind text row (answer []))
   unfolding spelledForm
-  late-fits t x y h k e =
+  late-fits t x y h k e i =
       let (s, f, o) = form-there t in
-      let same : formOf kind row ≡ formOf Either row = form-of kind row x h ∙ rw (not-other x y e) (sym (form-of Either row y k)) in
-      rw (le-leb (length row) 8192 (row-short s row f (found-exact Either row s f o)), same ∙ o, sym t) refl
+      let one = found-exact Either row s f o in
+      let sort : sortFor (asExpr kind row) ≡ s = rw (← h, not-other x y e) (of-sort (sortFor y) s (rowForm (sortFor y) row) f (sym (form-of Either row y k) ∙ o)) in
+      rw (le-leb (length row) 8192 (row-short s row f one), kind-found kind row s f sort one i, sym t) refl
 
 -- a list's
 module _ (kind : ListKind) (text row : List ℕ) (short : length row ≤ 8192) (u v : Table) (a b : List ℕ) (ok : Bool) (t : Listing (listOf kind row) u v a b ok) where

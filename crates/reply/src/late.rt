@@ -6,6 +6,7 @@ use form::answer::Limit;
 use form::answer::ListKind;
 use line::line::Part;
 use reader::check::is_expr;
+use reader::check::is_of_kind;
 use reader::lists::mark_list;
 ghost use mathlib.Core.Path.{_≡_};
 ghost use mathlib.Core.List.{[]};
@@ -28,7 +29,8 @@ fn check_row(row: &[u32], kind: Kind, fits: bool) -> Answer
     Answer::Done(0)
 }
 
-// Whether the row is one form of the kind and the text its spelling. A row whose text is its spelling is a form of the sort of its first tag.
+// Whether the row is one form of the kind and the text its spelling. A row whose text is its spelling is a form of the sort of its first tag;
+// where it is not of the kind, the check says where it breaks.
 pub fn check_text(text: &[u8], row: &[u32], kind: Kind) -> Answer
     ensures { λ r. ⌜ r ≡ told (spelledForm kind (now (text .entry)) (now (row .entry)) (answer [])) ⌝ }
 {
@@ -38,6 +40,9 @@ pub fn check_text(text: &[u8], row: &[u32], kind: Kind) -> Answer
     let expression = is_expr(row, kind);
     let first = is_expr(row, Kind::Either);
     if expression != first {
+        return check_row(row, kind, true);
+    }
+    if !is_of_kind(row, kind) {
         return check_row(row, kind, true);
     }
     Answer::Done(0)

@@ -13,11 +13,11 @@ use lib.ListN.{length, length-append}
 use Rattle.tree.specs.Form.{free, bound, Form, leaf, node, noted, Decls, undeclared, bare, typed, namesOf, Forms, none, more, pick, encode, encodeDecls, encodeAll}
 use Rattle.tree.specs.Tag.{Sort, pred, expr}
 use Rattle.form.specs.Decode.{rowForm, Found, found, missing, formOf}
-use Rattle.form.specs.Break.{Next, Open, leastAll, after, breakFrom, breakSort, breakAt, breakList, entryNext}
+use Rattle.form.specs.Break.{Next, Open, leastAll, after, breakFrom, breakSort, breakEither, breakAt, breakList, entryNext}
 use Rattle.form.specs.Lists.{Entry, wordOf, placeOf, listOf, goodNames}
 use Rattle.form.specs.Answer.{Outcome, answer, stop, refusal, told, number, lengthOf, position, ofFound, ofList, withForm, withList, needs, isOne, finish, checkOutcome, namesOutcome, pairsOutcome, placesOutcome}
 use Rattle.form.specs.declared.answer.Kind.{Kind}
-use Rattle.form.specs.declared.answer.Kind.the-variants.{Either, Expression, Predicate}
+use Rattle.form.specs.declared.answer.Kind.the-variants.{Either, Expression, Predicate, Named}
 use Rattle.form.specs.declared.answer.ListKind.{ListKind}
 use Rattle.form.specs.declared.answer.ListKind.the-variants.{Pairs, Places}
 use Rattle.form.proofs.RowLaws.{found-exact, row-exact}
@@ -53,31 +53,36 @@ refused : (k : ℕ) → Short (refusal k)
 refused k = record { low = omega arith; only-two = λ h. refl }
 
 -- a row that breaks
-break-by : (z : ℕ → Next) (at : ℕ) (x : Open) (ws : List ℕ) → at ≤ 8192 → breakFrom z at x ws ≤ 8192
+break-by : (named : Bool) (z : ℕ → Next) (at : ℕ) (x : Open) (ws : List ℕ) → at ≤ 8192 → breakFrom named z at x ws ≤ 8192
 unfolding breakFrom
-break-by z at x [] h = h
-break-by z at x (w ∷ ws) h = go (leb (suc at + leastAll (after z x w)) 8192) refl (λ k. break-by z (suc at) (after z x w) ws k)
+break-by named z at x [] h = h
+break-by named z at x (w ∷ ws) h = go (leb (suc at + leastAll (after named z x w)) 8192) refl (λ k. break-by named z (suc at) (after named z x w) ws k)
   where
-    go : (b : Bool) → leb (suc at + leastAll (after z x w)) 8192 ≡ b → (suc at ≤ 8192 → breakFrom z (suc at) (after z x w) ws ≤ 8192) → pick b (breakFrom z (suc at) (after z x w) ws) at ≤ 8192
-    go true e f = let k = leb-true (suc at + leastAll (after z x w)) 8192 e in f (omega arith)
+    go : (b : Bool) → leb (suc at + leastAll (after named z x w)) 8192 ≡ b → (suc at ≤ 8192 → breakFrom named z (suc at) (after named z x w) ws ≤ 8192) → pick b (breakFrom named z (suc at) (after named z x w) ws) at ≤ 8192
+    go true e f = let k = leb-true (suc at + leastAll (after named z x w)) 8192 e in f (omega arith)
     go false e f = h
 
-sort-low : (s : Sort) (row : List ℕ) → breakSort s row ≤ 8192
-sort-low s row = break-by _ 0 _ row (omega arith)
+sort-low : (named : Bool) (s : Sort) (row : List ℕ) → breakSort named s row ≤ 8192
+sort-low named s row = break-by named _ 0 _ row (omega arith)
 
 later-low : (b : Bool) (m n : ℕ) → m ≤ 8192 → n ≤ 8192 → pick b m n ≤ 8192
 later-low true m n h k = h
 later-low false m n h k = k
 
+either-low : (named : Bool) (row : List ℕ) → breakEither named row ≤ 8192
+either-low named row =
+    later-low (leb (breakSort named expr row) (breakSort named pred row)) (breakSort named pred row) (breakSort named expr row) (sort-low named pred row) (sort-low named expr row)
+
 pub break-low : (kind : Kind) (row : List ℕ) → breakAt kind row ≤ 8192
 unfolding breakAt
-break-low Expression row = sort-low expr row
-break-low Predicate row = sort-low pred row
-break-low Either row = later-low (leb (breakSort expr row) (breakSort pred row)) (breakSort pred row) (breakSort expr row) (sort-low pred row) (sort-low expr row)
+break-low Expression row = sort-low false expr row
+break-low Predicate row = sort-low false pred row
+break-low Either row = either-low false row
+break-low Named row = either-low true row
 
 break-list-low : (kind : ListKind) (row : List ℕ) → breakList kind row ≤ 8192
 unfolding breakList
-break-list-low kind row = break-by (entryNext kind) 0 _ row (omega arith)
+break-list-low kind row = break-by false (entryNext kind) 0 _ row (omega arith)
 
 broke : (p : ℕ) → p ≤ 8192 → Short (stop 2 p)
 broke p h = record { low = omega (arith, h); only-two = λ k. absurd (k refl) }

@@ -6,8 +6,8 @@ use Prim.Native.Nat.{ℕ, zero, suc, _+_, _-_, _≤_, _<_}
 use lib.Dec.{leb, eqb}
 use lib.ListN.{getD, drop}
 use Rattle.tree.specs.Form.{pick, between}
-use Rattle.tree.specs.Tag.{Sort, expr, pred, own}
-use Rattle.form.specs.Break.{Next, word, note, parts, never, lowFlag, declsNext, nextOf, Open, rest, least, leastAll, breakFrom}
+use Rattle.tree.specs.Tag.{Sort, expr, pred}
+use Rattle.form.specs.Break.{Next, word, note, parts, never, lowFlag, declsNext, nextOf, ownIn, Open, rest, least, leastAll, breakFrom}
 use Rattle.form.specs.Decode.{isLeaf}
 use Rattle.form.specs.Internal.Heads.{startsLeaf}
 use Rattle.form.specs.declared.answer.ListKind.{ListKind}
@@ -80,9 +80,13 @@ unfoldable pub exprsAfter : ℕ → ℕ → ℕ
 exprsAfter zero e = e - 1
 exprsAfter (suc p) e = e
 
--- whether only expressions must come, the first has this tag, which is that of a name or an index, and there is room for its word
-unfoldable pub leafNext : ℕ → ℕ → ℕ → ℕ → ℕ → ℕ → Bool
-leafNext d p e need at tag = leb p 0 && (leb (suc (at + (least d (parts 0 0 e) + need))) 8192 && isLeaf tag)
+-- the tag of a name or, where the row is not named, of an index
+abbrev pub leafIn : Bool → ℕ → Bool
+leafIn named t = pick named (eqb t 1) (isLeaf t)
+
+-- whether only expressions must come, the first has this tag, which is such a tag, and there is room for its word
+unfoldable pub leafNext : Bool → ℕ → ℕ → ℕ → ℕ → ℕ → ℕ → Bool
+leafNext named d p e need at tag = leb p 0 && (leb (suc (at + (least d (parts 0 0 e) + need))) 8192 && leafIn named tag)
 
 unfoldable pub afterWord : Next → ℕ → Next
 afterWord (word lo hi k) w = pick (between lo hi w) (k w) never
@@ -92,35 +96,35 @@ afterWord (note k) w = never
 afterWord never w = never
 
 -- the search has come from `at` and the rest o to p and the rest o′
-pub record Reaches (row : List ℕ) (at d : ℕ) (o : Next) (need p : ℕ) (o′ : Next) : Type 0 where
-  pub same : (z : ℕ → Next) (x : Open) → leastAll x ≡ need → breakFrom z at (rest d o x) (drop at row) ≡ breakFrom z p (rest d o′ x) (drop p row)
+pub record Reaches (named : Bool) (row : List ℕ) (at d : ℕ) (o : Next) (need p : ℕ) (o′ : Next) : Type 0 where
+  pub same : (z : ℕ → Next) (x : Open) → leastAll x ≡ need → breakFrom named z at (rest d o x) (drop at row) ≡ breakFrom named z p (rest d o′ x) (drop p row)
   pub up : at ≤ p
   pub room : p + (least d o′ + need) ≤ 8192
 
 -- the search from `at` on answers r: where the rest of a node is there, the break is the one from its end on
-pub record Seeks (row : List ℕ) (at d : ℕ) (o : Next) (need : ℕ) (r : Sought) : Type 0 where
+pub record Seeks (named : Bool) (row : List ℕ) (at d : ℕ) (o : Next) (need : ℕ) (r : Sought) : Type 0 where
   pub breaks : (z : ℕ → Next) (x : Open) → leastAll x ≡ need
-      → breakFrom z at (rest d o x) (drop at row) ≡ pick (r .ok) (breakFrom z (r .at) x (drop (r .at) row)) (r .at)
+      → breakFrom named z at (rest d o x) (drop at row) ≡ pick (r .ok) (breakFrom named z (r .at) x (drop (r .at) row)) (r .at)
   pub rises : at ≤ r .at
   pub low : r .at ≤ 8192
   pub room : r .ok ≡ true → r .at + need ≤ 8192
 
 -- the search for own words answers r: it has come to what must come after them, or it has found the break
 pub record SeeksOwn (row : List ℕ) (at d : ℕ) (o : Next) (need : ℕ) (r : OwnSought) : Type 0 where
-  pub reaches : r .ok ≡ true → Reaches row at d o need (r .at) (nextDue (r .due))
+  pub reaches : r .ok ≡ true → (named : Bool) → Reaches named row at d o need (r .at) (nextDue (r .due))
   pub ended : r .ok ≡ true → isOwn (nextDue (r .due)) ≡ false
-  pub stops : r .ok ≡ false → Seeks row at d o need (record { ok = false; at = r .at })
+  pub stops : r .ok ≡ false → (named : Bool) → Seeks named row at d o need (record { ok = false; at = r .at })
 
 -- the children of a node may be sought from p on
 abbrev pub Starts : List ℕ → ℕ → ℕ → Next → ℕ → Start → Type 0
-Starts row at d o need (At p ps es) = (at + (least d o + need) ≤ 8192) × Reaches row at d o need p (parts 0 ps es)
+Starts row at d o need (At p ps es) = (at + (least d o + need) ≤ 8192) × ((named : Bool) → Reaches named row at d o need p (parts 0 ps es))
 Starts row at d o need Other = Unit {0}
 
 -- the search for a child of the sort whose tag stands at `at` answers r: where the child is there, the break is the one from its end on
-pub record SeeksChild (row : List ℕ) (at d : ℕ) (s : Sort) (need : ℕ) (r : Sought) : Type 0 where
+pub record SeeksChild (named : Bool) (row : List ℕ) (at d : ℕ) (s : Sort) (need : ℕ) (r : Sought) : Type 0 where
   pub breaks : (z : ℕ → Next) (x : Open) → leastAll x ≡ need
-      → pick (leb (at + 1 + (least d (nextOf (own s (getD row at 0))) + need)) 8192) (breakFrom z (at + 1) (rest d (nextOf (own s (getD row at 0))) x) (drop (at + 1) row)) at
-      ≡ pick (r .ok) (breakFrom z (r .at) x (drop (r .at) row)) (r .at)
+      → pick (leb (at + 1 + (least d (nextOf (ownIn named s (getD row at 0))) + need)) 8192) (breakFrom named z (at + 1) (rest d (nextOf (ownIn named s (getD row at 0))) x) (drop (at + 1) row)) at
+      ≡ pick (r .ok) (breakFrom named z (r .at) x (drop (r .at) row)) (r .at)
   pub rises : at ≤ r .at
   pub passes : r .ok ≡ true → at < r .at
   pub low : r .at ≤ 8192

@@ -11,7 +11,7 @@ use Rattle.form.specs.Decode.{decode, whole, Found, found, missing, asSort}
 use Rattle.form.specs.Answer.{Outcome}
 use Rattle.form.specs.declared.answer.Kind.{Kind}
 use Rattle.form.specs.declared.answer.Kind.the-variants.{Expression, Predicate}
-use Rattle.reader.specs.Internal.Reads.{asExpr}
+use Rattle.reader.specs.Internal.Reads.{asExpr, ofKind}
 use Rattle.reader.specs.declared.lists.Table.{Table}
 use Rattle.replace.specs.Internal.Pieces.{replaced, fillPlan, keptWords, headWords}
 use Rattle.decls.specs.Internal.Noted.{bodyStart, notedHead}
@@ -20,7 +20,7 @@ use Rattle.listed.specs.declared.marks.Reading.the-variants.{Taken, Refu
 
 -- a row as a form at most d deep, and how it was read: whether so, or only as any form
 unfoldable pub shallowForm : ℕ → Kind → List ℕ → Found
-shallowForm d kind row = let s = pick (asExpr kind row) expr pred in asSort s (whole (decode d s row))
+shallowForm d kind row = let s = pick (asExpr kind row) expr pred in pick (ofKind kind row) (asSort s (whole (decode d s row))) missing
 
 abbrev pub readingOf : Found → Found → Reading
 readingOf (found s f) o = Taken true

@@ -5,14 +5,15 @@ use mathlib.Core.List.{List, [], _∷_}
 use Prim.Native.Nat.{ℕ, suc, _+_, _-_, _*_, _^_, _<_}
 use mathlib.Core.Bool.{Bool, true, false, _&&_}
 use mathlib.Core.Option.{Option, none as absent, some}
-use lib.Dec.{leb}
+use lib.Dec.{leb, eqb}
 use lib.ListN.{length, set, take, drop, replicate}
 use Rattle.tree.specs.Form.{Form, leaf, node, noted, Decls, undeclared, bare, typed, namesOf, anyTyped, Forms, none, more, pick, member, encode, encodeDecls, encodeAll}
 use Rattle.form.specs.Decode.{Got, got, no-form, Gots, gots, no-forms, GotDecl, gotBare, gotTyped, no-decl, GotDecls, declared, no-decls, isLeaf, decode, decodeAll, decls, Found, found, missing}
 use Rattle.tree.specs.Tag.{Sort, expr, sorts, shapeOf}
+use Rattle.form.specs.Break.{breakAt}
 use Rattle.form.specs.Lists.{Place, kept, filled, Entry, entry, wordOf, entryWords, distinct}
 use Rattle.form.specs.declared.answer.Kind.{Kind}
-use Rattle.form.specs.declared.answer.Kind.the-variants.{Expression, Predicate, Either}
+use Rattle.form.specs.declared.answer.Kind.the-variants.{Expression, Predicate, Either, Named}
 use Rattle.tree.specs.declared.tag.Shape.{Shape}
 use Rattle.tree.specs.declared.tag.Shape.the-variants.{Unknown, Plain, Name, Value, Exprs, Preds, Apply, Compr, Quant, NotedCompr, NotedQuant}
 use Rattle.reader.specs.declared.lists.Table.{Table}
@@ -123,6 +124,14 @@ unfoldable pub asExpr : Kind → List ℕ → Bool
 asExpr Expression row = true
 asExpr Predicate row = false
 asExpr Either row = knownAt row
+asExpr Named row = knownAt row
+
+-- whether a row that is one form of its sort is of the kind
+unfoldable pub ofKind : Kind → List ℕ → Bool
+ofKind Expression row = true
+ofKind Predicate row = true
+ofKind Either row = true
+ofKind Named row = eqb (breakAt Named row) (length row)
 
 -- entries of lists: their marks, their table, and what the code's parts answer
 abbrev pub markPlace : Place → ℕ → List ℕ → List ℕ

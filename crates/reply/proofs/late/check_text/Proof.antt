@@ -28,8 +28,17 @@ check-row-requires-2 c κs = search needs
 returns-2 : tie.Need-returns-2
 returns-2 c = c .check-row2 .ensures ∙ late-row _ _ _ true (sym (not-false _ (c .before .before .before .before .if1 .left)) ∙ c .before .before .before .before .before .fits-form .ensures)
 
+is-of-kind-requires : tie.Need-is-of-kind-requires
+is-of-kind-requires c κs = search needs
+
+check-row-requires-3 : tie.Need-check-row-requires-3
+check-row-requires-3 c κs = search needs
+
 returns-3 : tie.Need-returns-3
-returns-3 c = late-fits _ _ _ (sym (not-false _ (c .before .before .before .if1 .left)) ∙ c .before .before .before .before .fits-form .ensures) _ _ (c .before .before .is-expr .ensures) (c .before .is-expr2 .ensures) (c .if2 .left)
+returns-3 c = c .check-row3 .ensures ∙ late-row _ _ _ true (sym (not-false _ (c .before .before .before .before .before .before .if1 .left)) ∙ c .before .before .before .before .before .before .before .fits-form .ensures)
+
+returns-4 : tie.Need-returns-4
+returns-4 c = let b = c .before .before in late-fits _ _ _ (sym (not-false _ (b .before .before .before .if1 .left)) ∙ b .before .before .before .before .fits-form .ensures) _ _ (b .before .before .is-expr .ensures) (b .before .is-expr2 .ensures) (b .if2 .left) (sym (c .before .is-of-kind .ensures) ∙ not-false _ (c .if3 .left))
 
 pub check-text-spec : {M : Type 1} → statement M
 check-text-spec =
@@ -42,4 +51,7 @@ check-text-spec =
     is-expr-requires-2
     check-row-requires-2
     returns-2
-    returns-3)
+    is-of-kind-requires
+    check-row-requires-3
+    returns-3
+    returns-4)
