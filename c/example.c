@@ -1,5 +1,5 @@
-/* Shifts one form by -1, and by -2 with the command's number; asks where a row breaks, and offers one equality to a set
- * of places. Its output is example.out. */
+/* Shifts one form by -1, and by -2 with the command's number; reads a form written with names; asks where a row breaks,
+ * and offers one equality to a set of places. Its output is example.out. */
 #include <stdio.h>
 
 #include "sogbayile.h"
@@ -27,6 +27,11 @@ int main(void)
     show("shift -1", sgb_shift(row, n, -1, out, SGB_MAX_WORDS), out);
     show("shift -2", sgb_run(SGB_SHIFT, -2, row, 0, row, n, work, 0, out, SGB_MAX_WORDS), out);
     show("no command", sgb_run(0, 0, row, 0, row, n, work, 0, out, SGB_MAX_WORDS), out);
+
+    /* there are a v4 and a v5 with: v4 equals v6 */
+    const uint32_t named[] = {852, 2, 4, 5, 101, 1, 4, 1, 6};
+    show("named", sgb_named(named, 9, out, SGB_MAX_WORDS), out);
+    show("an index", sgb_named(row, n, out, SGB_MAX_WORDS), out);
 
     /* the right side of the equality is a predicate */
     const uint32_t broken[] = {852, 1, 9, 101, 2, 0, 610};

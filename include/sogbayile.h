@@ -42,7 +42,7 @@ extern "C" {
 enum {
     SGB_TOO_LONG = 1,         /* a row longer than 8,192 words */
     SGB_NOT_A_FORM = 2,       /* a row that is not exactly one form, or list, within the limits; or no predicate where
-                                 one is needed; the lower 32 bits are the position */
+                                 one is needed; or a tag 2 in a named row; the lower 32 bits are the position */
     SGB_NOT_QUANTIFIED = 3,   /* fill or prune of what is not 851, 852, 861 or 862 */
     SGB_BAD_NAMES = 4,        /* a name listed twice, a name over 65,535, over 32 names */
     SGB_BAD_COUNT = 5,        /* another number of places than of declarations; a set for over 32 declarations */
@@ -120,6 +120,11 @@ uint64_t sgb_point(const uint32_t *row, size_t row_len, uint32_t *work, size_t w
 uint64_t sgb_member(const uint32_t *row, size_t row_len, uint32_t *work, size_t work_len,
                    uint32_t *out, size_t out_len);
 
+/* A form in which each occurrence is a name: those that an enclosing declaration bears become indices, the innermost
+ * first and, within one quantifier, the last first; the others stay free. The names of an annotation are looked up outside
+ * its quantifier. Any tag 2 in the row is refused by 2, at that tag. 1, 2, 14. */
+uint64_t sgb_named(const uint32_t *row, size_t row_len, uint32_t *out, size_t out_len);
+
 /* Any of the commands by its number, as its own call answers; one that takes no offset, no list or no work row does not
  * look at it. A number that is no command's is refused by 8. */
 enum {
@@ -129,7 +134,8 @@ enum {
     SGB_FILL = 4,
     SGB_PRUNE = 5,
     SGB_POINT = 6,
-    SGB_MEMBER = 7
+    SGB_MEMBER = 7,
+    SGB_NAMED = 8
 };
 uint64_t sgb_run(uint32_t number, int32_t offset, const uint32_t *list, size_t list_len,
                  const uint32_t *row, size_t row_len, uint32_t *work, size_t work_len,

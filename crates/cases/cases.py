@@ -1,5 +1,5 @@
 #!/usr/bin/env python3
-"""The library cases and what documents 01 and 02 (Papers 4 and 8) answer to them.
+"""The library cases and what documents 01 and 02 (Papers 1, 4 and 8) answer to them.
 
   cases.py stdin  > stdin     the cases, as src/main.rt describes them
   cases.py stdout > stdout    what must be printed, from the model below
@@ -59,11 +59,11 @@ def declared(what, n):
     return n if what == "D" else 2 * n + 1 if what == "A" else 0
 
 
-def read(ws, at, sort, depth, after=0):
+def read(ws, at, sort, depth, after=0, named=False):
     """The form of the sort ('E' or 'P') that starts here, and where it ends. Bad has the first word at which no row can go on within the
     limits, or the number of words where they ran out: so many words at least must come after the form, a form has at least one word, and
-    below the last depth there is none."""
-    if at >= len(ws) or ws[at] not in SHAPES[sort]:
+    below the last depth there is none. A named row has no tag 2."""
+    if at >= len(ws) or ws[at] not in SHAPES[sort] or named and ws[at] == 2:
         raise Bad(at)
     asked, kinds = SHAPES[sort][ws[at]]
 
@@ -95,7 +95,7 @@ def read(ws, at, sort, depth, after=0):
                 flag = word(0 if came or j < n - 1 else 1, 1, lambda flag: (flag or not came) + others)
                 note = None
                 if flag:
-                    note, at = read(ws, at, "E", depth + 1, after + others)
+                    note, at = read(ws, at, "E", depth + 1, after + others, named)
                     came = True
                 decls.append((name, note))
         else:
@@ -103,7 +103,7 @@ def read(ws, at, sort, depth, after=0):
             kinds = what * n if what else kinds
     kids = []
     for j, k in enumerate(kinds):
-        f, at = read(ws, at, k, depth + 1, after + len(kinds) - 1 - j)
+        f, at = read(ws, at, k, depth + 1, after + len(kinds) - 1 - j, named)
         kids.append(f)
     return (PLAIN.get(t, t), own, decls, kids), at
 
@@ -131,12 +131,12 @@ def sort_of(ws):
     return "E" if ws and ws[0] in SHAPES["E"] else "P"
 
 
-def form(ws, sort=None):
-    """1 and 2 of a row; the sort is P where a predicate is asked for."""
+def form(ws, kind=None):
+    """1 and 2 of a row; the kind is E or P where that sort is asked for, N for a named row, which may have either."""
     if len(ws) > WORDS:
         raise No(1)
     try:
-        f, end = read(ws, 0, sort or sort_of(ws), 1)
+        f, end = read(ws, 0, kind if kind in ("E", "P") else sort_of(ws), 1, 0, kind == "N")
     except Bad as x:
         raise No(2, x.at)
     if end != len(ws):
@@ -240,6 +240,20 @@ def fill(f, places):
 
     new = walk(body, act)
     return (op, [], [decls[j] for j in kept], [new]) if kept else new
+
+
+# ----- forms written with names
+
+
+def named(f, enclosing=[]):
+    """Each occurrence of a name, tag 1, becomes an index if an enclosing declaration bears the name: the innermost first and, within one
+    quantifier, the last first, which is the order in which indices count. Else it stays free. Names in 7 and 11 are own words of other tags.
+    An annotation stands outside its quantifier. The enclosing declarations' names are listed in the order of the row."""
+    t, own, decls, kids = f
+    if t == 1:
+        return next((index(i) for i, name in enumerate(reversed(enclosing)) if name == own[0]), f)
+    inside = enclosing + [name for name, _ in decls]
+    return (t, own, noted(decls, lambda e: named(e, enclosing)), [named(c, inside) for c in kids])
 
 
 # ----- one point
@@ -404,16 +418,17 @@ def good_names(names):
         raise No(4)
 
 
-# the commands in the order of their numbers: what stands before the form, and the sort that the form must have
-COMMANDS = {"shift": ("offset", None), "free": ("pairs", None), "bind": ("names", None), "fill": ("places", "P"), "prune": ("", "P"), "point": ("", "P"), "member": ("", "P")}
+# the commands in the order of their numbers: what stands before the form, and the kind of row that the form must be
+COMMANDS = {"shift": ("offset", None), "free": ("pairs", None), "bind": ("names", None), "fill": ("places", "P"), "prune": ("", "P"), "point": ("", "P"), "member": ("", "P"),
+            "named": ("", "N")}
 
 
 def call(op, out, work, by, lst, row):
     if op in ("free", "fill", "point", "member") and work < 16384:
         raise No(15)
-    _, sort = COMMANDS.get(op, ("", None))
-    f = form(row, sort)
-    s = sort or sort_of(row)
+    _, kind = COMMANDS.get(op, ("", None))
+    f = form(row, kind)
+    s = "P" if kind == "P" else sort_of(row)
     if op == "dangling":
         d = dangling(f)
         if len(d) > out:
@@ -430,8 +445,8 @@ def call(op, out, work, by, lst, row):
         pairs = entries(lst, "pairs")
         good_names([p[0] for p in pairs])
         return finish(free(f, dict(pairs)), out, s)
-    if op in ("point", "member"):
-        return finish((point if op == "point" else member)(f), out, s)
+    if op in ("point", "member", "named"):
+        return finish({"point": point, "member": member, "named": named}[op](f), out, s)
     places = entries(lst, "places") if op == "fill" else None
     if f[0] not in (851, 852):
         raise No(3)
@@ -702,6 +717,41 @@ def cases():
             ("under a declaration", 2, ["101 2 0 803 0 1 4 862 1 5 1 2 0 610 2 0"]), ("12, under a declaration", 2, ["101 2 0 803 0 1 4 862 1 5 1 2 1 610 2 0"]),
             ("10, a quantified predicate", 2, ["862 1 4 1 2 0 101 2 0 1 7"]), ("2", 2, ["101 2 0 873 0 1 4 0 610 2 0"]), ("13", 1, ["101 2 0 873 0 1 4 1 2 1 610 2 0", "101 2 0 1 7"])]:
         yield one("offer, annotated, %s" % name, "new", "/".join(rows), "", 0, 0, n)
+
+    # named forms: what is answered, with output rows one short, as long and longer, and no work row
+    named_row = "852 2 4 5 101 1 4 1 5"
+    for name, row in [("declared", named_row), ("free", "101 1 4 3 2"), ("an expression", "803 0 1 4 9 1 4 1 4"), ("annotated", "862 2 4 1 1 4 5 0 101 1 4 1 5")]:
+        length = len(w(row))
+        for out in (0, length - 1, length, length + 1, length + 4):
+            yield one("named, %s, output %d" % (name, out), "named", row, "", out)
+    for name, row in [
+            ("the last of two equal names", "852 3 4 5 4 101 1 4 1 5"), ("the inner of two quantifiers", "851 2 4 5 852 2 6 4 10 3 1 4 1 5 1 6"), ("32 equal names", "852 32 32*4 101 1 4 1 5"),
+            ("the first of 32", "852 32 4 31*5 101 1 4 1 5"), ("bound in one child and free in the next", "351 2 852 1 4 9 1 4 9 1 4"), ("bound outside too", "852 1 4 351 2 852 1 4 9 1 4 9 1 4"),
+            ("names of 7 and 11", "852 1 4 351 2 7 4 11 4 1 1 4"), ("an annotation with its own name", "862 1 4 1 1 4 9 1 4"), ("an annotation with an outer name", "852 1 4 862 1 4 1 1 4 9 1 4"),
+            ("an annotation in an annotation", "852 1 4 861 2 4 0 5 1 873 0 1 4 1 1 4 9 1 4 1 4 101 1 4 1 5"), ("the word 2", "852 2 2 2 351 2 101 1 2 3 2 10 2 1 2 4 2 3 2 1 2"),
+            ("names equal modulo 256", "852 3 4 260 516 10 4 1 4 1 260 1 516 1 772"), ("the largest name", "852 1 65535 101 1 65535 1 65534"), ("a leaf", "1 4"), ("depth 64", "62*8 852 1 4 7 4"),
+            ("names at depth 64", "61*8 852 1 4 9 1 4")]:
+        yield one("named, %s" % name, "named", row, "", len(w(row)) + 2)
+    # 61 quantifiers of 32 equal names, and an occurrence of each of these names
+    yield one("named, 1952 open declarations", "named", "%s 10 62 %s" % (" ".join("852 32 32*%d" % n for n in range(1, 62)), " ".join("1 %d" % n for n in range(1, 63))), "", 2200)
+    # rows of many words: a short, a middle and a long row, and the longest
+    for length in (31, 32, 33, 63, 64, 65, 66, 255, 256, 257, 511, 512, 513, 2047, 2048, 2049, 8191, 8192):
+        many = (length - 5) // 2
+        yield one("named, %d words" % length, "named", "852 1 1 10 %d %s %d*1" % (many + (length - 5) % 2, "401" if (length - 5) % 2 else "", 2 * many), "", length if length < 8191 else 5)
+    yield one("named, 8192 words, output 8192", "named", "852 1 1 10 4094 401 8186*1", "", 8192)
+    # 1, 2 with its position, 14, in this order
+    yield one("named, 8193 words", "named", "8193*0", "", 3)
+    yield one("named, 1 before 2 and 14", "named", "8193*2", "", 0)
+    yield one("named, 8192 words that are no form", "named", "8192*0", "", 3)
+    yield one("named, 2 before 14", "named", "9 2 0", "", 0)
+    for name, row in [
+            ("no word", ""), ("a word too many", "610 0"), ("a word too few", "101 1 4 1"), ("an index", "2 0"), ("an index's tag alone", "9 2"), ("an index over 65535", "9 2 65536"), ("an index after a name", "101 1 4 2 0"),
+            ("an index as an annotation", "862 1 4 1 2 0 610"), ("an index as the last annotation", "862 2 4 1 1 4 5 1 2 0 610"), ("an index as a value", "803 0 1 4 610 2 0"), ("an index in a set", "4 2 1 2 2 0"),
+            ("an index as an argument", "11 2 1 2 0"), ("an index in a body", "852 1 2 9 2 0"), ("a predicate for an expression", "101 1 4 610"), ("a name over 65535", "9 1 65536"), ("a declared name", "852 2 4 65536 9 1 4"),
+            ("33 declarations", "852 33 33*4 610"), ("no annotation", "862 1 4 0 610"), ("a flag of 2", "862 1 4 2 401 610"), ("depth 65", "62*8 852 1 4 9 1 4"), ("an index at depth 65", "62*8 852 1 4 9 2 0"),
+            ("a count for which there is no room", "9 4 8190"), ("the largest count", "9 4 8189"), ("an index as the last of 8192 words", "10 8190 8189*401 2"), ("no room for a name", "10 8190 8189*401 1"),
+            ("room for a name", "10 8189 8188*401 1 4"), ("an index where there is room", "10 8189 8188*401 2 4")]:
+        yield one("named, breaks: %s" % name, "named", row, "", 3)
 
 
 # the numbers of the commands, and of the calls that are no command's

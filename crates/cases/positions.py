@@ -1,10 +1,11 @@
 #!/usr/bin/env python3
-"""The positions of the model in cases.py against the words of document 02 (Papers 4 and 8), by trying every continuation.
+"""The positions of the model in cases.py against the words of document 02 (Papers 1, 4 and 8), by trying every continuation.
 
 Under small limits every acceptable row over a small alphabet is listed, from the grammar of document 01 and without reading a row. The
 beginnings of these rows are what can go on. So the position of a row is the length of its longest beginning that can go on. Each such
 beginning is taken with every next word, alone and with words after it, and the model must give that position; it must accept exactly the
-listed rows. The same is done for lists of pairs and of places. Rows with annotations are longer, so these are tried again over fewer words.
+listed rows. The same is done for lists of pairs and of places, and for named rows, which have no tag 2. Rows with annotations are longer, so these are
+tried again over fewer words.
 
   positions.py [WORDS [WORDS]]        prints the number of rows that were tried, and fails at the first difference; the second number is for
                                       the rows with annotations
@@ -17,6 +18,7 @@ import sys
 import cases
 
 DEPTH, NAME, DECLARATIONS = 3, 2, 2
+IDENTIFIERS = 1, 2
 NUMBERS = range(0, 16)
 ALPHABET = sorted({*range(12), 101, 201, 251, 301, 351, 401, 610, 751, 803, 851, 862, 873, 999})
 
@@ -52,7 +54,7 @@ def forms(sort, depth, most):
     names = [(n,) for n in range(NAME + 1)]
     heads = []      # the words before the children, and the sorts of the children
     if sort == "E":
-        heads += [((t, n), "") for t in (1, 2) for n, in names] + [((3, v), "") for v in ALPHABET] + [((401,), "")]
+        heads += [((t, n), "") for t in IDENTIFIERS for n, in names] + [((3, v), "") for v in ALPHABET] + [((401,), "")]
         heads += [((4, n), "E" * n) for n in NUMBERS] + [((301, n), "E" * n) for n in NUMBERS if n >= 2]
         heads += [((5,), "P"), ((6,), "EE"), ((201,), "EE"), ((751,), "E")]
         heads += [((803, f, n) + ds, "PE") for f in range(4) for n in range(1, DECLARATIONS + 1) for ds in together([names] * n)]
@@ -115,10 +117,11 @@ def compare(name, words, accepted, read):
     print("%s: %d acceptable rows, %d beginnings, %d rows tried" % (name, len(accepted), len(viable), tried))
 
 
-def limits(alphabet, name):
-    """The words that are tried, and the largest name; with the other limits, for the lists here and for the model."""
-    global ALPHABET, NAME
-    ALPHABET, NAME = alphabet, name
+def limits(alphabet, name, identifiers=(1, 2)):
+    """The words that are tried, the largest name, and the tags of identifiers that rows may have; with the other limits, for the lists here and
+    for the model."""
+    global ALPHABET, NAME, IDENTIFIERS
+    ALPHABET, NAME, IDENTIFIERS = alphabet, name, identifiers
     forms.cache_clear()
     cases.DEPTH, cases.NAME, cases.DECLARATIONS = DEPTH, NAME, DECLARATIONS
     cases.SHAPES = cases.shapes()
@@ -145,10 +148,20 @@ def lists_of_pairs(words):
     compare("pairs", words - 1, lists("pairs", words - 1), lambda row: cases.entries(row, "pairs"))
 
 
+SHORT = [0, 1, 2, 5, 9, 401, 610, 862, 873]
+
+
+def named_rows(words, longer):
+    """Named rows of either sort: no tag is 2, but a name, a count, a literal may be."""
+    for name, alphabet, most, largest in ("named", ALPHABET, words - 1, NAME), ("named, annotated", SHORT, longer - 1, 1):
+        limits(alphabet, largest, (1,))
+        compare(name, most, forms("E", DEPTH, most) | forms("P", DEPTH, most), lambda row: cases.form(row, "N"))
+
+
 def annotated(words):
     limits([0, 1, 2, 4, 5, 9, 401, 610, 862, 873], 0)
     both("annotated, with sets: ", words - 2)
-    limits([0, 1, 2, 5, 9, 401, 610, 862, 873], 1)
+    limits(SHORT, 1)
     both("annotated: ", words)
     compare("annotated: places", words - 2, lists("places", words - 2), lambda row: cases.entries(row, "places"))
 
@@ -157,7 +170,8 @@ def main():
     """Each part in a process of its own, since the limits are the model's."""
     words, longer = (int(a) for a in (sys.argv[1:] + ["6", "12"][len(sys.argv[1:]):])[:2])
     limits(ALPHABET, NAME)
-    parts = [multiprocessing.Process(target=part, args=(n,)) for part, n in ((forms_of_each_sort, words), (lists_of_places, words), (lists_of_pairs, words), (annotated, longer))]
+    each = (forms_of_each_sort, words), (lists_of_places, words), (lists_of_pairs, words), (annotated, longer), (named_rows, words, longer)
+    parts = [multiprocessing.Process(target=part, args=most) for part, *most in each]
     for part in parts:
         part.start()
     for part in parts:

@@ -20,8 +20,8 @@ pub const MAX_PLACES: usize = 32;
 pub enum Refusal {
     /// a row longer than 8,192 words
     TooLong,
-    /// a row that is not exactly one form, or list, within the limits; or no predicate where one is needed. With the
-    /// position of the first word at which no row of the kind can go on, or the number of words where they ran out,
+    /// a row that is not exactly one form, or list, within the limits; or no predicate where one is needed; or a form with
+    /// an index where one with names is needed. With the position of the first word at which no row of the kind can go on, or the number of words where they ran out,
     /// counted over the form, or over the list where that is at fault
     NotAForm(usize),
     /// fill or prune of what is not 851, 852, 861 or 862
@@ -132,6 +132,7 @@ mod c {
         pub fn sgb_prune(row: *const u32, n: usize, out: *mut u32, room: usize) -> u64;
         pub fn sgb_point(row: *const u32, n: usize, work: *mut u32, work_n: usize, out: *mut u32, room: usize) -> u64;
         pub fn sgb_member(row: *const u32, n: usize, work: *mut u32, work_n: usize, out: *mut u32, room: usize) -> u64;
+        pub fn sgb_named(row: *const u32, n: usize, out: *mut u32, room: usize) -> u64;
         pub fn sgb_run(
             number: u32,
             offset: i32,
@@ -270,6 +271,11 @@ pub fn member(row: &[u32], work: &mut [u32], out: &mut [u32]) -> Result<usize, R
     })
 }
 
+/// Makes the names of the form that a declaration binds indices; a form with an index is refused by 2.
+pub fn named(row: &[u32], out: &mut [u32]) -> Result<usize, Refusal> {
+    length(unsafe { c::sgb_named(row.as_ptr(), row.len(), out.as_mut_ptr(), out.len()) })
+}
+
 /// A command, with its number in the C header.
 #[derive(Clone, Copy, Debug, PartialEq, Eq)]
 pub enum Command {
@@ -280,6 +286,7 @@ pub enum Command {
     Prune = 5,
     Point = 6,
     Member = 7,
+    Named = 8,
 }
 
 /// Runs any command. One that takes no offset, no list or no `work` does not look at it.

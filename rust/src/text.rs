@@ -15,7 +15,7 @@ enum Args {
 /// A command's head, what stands before its form, and the form's check.
 type Entry = (&'static str, Command, Args, fn(&[u32]) -> Result<(), Refusal>);
 
-const COMMANDS: [Entry; 7] = [
+const COMMANDS: [Entry; 8] = [
     ("shift", Command::Shift, Args::Offset, check),
     ("free", Command::Free, Args::Pairs, check),
     ("bind", Command::Bind, Args::Names, check),
@@ -23,6 +23,7 @@ const COMMANDS: [Entry; 7] = [
     ("prune", Command::Prune, Args::Nothing, check_predicate),
     ("point", Command::Point, Args::Nothing, check_predicate),
     ("member", Command::Member, Args::Nothing, check_predicate),
+    ("named", Command::Named, Args::Nothing, check_named),
 ];
 
 /// A command, with the text and the row of its list and of its form.
@@ -192,6 +193,11 @@ fn spell_list(mut row: &[u32], places: bool) -> Option<String> {
     Some(format!("[{}]", items.join(" ")))
 }
 
+/// A named row's 1 and 2.
+fn check_named(row: &[u32]) -> Result<(), Refusal> {
+    early(crate::named(row, &mut []).map(|_| ()))
+}
+
 /// 8 where the brackets of a group do not hold its nodes.
 fn held(group: &Group, spelled: Option<String>) -> Result<(), Refusal> {
     if spelled.as_deref() == Some(group.text) {
@@ -201,7 +207,7 @@ fn held(group: &Group, spelled: Option<String>) -> Result<(), Refusal> {
     }
 }
 
-/// A list's 1 and 2; its other refusals come after its 8.
+/// A row's 1 and 2; its other refusals come after its 8.
 fn early(checked: Result<(), Refusal>) -> Result<(), Refusal> {
     match checked {
         Err(Refusal::TooLong | Refusal::NotAForm(_)) => checked,

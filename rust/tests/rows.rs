@@ -48,12 +48,13 @@ fn own(command: Command, list: &[u32], row: &[u32], work: &mut [u32], out: &mut 
         Command::Prune => sogbayile::prune(row, out),
         Command::Point => sogbayile::point(row, work, out),
         Command::Member => sogbayile::member(row, work, out),
+        Command::Named => sogbayile::named(row, out),
     }
 }
 
 #[test]
 fn commands_by_number() {
-    let cases: [(Command, &[u32], &[u32], &[u32]); 7] = [
+    let cases: [(Command, &[u32], &[u32], &[u32]); 8] = [
         (Command::Shift, &[], &EXISTS, &[852, 1, 9, 101, 2, 0, 2, 1]),
         (Command::Free, &[4, 2, 0], &[9, 1, 4], &[9, 2, 0]),
         (Command::Bind, &[4, 5], &[101, 1, 4, 2, 0], &[101, 2, 1, 2, 2]),
@@ -61,6 +62,7 @@ fn commands_by_number() {
         (Command::Prune, &[], &[852, 2, 4, 5, 101, 2, 1, 1, 7], &[852, 1, 4, 101, 2, 0, 1, 7]),
         (Command::Point, &[], &[852, 1, 4, 101, 2, 0, 1, 7], &[610]),
         (Command::Member, &[], &[107, 1, 7, 803, 0, 1, 4, 610, 3, 5], &[852, 1, 4, 351, 2, 610, 101, 3, 5, 1, 7]),
+        (Command::Named, &[], &[852, 2, 4, 5, 101, 1, 4, 1, 6], &[852, 2, 4, 5, 101, 2, 1, 1, 6]),
     ];
     let mut work = vec![OLD; WORK_WORDS];
     for (command, list, row, answer) in cases {
@@ -73,6 +75,25 @@ fn commands_by_number() {
             assert_eq!(by_number, out);
         }
     }
+}
+
+#[test]
+fn named_forms() {
+    let mut out = [OLD; 14];
+    // the last of two equal names; what an annotation names is outside its quantifier
+    assert_eq!(sogbayile::named(&[852, 3, 4, 5, 4, 101, 1, 4, 1, 5], &mut out), Ok(10));
+    assert_eq!(out, [852, 3, 4, 5, 4, 101, 2, 0, 2, 1, OLD, OLD, OLD, OLD]);
+    assert_eq!(sogbayile::named(&[852, 1, 4, 862, 1, 4, 1, 1, 4, 9, 1, 4], &mut out), Ok(12));
+    assert_eq!(out, [852, 1, 4, 862, 1, 4, 1, 2, 0, 9, 2, 0, OLD, OLD]);
+    assert_eq!(sogbayile::named(&[803, 0, 1, 4, 7, 4, 1, 4], &mut out), Ok(8));
+    assert_eq!(out[..8], [803, 0, 1, 4, 7, 4, 2, 0]);
+    let mut out = [OLD; 4];
+    assert_eq!(sogbayile::named(&EXISTS, &mut out), Err(Refusal::NotAForm(4)));
+    assert_eq!(sogbayile::named(&[2, 0], &mut out), Err(Refusal::NotAForm(0)));
+    assert_eq!(sogbayile::named(&[101, 3, 2, 1], &mut out), Err(Refusal::NotAForm(4)));
+    assert_eq!(sogbayile::named(&[2; MAX_WORDS + 1], &mut out), Err(Refusal::TooLong));
+    assert_eq!(sogbayile::named(&[101, 1, 4, 1, 5], &mut out), Err(Refusal::OutShort));
+    assert_eq!(out, [OLD; 4]);
 }
 
 #[test]

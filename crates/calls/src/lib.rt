@@ -28,6 +28,7 @@ pub fn run(
         Command::Prune => prune::prune::remove_unused_decls(row, out),
         Command::Point => one_point::one_point_inference::one_point_inference(row, work, out),
         Command::Member => member::rewrite_in_compset::rewrite_in_compset(row, work, out),
+        Command::Named => named::named::to_indices(row, out),
     }
 }
 

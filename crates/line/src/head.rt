@@ -41,6 +41,7 @@ fn begins_with(line: &[u8], command: Command) -> Start
         Command::Prune => begins(line, b"[prune ", command),
         Command::Point => begins(line, b"[point ", command),
         Command::Member => begins(line, b"[member ", command),
+        Command::Named => begins(line, b"[named ", command),
     }
 }
 

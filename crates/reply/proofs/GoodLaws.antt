@@ -16,7 +16,7 @@ use Rattle.form.specs.Break.{breakAt, breakList}
 use Rattle.form.specs.Lists.{Entry, wordOf, placeOf, listOf, goodNames}
 use Rattle.form.specs.Answer.{Outcome, answer, stop, withForm, ofFound, withList, ofList, needs, isOne, finish}
 use Rattle.form.specs.declared.answer.Kind.{Kind}
-use Rattle.form.specs.declared.answer.Kind.the-variants.{Predicate, Either}
+use Rattle.form.specs.declared.answer.Kind.the-variants.{Predicate, Either, Named as NamedRow}
 use Rattle.form.specs.declared.answer.ListKind.{ListKind}
 use Rattle.form.specs.declared.answer.ListKind.the-variants.{Pairs, Places}
 use Rattle.form.proofs.RowLaws.{found-either, row-one}
@@ -27,13 +27,14 @@ use Rattle.rules.specs.Fill.{Decl, Quantified, quantifier, other, quantified, o
 use Rattle.rules.specs.Prune.{usedPlaces, prune, pruneOutcome}
 use Rattle.rules.specs.Point.{onePoint, ofResult, pointOutcome}
 use Rattle.rules.specs.Member.{membership, memberOutcome}
+use Rattle.rules.specs.Named.{nameless, namedOutcome}
 use Rattle.spell.specs.Spell.{digits, decimal, spell, ending, spellNo, printOutcome, printNo}
 use Rattle.line.specs.Line.{Formed, formed, readLine}
 use Rattle.spell.proofs.PrintLaws.{spell-few}
 use Rattle.spell.proofs.WriteLaws.{digits-few}
 use Rattle.rules.specs.Command.{argsOf, kindOf, outcomeOf}
 use Rattle.rules.specs.declared.command.Command.{Command}
-use Rattle.rules.specs.declared.command.Command.the-variants.{Shift, Free, Bind, Fill, Prune, Point, Member}
+use Rattle.rules.specs.declared.command.Command.the-variants.{Shift, Free, Bind, Fill, Prune, Point, Member, Named}
 use Rattle.line.specs.declared.line.Line.the-variants.{Read, Misspelled}
 use Rattle.reply.specs.Reply.{commandOutcome, ofLine, enoughRows, lineOutcome, printed, replyOutcome}
 use Rattle.reply.proofs.LateLaws.{Gate, passes, refuses, form-tests, args-gate}
@@ -116,6 +117,10 @@ good-member : (row : List ℕ) (work room : ℕ) → Good (memberOutcome row wor
 unfolding memberOutcome
 good-member row work room = good-needs 15 (leb 16384 work) _ (good-form Predicate row _ (λ s f. good-result room (membership f)))
 
+good-named : (row : List ℕ) (room : ℕ) → Good (namedOutcome row room)
+unfolding namedOutcome
+good-named row room = good-form NamedRow row _ (λ s f. good-finish s room (nameless [] f))
+
 good-gate : (g : Outcome → Outcome) → Gate g → (o : Outcome) → Good o → Good (g o)
 good-gate g (passes h) o k = rw (h o) k
 good-gate g (refuses n p h) o k = rw (h o) tt
@@ -128,6 +133,7 @@ good-outcome Fill z list row work room = good-fill list row work room
 good-outcome Prune z list row work room = good-prune row room
 good-outcome Point z list row work room = good-point row work room
 good-outcome Member z list row work room = good-member row work room
+good-outcome Named z list row work room = good-named row room
 
 good-command : (c : Command) (z : ℤ) (listText list text row : List ℕ) (work room : ℕ) → Good (commandOutcome c z listText list text row work room)
 good-command c z listText list text row work room =

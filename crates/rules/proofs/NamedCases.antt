@@ -2,19 +2,25 @@
 use mathlib.Core.Path.{_≡_, refl}
 use mathlib.Core.List.{List, [], _∷_, map}
 use Prim.Native.Nat.{ℕ}
+use lib.IntN.{pos}
 use Rattle.tree.specs.Form.{encode}
 use Rattle.tree.specs.Tag.{own, ownOf, shapeOf, exprTags, predTags}
-use Rattle.form.specs.Decode.{read, declAt, decls, decode, decodeAll, rowForm, found, missing, formOf}
-use Rattle.form.specs.declared.answer.Kind.the-variants.{Either}
-use Rattle.rules.specs.Named.{occurrence, nameless}
+use Rattle.form.specs.Decode.{read, declAt, decls, decode, decodeAll, rowForm, indexFree, formOf}
+use Rattle.form.specs.Break.{declsNext, nextOf, least, leastAll, after, breakFrom, breakAt}
+use Rattle.form.specs.Answer.{Outcome, answer, stop, finish}
+use Rattle.rules.specs.Named.{occurrence, nameless, namedOutcome}
+use Rattle.rules.specs.Command.{outcomeOf}
+use Rattle.rules.specs.declared.command.Command.the-variants.{Named}
 
--- the row of what `nameless` gives; no words where the row is no form
-abbrev after : List ℕ → List ℕ
-after row = elim (formOf Either row) [ found s f ↦ encode (nameless [] f) | missing ↦ [] ]
-
--- a row with names, and the row with indices
+-- a row with names, and the row with indices; a row, and where it breaks
 abbrev Case : Type 0
 Case = List ℕ × List ℕ
+
+abbrev Break : Type 0
+Break = List ℕ × ℕ
+
+abbrev named : List ℕ → Outcome
+named row = outcomeOf Named (pos 0) [] row 16384 8192
 
 -- in one quantifier the last declaration is index 0, and of two equal names the last counts
 abbrev oneQuantifier : List Case
@@ -49,8 +55,23 @@ comprehensionsAndNotes =
     ∷ []
 
 abbrev Right : List Case → Type 0
-Right cases = map (λ c. after (c .0)) cases ≡ map (λ c. c .1) cases
+Right cases = map (λ c. named (c .0)) cases ≡ map (λ c. answer (c .1)) cases
 
 pub named-cases : Right oneQuantifier × Right severalQuantifiers × Right otherWords × Right comprehensionsAndNotes
-unfolding occurrence nameless formOf rowForm decode decodeAll declAt decls read own ownOf shapeOf exprTags predTags encode
+unfolding namedOutcome finish occurrence nameless formOf rowForm indexFree decode decodeAll declAt decls read own ownOf shapeOf exprTags predTags encode
 named-cases = (refl, refl, refl, refl)
+
+-- an index is refused at its tag, also where the row breaks later; the word 2 is no index where no tag must come
+abbrev indices : List Break
+indices =
+    (2 ∷ 0 ∷ [], 0)
+    ∷ (852 ∷ 1 ∷ 4 ∷ 101 ∷ 1 ∷ 4 ∷ 2 ∷ 0 ∷ [], 6)
+    ∷ (101 ∷ 2 ∷ 0 ∷ 610 ∷ [], 1)
+    ∷ (101 ∷ 1 ∷ 2 ∷ 610 ∷ [], 3)
+    ∷ (862 ∷ 1 ∷ 4 ∷ 1 ∷ 2 ∷ 0 ∷ 610 ∷ [], 4)
+    ∷ (852 ∷ 2 ∷ 2 ∷ 2 ∷ 101 ∷ 1 ∷ 2 ∷ [], 7)
+    ∷ []
+
+pub named-breaks : map (λ c. named (c .0)) indices ≡ map (λ c. stop 2 (c .1)) indices
+unfolding namedOutcome formOf rowForm indexFree decode decodeAll declAt decls read own ownOf shapeOf exprTags predTags encode declsNext nextOf least leastAll after breakFrom breakAt
+named-breaks = refl

@@ -205,7 +205,7 @@ mutual
   nameless-length S (noted t o ds ks) =
       ap suc (rw (length-append, length-append, length-append o, length-append (encodeDecls ds)) (let h = nameless-lengthAll (opened (namesOf ds) S) ks in let q = nameless-lengthDecls S ds in omega arith))
 
-  nameless-lengthDecls : (S : List ℕ) (ds : Decls) → length (encodeDecls (namelessDecls S ds)) ≡ length (encodeDecls ds)
+  pub nameless-lengthDecls : (S : List ℕ) (ds : Decls) → length (encodeDecls (namelessDecls S ds)) ≡ length (encodeDecls ds)
   nameless-lengthDecls S undeclared = refl
   nameless-lengthDecls S (bare n ds) = ap (λ z. suc (suc z)) (nameless-lengthDecls S ds)
   nameless-lengthDecls S (typed n f ds) = ap (λ z. suc (suc z)) (rw (length-append, length-append (encode f), nameless-length S f, nameless-lengthDecls S ds))

@@ -4,7 +4,7 @@ use Prim.Native.Nat.{ℕ, zero, suc}
 use lib.IntN.{ℤ}
 use Rattle.form.specs.Answer.{Outcome, refusal}
 use Rattle.form.specs.declared.answer.Kind.{Kind}
-use Rattle.form.specs.declared.answer.Kind.the-variants.{Predicate, Either}
+use Rattle.form.specs.declared.answer.Kind.the-variants.{Predicate, Either, Named as NamedRow}
 use Rattle.rules.specs.Shift.{shiftOutcome}
 use Rattle.rules.specs.Free.{freeOutcome}
 use Rattle.rules.specs.Bind.{bindOutcome}
@@ -12,8 +12,9 @@ use Rattle.rules.specs.Fill.{fillOutcome}
 use Rattle.rules.specs.Prune.{pruneOutcome}
 use Rattle.rules.specs.Point.{pointOutcome}
 use Rattle.rules.specs.Member.{memberOutcome}
+use Rattle.rules.specs.Named.{namedOutcome}
 use Rattle.rules.specs.declared.command.Command.{Command}
-use Rattle.rules.specs.declared.command.Command.the-variants.{Shift, Free, Bind, Fill, Prune, Point, Member}
+use Rattle.rules.specs.declared.command.Command.the-variants.{Shift, Free, Bind, Fill, Prune, Point, Member, Named}
 use Rattle.rules.specs.declared.command.Numbered.{Numbered}
 use Rattle.rules.specs.declared.command.Numbered.the-variants.{Is, Unknown}
 use Rattle.rules.specs.declared.command.Args.{Args}
@@ -21,7 +22,7 @@ use Rattle.rules.specs.declared.command.Args.the-variants.{Nothing, Offs
 
 -- in the order of their numbers, the first of which is 1
 abbrev pub commands : List Command
-commands = Shift ∷ Free ∷ Bind ∷ Fill ∷ Prune ∷ Point ∷ Member ∷ []
+commands = Shift ∷ Free ∷ Bind ∷ Fill ∷ Prune ∷ Point ∷ Member ∷ Named ∷ []
 
 -- the head of a line in bytes, with its bracket and its space; what stands between it and the form; which kind of form is taken
 abbrev pub entryOf : Command → List ℕ × Args × Kind
@@ -32,6 +33,7 @@ entryOf Fill = (91 ∷ 102 ∷ 105 ∷ 108 ∷ 108 ∷ 32 ∷ [], Places, Predic
 entryOf Prune = (91 ∷ 112 ∷ 114 ∷ 117 ∷ 110 ∷ 101 ∷ 32 ∷ [], Nothing, Predicate)
 entryOf Point = (91 ∷ 112 ∷ 111 ∷ 105 ∷ 110 ∷ 116 ∷ 32 ∷ [], Nothing, Predicate)
 entryOf Member = (91 ∷ 109 ∷ 101 ∷ 109 ∷ 98 ∷ 101 ∷ 114 ∷ 32 ∷ [], Nothing, Predicate)
+entryOf Named = (91 ∷ 110 ∷ 97 ∷ 109 ∷ 101 ∷ 100 ∷ 32 ∷ [], Nothing, NamedRow)
 
 abbrev pub headOf : Command → List ℕ
 headOf c = entryOf c .0
@@ -52,6 +54,7 @@ outcomeOf Fill z list row work room = fillOutcome list row work room
 outcomeOf Prune z list row work room = pruneOutcome row room
 outcomeOf Point z list row work room = pointOutcome row work room
 outcomeOf Member z list row work room = memberOutcome row work room
+outcomeOf Named z list row work room = namedOutcome row room
 
 -- the command of a number, and its answer: 8 where there is none
 abbrev pub nth : List Command → ℕ → Numbered

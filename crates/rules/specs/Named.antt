@@ -4,6 +4,8 @@ use mathlib.Core.List.{List, [], _∷_}
 use Prim.Native.Nat.{ℕ, suc}
 use lib.Dec.{eqb}
 use Rattle.tree.specs.Form.{Leaf, free, bound, Form, leaf, node, noted, Decls, undeclared, bare, typed, namesOf, Forms, none, more, pick}
+use Rattle.form.specs.Answer.{Outcome, withForm, finish}
+use Rattle.form.specs.declared.answer.Kind.the-variants.{Named}
 
 -- a scope: the declared names that are open, from the innermost outwards; here with the names of one quantifier more, of which the last is
 -- the innermost
@@ -37,3 +39,7 @@ unfoldable mutual
   pub namelessAll : List ℕ → Forms → Forms
   namelessAll scope none = none
   namelessAll scope (more f fs) = more (nameless scope f) (namelessAll scope fs)
+
+-- 7 cannot arise: the result is as long as the row and keeps within the limits (`nameless-limits`)
+unfoldable pub namedOutcome : List ℕ → ℕ → Outcome
+namedOutcome row room = withForm Named row (λ s f. finish s room (nameless [] f))

@@ -11,6 +11,7 @@ pub enum Command {
     Prune,
     Point,
     Member,
+    Named,
 }
 
 pub enum Numbered {
@@ -39,6 +40,7 @@ pub fn of_number(number: u32) -> Numbered
         5 => Numbered::Is(Command::Prune),
         6 => Numbered::Is(Command::Point),
         7 => Numbered::Is(Command::Member),
+        8 => Numbered::Is(Command::Named),
         _ => Numbered::Unknown,
     }
 }
@@ -55,6 +57,7 @@ pub fn args_of(command: Command) -> Args
         Command::Prune => Args::Nothing,
         Command::Point => Args::Nothing,
         Command::Member => Args::Nothing,
+        Command::Named => Args::Nothing,
     }
 }
 
@@ -70,5 +73,6 @@ pub fn kind_of(command: Command) -> Kind
         Command::Prune => Kind::Predicate,
         Command::Point => Kind::Predicate,
         Command::Member => Kind::Predicate,
+        Command::Named => Kind::Named,
     }
 }

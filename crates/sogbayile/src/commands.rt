@@ -4,6 +4,7 @@ use crate::rewritings::sgb_bind;
 use crate::rewritings::sgb_fill;
 use crate::rewritings::sgb_free;
 use crate::rewritings::sgb_member;
+use crate::rewritings::sgb_named;
 use crate::rewritings::sgb_point;
 use crate::rewritings::sgb_prune;
 use crate::rewritings::sgb_shift;
@@ -35,6 +36,7 @@ fn run_command(
         Command::Prune => sgb_prune(row, out),
         Command::Point => sgb_point(row, work, out),
         Command::Member => sgb_member(row, work, out),
+        Command::Named => sgb_named(row, out),
     }
 }
 

@@ -5,6 +5,7 @@ use form::answer::Limit;
 use listed::fill::instantiate;
 use listed::free::substitute_free_idents;
 use member::rewrite_in_compset::rewrite_in_compset;
+use named::named::to_indices;
 use one_point::one_point_inference::one_point_inference;
 use prune::prune::remove_unused_decls;
 use shift::shift::shift_bound_identifiers;
@@ -23,6 +24,7 @@ ghost use Rattle.rules.specs.Free.{freeOutcome};
 ghost use Rattle.rules.specs.Prune.{pruneOutcome};
 ghost use Rattle.rules.specs.Point.{pointOutcome};
 ghost use Rattle.rules.specs.Member.{memberOutcome};
+ghost use Rattle.rules.specs.Named.{namedOutcome};
 ghost use Rattle.sogbayile.specs.Code.{codeOf, partCode};
 
 // The dangling set of the form in the row, in rising order.
@@ -108,4 +110,13 @@ pub extern "C" fn sgb_member(row: &[u32], work: &mut [u32], out: &mut [u32]) -> 
     ensures { λ _. ⌜ now (out .exit) ≡ written (memberOutcome (now (row .entry)) (length (now (work .entry))) (length (now (out .entry)))) (now (out .entry)) ⌝ }
 {
     code_of(rewrite_in_compset(row, work, out))
+}
+
+// Makes an index of each occurrence of a name that a declaration binds.
+#[no_mangle]
+pub extern "C" fn sgb_named(row: &[u32], out: &mut [u32]) -> u64
+    ensures { λ r. ⌜ r ≡ codeOf (told (namedOutcome (now (row .entry)) (length (now (out .entry))))) ⌝ }
+    ensures { λ _. ⌜ now (out .exit) ≡ written (namedOutcome (now (row .entry)) (length (now (out .entry)))) (now (out .entry)) ⌝ }
+{
+    code_of(to_indices(row, out))
 }

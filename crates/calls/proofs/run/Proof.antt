@@ -1,7 +1,7 @@
 -- `calls::run` meets its contract. Assumes nothing.
 use lib.ListN.{length}
 use Rattle.shift.proofs.SignedLaws.{back}
-use Rattle.rules.specs.declared.command.Command.the-variants.{Shift, Free, Bind, Fill, Prune, Point, Member}
+use Rattle.rules.specs.declared.command.Command.the-variants.{Shift, Free, Bind, Fill, Prune, Point, Member, Named}
 use Rattle.calls.proofs.CallLaws.{run-said}
 use borrow.Author.Needs.{needs}
 use Rattle.calls.proofs.run.Statement.{statement}
@@ -48,6 +48,12 @@ enum-told-7 c = search needs
 
 rewrite-in-compset-requires : tie.Need-rewrite-in-compset-requires
 rewrite-in-compset-requires c κs = search needs
+
+enum-told-8 : tie.Need-enum-told-8
+enum-told-8 c = search needs
+
+to-indices-requires : tie.Need-to-indices-requires
+to-indices-requires c κs = search needs
 
 same-length : tie.Need-same-length
 same-length c = search needs
@@ -128,6 +134,15 @@ returns-7 c =
     let b13 = b7 .before .before .before .before .before .before in
     run-said _ Member (b7 .enum-told7 .given .1) _ (b13 .args .list .now) (b13 .args .row .now) (length (b13 .args .work .now)) (length (b13 .args .out .now)) _ _ _ (b4 .rewrite-in-compset .ensures)
 
+same-length-12 : tie.Need-same-length-12
+same-length-12 c = search needs
+
+returns-8 : tie.Need-returns-8
+returns-8 c =
+    let b4 = c .before .before .before .before in
+    let b10 = b4 .before .before .before .before .before .before in
+    run-said _ Named (b4 .enum-told8 .given .1) _ (b10 .args .list .now) (b10 .args .row .now) (length (b10 .args .work .now)) (length (b10 .args .out .now)) _ _ _ (c .before .before .to-indices .ensures)
+
 pub run-spec : {M : Type 1} → statement M
 run-spec =
     tie.close
@@ -146,6 +161,8 @@ run-spec =
     one-point-inference-requires
     enum-told-7
     rewrite-in-compset-requires
+    enum-told-8
+    to-indices-requires
     same-length
     returns
     same-length-2
@@ -163,4 +180,6 @@ run-spec =
     returns-6
     same-length-10
     same-length-11
-    returns-7)
+    returns-7
+    same-length-12
+    returns-8)

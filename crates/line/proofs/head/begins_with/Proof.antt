@@ -1,5 +1,5 @@
 -- `line::head::begins_with` meets its contract. Assumes nothing.
-use Rattle.rules.specs.declared.command.Command.the-variants.{Shift, Free, Bind, Fill, Prune, Point, Member}
+use Rattle.rules.specs.declared.command.Command.the-variants.{Shift, Free, Bind, Fill, Prune, Point, Member, Named}
 use Rattle.line.proofs.LineLaws.{headed}
 use borrow.Author.Needs.{needs}
 use Rattle.line.proofs.head.begins_with.Statement.{statement}
@@ -68,6 +68,15 @@ slice-aggregate-begins-7 c = search needs
 begins-requires-7 : tie.Need-begins-requires-7
 begins-requires-7 c κs = search needs
 
+enum-told-8 : tie.Need-enum-told-8
+enum-told-8 c = search needs
+
+slice-aggregate-begins-8 : tie.Need-slice-aggregate-begins-8
+slice-aggregate-begins-8 c = search needs
+
+begins-requires-8 : tie.Need-begins-requires-8
+begins-requires-8 c κs = search needs
+
 returns : tie.Need-returns
 returns c = headed _ Shift (c .before .before .enum-told .given .1) _ _ (c .begins .ensures)
 
@@ -88,6 +97,9 @@ returns-6 c = headed _ Point (c .before .before .enum-told6 .given .1) _ _ (c .b
 
 returns-7 : tie.Need-returns-7
 returns-7 c = headed _ Member (c .before .before .enum-told7 .given .1) _ _ (c .begins7 .ensures)
+
+returns-8 : tie.Need-returns-8
+returns-8 c = headed _ Named (c .before .before .enum-told8 .given .1) _ _ (c .begins8 .ensures)
 
 pub begins-with-spec : {M : Type 1} → statement M
 begins-with-spec =
@@ -114,10 +126,14 @@ begins-with-spec =
     enum-told-7
     slice-aggregate-begins-7
     begins-requires-7
+    enum-told-8
+    slice-aggregate-begins-8
+    begins-requires-8
     returns
     returns-2
     returns-3
     returns-4
     returns-5
     returns-6
-    returns-7)
+    returns-7
+    returns-8)

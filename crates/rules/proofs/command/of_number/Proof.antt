@@ -26,9 +26,12 @@ returns-7 : tie.Need-returns-7
 returns-7 c = number-is 7 (c .before .args .number) (omega arith)
 
 returns-8 : tie.Need-returns-8
-returns-8 c = no-number (c .before .args .number) (c .match .rest)
+returns-8 c = number-is 8 (c .before .args .number) (omega arith)
+
+returns-9 : tie.Need-returns-9
+returns-9 c = no-number (c .before .args .number) (c .match .rest)
 
 pub of-number-spec : {M : Type 1} → statement M
 of-number-spec =
     tie.close
-    (tie.spec returns returns-2 returns-3 returns-4 returns-5 returns-6 returns-7 returns-8)
+    (tie.spec returns returns-2 returns-3 returns-4 returns-5 returns-6 returns-7 returns-8 returns-9)

@@ -1,7 +1,7 @@
 -- `sogbayile::commands::run_command` meets its contract. Assumes nothing.
 use lib.ListN.{length}
 use Rattle.shift.proofs.SignedLaws.{back}
-use Rattle.rules.specs.declared.command.Command.the-variants.{Shift, Free, Bind, Fill, Prune, Point, Member}
+use Rattle.rules.specs.declared.command.Command.the-variants.{Shift, Free, Bind, Fill, Prune, Point, Member, Named}
 use Rattle.sogbayile.proofs.RunLaws.{run-coded}
 use borrow.Author.Needs.{needs}
 use Rattle.sogbayile.proofs.commands.run_command.Statement.{statement}
@@ -48,6 +48,12 @@ enum-told-7 c = search needs
 
 sgb-member-requires : tie.Need-sgb-member-requires
 sgb-member-requires c κs = search needs
+
+enum-told-8 : tie.Need-enum-told-8
+enum-told-8 c = search needs
+
+sgb-named-requires : tie.Need-sgb-named-requires
+sgb-named-requires c κs = search needs
 
 same-length : tie.Need-same-length
 same-length c = search needs
@@ -128,6 +134,15 @@ returns-7 c =
     let b13 = b7 .before .before .before .before .before .before in
     run-coded _ Member (b7 .enum-told7 .given .1) _ (b13 .args .list .now) (b13 .args .row .now) (length (b13 .args .work .now)) (length (b13 .args .out .now)) _ _ _ (b4 .sgb-member .ensures)
 
+same-length-12 : tie.Need-same-length-12
+same-length-12 c = search needs
+
+returns-8 : tie.Need-returns-8
+returns-8 c =
+    let b4 = c .before .before .before .before in
+    let b10 = b4 .before .before .before .before .before .before in
+    run-coded _ Named (b4 .enum-told8 .given .1) _ (b10 .args .list .now) (b10 .args .row .now) (length (b10 .args .work .now)) (length (b10 .args .out .now)) _ _ _ (c .before .before .sgb-named .ensures)
+
 pub run-command-spec : {M : Type 1} → statement M
 run-command-spec =
     tie.close
@@ -146,6 +161,8 @@ run-command-spec =
     sgb-point-requires
     enum-told-7
     sgb-member-requires
+    enum-told-8
+    sgb-named-requires
     same-length
     returns
     same-length-2
@@ -163,4 +180,6 @@ run-command-spec =
     returns-6
     same-length-10
     same-length-11
-    returns-7)
+    returns-7
+    same-length-12
+    returns-8)

@@ -1,0 +1,10 @@
+pub mod ScopeLaws
+pub mod LevelLaws
+pub mod WordLaws
+pub mod ReadLaws
+pub mod WroteLaws
+pub mod NodeLaws
+pub mod DeclLaws
+pub mod LeafLaws
+pub mod ReadyLaws
+pub mod CallLaws

@@ -1,0 +1,71 @@
+// Named: a form in which each occurrence is a name becomes the form with indices.
+use crate::read::name_form;
+use crate::words::copy_words;
+use broken::position::broken_at;
+use form::answer::Answer;
+use form::answer::Kind;
+use form::answer::Limit;
+use form::head::Step;
+use reader::check::is_expr;
+ghost use mathlib.Core.Path.{_≡_};
+ghost use lib.ListN.{length};
+ghost use Rattle.form.specs.Answer.{told, written};
+ghost use Rattle.rules.specs.Named.{namedOutcome};
+ghost use Rattle.named.specs.Internal.Reads.{Blank};
+
+// Named, with rows of its own for the words that are made and for the open declarations.
+fn named_in(row: &[u32], made: &mut [u32], scope: &mut [u32], out: &mut [u32]) -> Answer
+    requires { ⌜ Blank (now row) (now made) (now scope) ⌝ }
+    ensures { λ r. ⌜ r ≡ told (namedOutcome (now (row .entry)) (length (now (out .entry)))) ⌝ }
+    ensures { λ _. ⌜ now (out .exit) ≡ written (namedOutcome (now (row .entry)) (length (now (out .entry)))) (now (out .entry)) ⌝ }
+{
+    let expression = is_expr(row, Kind::Named);
+    let Step::End(end) = name_form(row, made, scope, 0, expression, Limit::DEPTH, 0) else {
+        return Answer::No(2, broken_at(row, Kind::Named));
+    };
+    if end != row.len() {
+        return Answer::No(2, broken_at(row, Kind::Named));
+    }
+    if out.len() < end {
+        return Answer::No(14, 0);
+    }
+    copy_words(made, out, 0, end);
+    Answer::Done(end)
+}
+
+// Named, for rows over 2,048 words: there is a slot for each name, so that no name waits behind another.
+fn named_long(row: &[u32], out: &mut [u32]) -> Answer
+    ensures { λ r. ⌜ r ≡ told (namedOutcome (now (row .entry)) (length (now (out .entry)))) ⌝ }
+    ensures { λ _. ⌜ now (out .exit) ≡ written (namedOutcome (now (row .entry)) (length (now (out .entry)))) (now (out .entry)) ⌝ }
+{
+    if Limit::WORDS < row.len() {
+        return Answer::No(1, 0);
+    }
+    let mut made = [0u32; 8192];
+    let mut scope = [0u32; 81920];
+    named_in(row, &mut made, &mut scope, out)
+}
+
+// Makes an index of each occurrence that a declaration binds: the innermost declaration of its name, in one quantifier the last. The row must
+// hold no index.
+pub fn to_indices(row: &[u32], out: &mut [u32]) -> Answer
+    ensures { λ r. ⌜ r ≡ told (namedOutcome (now (row .entry)) (length (now (out .entry)))) ⌝ }
+    ensures { λ _. ⌜ now (out .exit) ≡ written (namedOutcome (now (row .entry)) (length (now (out .entry)))) (now (out .entry)) ⌝ }
+{
+    if row.len() <= 64 {
+        let mut made = [0u32; 64];
+        let mut scope = [0u32; 384];
+        return named_in(row, &mut made, &mut scope, out);
+    }
+    if row.len() <= 512 {
+        let mut made = [0u32; 512];
+        let mut scope = [0u32; 1280];
+        return named_in(row, &mut made, &mut scope, out);
+    }
+    if row.len() <= 2048 {
+        let mut made = [0u32; 2048];
+        let mut scope = [0u32; 8192];
+        return named_in(row, &mut made, &mut scope, out);
+    }
+    named_long(row, out)
+}
