@@ -1,6 +1,6 @@
 #!/usr/bin/env python3
 """chart.py OUT.svg RUN.csv.. [-- RUN.csv..]: takes the least of the runs, prints tables in Markdown, and draws nanoseconds a word. The runs after
-the dashes are the driver's with --annotated, and a table holds them against the others."""
+the dashes are the driver's with --annotated, and a table holds them against the others. A side that has not a rewriting has no value there."""
 import csv
 import math
 import sys
@@ -16,7 +16,7 @@ def read(paths):
         with open(path) as f:
             for line in csv.DictReader(f):
                 key = tuple(line[k] for k in KEY)
-                times = [float(line[s]) for s in SIDES]
+                times = [float(line[s] or "nan") for s in SIDES]
                 mean, old = best.get(key, (float(line["mean words"]), times))
                 best[key] = mean, [min(a, b) for a, b in zip(old, times)]
     return best
@@ -27,7 +27,12 @@ def mean(values):
 
 
 def number(x):
-    return "%.1f" % x if x < 100 else "{:,.0f}".format(x)
+    return "-" if math.isnan(x) else "%.1f" % x if x < 100 else "{:,.0f}".format(x)
+
+
+def put(form, *values):
+    """The text, with a dash for each value that there is not."""
+    return (form % values).replace(" nan ", " - ")
 
 
 def summary(best, ops, sizes):
@@ -37,8 +42,7 @@ def summary(best, ops, sizes):
         for size in sizes:
             rows = [v for k, v in best.items() if k[:2] == (op, size)]
             a = [mean([t[i] / w for w, t in rows]) for i in range(5)]
-            print("| %s | %s | %.1f | %.1f | %.0f | %.0f | %.2f | %.2f | %.0f | %.0f |"
-                  % (op, size, *a, a[0] / a[1], a[2] / a[0], a[3] / a[0]))
+            print(put("| %s | %s | %.1f | %.1f | %.0f | %.0f | %.2f | %.2f | %.0f | %.0f |", op, size, *a, a[0] / a[1], a[2] / a[0], a[3] / a[0]))
 
 
 def table(best, op):
@@ -46,15 +50,14 @@ def table(best, op):
     print("|---|---|---|---|---|---|---|---|---|---|")
     for key, (w, t) in best.items():
         if key[0] == op:
-            print("| %.0f | %s | %s | %s | %.2f | %.0f |"
-                  % (w, key[2], key[3], " | ".join(number(x) for x in t), t[0] / t[1], t[2] / t[0]))
+            print(put("| %.0f | %s | %s | %s | %.2f | %.0f |", w, key[2], key[3], " | ".join(number(x) for x in t), t[0] / t[1], t[2] / t[0]))
 
 
 def draw(best, ops, sizes, path):
     width, height, left, top = 300, 220, 46, 30
     low, high = -1, 3
     out = ['<svg xmlns="http://www.w3.org/2000/svg" width="%d" height="%d" font-family="sans-serif" font-size="11">'
-           % (3 * width, 2 * height + 40), '<rect width="100%" height="100%" fill="white"/>']
+           % (3 * width, -(-len(ops) // 3) * height + 40), '<rect width="100%" height="100%" fill="white"/>']
     for n, op in enumerate(ops):
         x0, y0 = n % 3 * width + left, n // 3 * height + top
         w, h = width - left - 16, height - top - 34
@@ -74,10 +77,11 @@ def draw(best, ops, sizes, path):
             for i, size in enumerate(sizes):
                 rows = [v for k, v in best.items() if k[:2] == (op, size)]
                 points.append(at(i, mean([t[s] / words for words, t in rows])))
-            line = " ".join("%.1f,%.1f" % p for p in points)
-            out.append('<polyline points="%s" fill="none" stroke="%s" stroke-width="2"/>' % (line, colour))
+            line = " ".join("%.1f,%.1f" % p for p in points if not math.isnan(p[1]))
+            if line:
+                out.append('<polyline points="%s" fill="none" stroke="%s" stroke-width="2"/>' % (line, colour))
     for s, colour in enumerate(COLOURS):
-        x, y = left + s * 150, 2 * height + 24
+        x, y = left + s * 150, -(-len(ops) // 3) * height + 24
         out.append('<line x1="%d" x2="%d" y1="%d" y2="%d" stroke="%s" stroke-width="3"/>' % (x, x + 24, y - 4, y - 4, colour))
         out.append('<text x="%d" y="%d">%s</text>' % (x + 30, y, ["the library", "plain C", "Rust, row to row", "Rust, tree to tree", "copy"][s]))
     out.append("</svg>")
@@ -115,7 +119,16 @@ def beside(best, noted, ops, sizes):
                 continue
             a = [mean([t[i] / w for w, t in with_notes]) for i in range(5)]
             b = mean([t[0] / w for w, t in without])
-            print("| %s | %s | %.1f | %.1f | %.2f | %.1f | %.2f | %.0f |" % (op, size, a[0], b, a[0] / b, a[1], a[0] / a[1], a[2] / a[0]))
+            print(put("| %s | %s | %.1f | %.1f | %.2f | %.1f | %.2f | %.0f |", op, size, a[0], b, a[0] / b, a[1], a[0] / a[1], a[2] / a[0]))
+
+
+def named_beside_bind(best, noted, sizes):
+    """Named on the rows of bind, with names for indices: the mean of the ratios over the kinds of rows, and the largest."""
+    print("\n| named / bind | words | mean | the most of one kind | with annotations, mean | the most of one kind |")
+    print("|---|---|---|---|---|---|")
+    for size in sizes:
+        ratios = [[t[0] / runs["bind", *key[1:]][1][0] for key, (_, t) in runs.items() if key[:2] == ("named", size)] for runs in (best, noted)]
+        print("| | %s | %s |" % (size, " | ".join("%.2f | %.2f" % (mean(r), max(r)) for r in ratios)))
 
 
 def main():
@@ -131,6 +144,7 @@ def main():
     if noted:
         beside(best, read(noted), ops, sizes)
         grown(plain, noted, ops)
+        named_beside_bind(best, read(noted), sizes)
     draw(best, ops, sizes, sys.argv[1])
 
 

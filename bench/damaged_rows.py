@@ -5,6 +5,7 @@ The model of crates/cases, which shares nothing with the program, predicts the p
   python3 bench/damaged_rows.py SEED COUNT        in the repository's root, after rt check cell
   python3 bench/damaged_rows.py SEED COUNT --lines        prints some of the lines, each followed by its answer: the list that stands in crates/cell/stdin
   --annotations           half of the quantifiers have annotations (document 02, Paper 8), and the damages know their tags and flags
+  --named                 named rows alone (document 02, Paper 1): forms of either sort without an index, and the damages put indices in
   --program PROGRAM       another program than target/bin/cell
 
 A row is sent without inner brackets, so that a row that is accepted is refused by 8, after its 2.
@@ -21,13 +22,13 @@ import cases
 sys.setrecursionlimit(10000)
 EDGES = [0, 1, 2, 3, 4, 31, 32, 33, 64, 65535, 65536, 8188, 8189, 8190, 8191, 8192, 8193, 2 ** 31, 2 ** 32 - 1]
 TAGS = [t for sort in "EP" for t in cases.SHAPES[sort] if t not in cases.PLAIN]
-ANNOTATIONS = False
+ANNOTATIONS = NAMED = False
 
 
 def expression(depth, words):
     """An expression of about so many words, at most so deep if it is not 1."""
     if words < 3 or depth < 2:
-        return random.choice([[1, random.randrange(65536)], [2, random.randrange(65536)], [3, random.randrange(2 ** 32)], [401 + random.randrange(12)], [4, 0]])
+        return random.choice([[1, random.randrange(65536)], [2 - NAMED, random.randrange(65536)], [3, random.randrange(2 ** 32)], [401 + random.randrange(12)], [4, 0]])
     r = random.random()
     if r < 0.3:
         a = random.randrange(1, words)
@@ -165,8 +166,8 @@ def entries(kind):
 
 def command():
     """The line, and the position where its row breaks, or None where it is accepted."""
-    kind = random.choice(["form", "form", "form", "predicate", "pairs", "places"])
-    row = (form() if kind in ("form", "predicate") else entries(kind))[:cases.WORDS]
+    kind = "named" if NAMED else random.choice(["form", "form", "form", "predicate", "pairs", "places"])
+    row = (form() if kind in ("form", "predicate", "named") else entries(kind))[:cases.WORDS]
     for _ in range(random.choice([0, 1, 1, 1, 2])):
         row = damage(row)
     words = "[%s]" % " ".join(map(str, row))
@@ -175,6 +176,8 @@ def command():
             line, read = "[free %s [610]]" % words, lambda: cases.entries(row, "pairs")
         elif kind == "places":
             line, read = "[fill %s [851 1 4 [610]]]" % words, lambda: cases.entries(row, "places")
+        elif kind == "named":
+            line, read = "[named %s]" % words, lambda: cases.form(row, "N")
         else:
             line = "[%s %s]" % (random.choice(["prune", "point", "member"]) if kind == "predicate" else random.choice(["shift 0", "bind []"]), words)
             read = lambda: cases.form(row, "P" if kind == "predicate" else None)
@@ -186,12 +189,13 @@ def command():
 
 
 def main():
-    global ANNOTATIONS
+    global ANNOTATIONS, NAMED
     a = argparse.ArgumentParser()
     a.add_argument("seed", type=int)
     a.add_argument("count", type=int)
     a.add_argument("--lines", action="store_true")
     a.add_argument("--annotations", action="store_true")
+    a.add_argument("--named", action="store_true")
     a.add_argument("--program", default="target/bin/cell")
     o = a.parse_args()
     random.seed(o.seed)
@@ -199,6 +203,9 @@ def main():
         ANNOTATIONS = True
         TAGS.extend(list(cases.PLAIN) * 4)
         EDGES.extend([0, 1] * 3)
+    if o.named:
+        NAMED = True
+        TAGS.extend([2] * 20)
     made = [c for c in (command() for _ in range(o.count)) if len(c[1]) <= 65535]
     if o.lines:
         # for each kind, size of row and size of position the shortest line, where words ran out and where a word cannot come; of the longest rows

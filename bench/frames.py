@@ -3,7 +3,7 @@
 that the compiler moved into a caller is seen here.
 
   python3 bench/frames.py        in the repository's root, after rt staticlib sogbayile; exits with 1 where a function in the path of every row of
-                                 fill, prune or one point has a frame of a page or more, which only a buffer for long rows needs
+                                 fill, prune, one point or named has a frame of a page or more, which only a buffer for long rows needs
 """
 import re
 import subprocess

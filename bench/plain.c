@@ -11,7 +11,7 @@ typedef uint32_t u32;
 
 enum { WORDS = 8192, DEPTH = 64, NAME = 65535, DECLS = 32, WORK = 16384, SORT = 1024 };
 
-enum kind { CHECK, SHIFT, BIND, FREE, FILL, PRUNE, POINT };
+enum kind { CHECK, SHIFT, BIND, FREE, FILL, PRUNE, POINT, NAMED };
 
 /* A replacement: where it stands, its depth, whether an index dangles in it, and the largest that does. */
 struct piece {
@@ -91,6 +91,10 @@ static void seen(struct op *op, u32 tag, u32 v, u32 depth, u32 under)
     case POINT:
         if (tag == 2 && v >= under && v - under == op->n)
             put_measured(op, &op->piece[0], depth, under - 1 - op->fall);
+        break;
+    case NAMED:
+        if (tag == 2)
+            op->over = 1;
         break;
     }
 }
@@ -902,4 +906,83 @@ uint64_t plain_point(const u32 *row, size_t n, u32 *work, size_t work_n, u32 *ou
     op.fall = 0;
     emit(&op, &rest, &out, in.n);
     return op.len;
+}
+
+/* Forms written with names: for each name the innermost open declaration that bears it, counted from the outside and from 1, or 0. Between two
+ * calls all are 0. */
+static u32 last[NAME + 1];
+
+static void put_names(const u32 **row, u32 **out, u32 under);
+
+/* The children of a quantifier, in which its names are open. */
+static APART void put_inside(const u32 *names, u32 bound, u32 children, const u32 **row, u32 **out, u32 under)
+{
+    u32 old[DECLS];
+    for (u32 j = 0; j < bound; j++) {
+        old[j] = last[names[j]];
+        last[names[j]] = under + j + 1;
+    }
+    while (children--)
+        put_names(row, out, under + bound);
+    while (bound--)
+        last[names[bound]] = old[bound];
+}
+
+/* A quantifier with annotations, whose names are not open in these. */
+static APART void put_noted(const u32 **row, u32 **out, u32 under)
+{
+    u32 names[DECLS], two = **row > 862, own = counter(**row), bound = (*row)[own];
+    for (u32 i = 0; i <= own; i++)
+        *(*out)++ = *(*row)++;
+    for (u32 i = 0; i < bound; i++) {
+        u32 flag = (*row)[1];
+        names[i] = **row;
+        *(*out)++ = *(*row)++;
+        *(*out)++ = *(*row)++;
+        if (flag)
+            put_names(row, out, under);
+    }
+    put_inside(names, bound, 1 + two, row, out, under);
+}
+
+/* Writes a checked form under so many declarations, with an index for each name that one of them bears. */
+static void put_names(const u32 **row, u32 **out, u32 under)
+{
+    const u32 *r = *row;
+    u32 *o = *out, own, children, bound;
+    if (r[0] == 1) {
+        u32 found = last[r[1]];
+        o[0] = found ? 2 : 1;
+        o[1] = found ? under - found : r[1];
+        *row += 2;
+        *out += 2;
+        return;
+    }
+    if (is_noted(r[0])) {
+        put_noted(row, out, under);
+        return;
+    }
+    shape(r, &own, &children, &bound);
+    for (u32 i = 0; i <= own; i++)
+        o[i] = r[i];
+    *row += own + 1;
+    *out += own + 1;
+    if (bound) {
+        put_inside(r + 1 + own - bound, bound, children, row, out, under);
+        return;
+    }
+    for (u32 i = 0; i < children; i++)
+        put_names(row, out, under);
+}
+
+uint64_t plain_named(const u32 *row, size_t n, u32 *out, size_t room)
+{
+    struct op op = {.kind = NAMED};
+    u32 k = whole(&op, row, n, 0);
+    if (k || op.over)
+        return refuse(k ? k : 2);
+    if (room < n)
+        return refuse(14);
+    put_names(&row, &out, 0);
+    return n;
 }

@@ -44,6 +44,7 @@ static uint64_t call(const char *command, const struct row *r, const uint32_t *r
     case 'p' << 8 | 'r': return sgb_prune(row, r->len, out, SGB_MAX_WORDS);
     case 'p' << 8 | 'o': return sgb_point(row, r->len, work, SGB_WORK_WORDS, out, SGB_MAX_WORDS);
     case 'm' << 8 | 'e': return sgb_member(row, r->len, work, SGB_WORK_WORDS, out, SGB_MAX_WORDS);
+    case 'n' << 8 | 'a': return command[4] == 'd' ? sgb_named(row, r->len, out, SGB_MAX_WORDS) : check(command, r, row);
     default: return check(command, r, row);
     }
 }

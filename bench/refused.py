@@ -47,7 +47,7 @@ def main():
     subprocess.run(["cc", "-std=gnu11", "-O3", "-c", "-o", "target/bench/plain.o", "bench/plain.c"], check=True)
     subprocess.run(["cc", "-O2", "-Iinclude", "-o", "target/bench/refused", "bench/refused.c", "target/bench/plain.o", "target/staticlib/libsogbayile.a"], check=True)
     sets = []
-    for command, more in [(c, []) for c in COMMANDS] + [(c, ["annotated"]) for c in COMMANDS]:
+    for command, more in [(c, more) for more in ([], ["annotated"]) for c in COMMANDS + ["named"]]:
         for size, count in SIZES:
             if more and command == "prune" and size == 20:
                 continue        # 32 declarations with annotations alone have more words

@@ -17,10 +17,11 @@ for i in $(seq "$runs"); do
     "$out/driver" 10 --annotated >"$out/noted.$i.csv"
 done
 python3 bench/chart.py docs/benchmarks.svg "$out"/run.*.csv -- "$out"/noted.*.csv
+python3 bench/names.py
 python3 bench/refused.py
 python3 bench/lines.py target/bin/cell "$out/oracle/oracle" 7
 command -v valgrind >/dev/null || exit 0
-for command in shift free bind fill prune point member; do
+for command in shift free bind fill prune point member named; do
     for words in 2000 8000; do
         for kind in "" annotated; do
             python3 bench/rows.py "$command" "$words" 40 "$words" $kind >"$out/rows"

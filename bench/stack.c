@@ -40,6 +40,7 @@ static void *run(void *p)
     case 'p' << 8 | 'r': c->answer = sgb_prune(c->row, c->len, out, SGB_MAX_WORDS); break;
     case 'p' << 8 | 'o': c->answer = sgb_point(c->row, c->len, work, SGB_WORK_WORDS, out, SGB_MAX_WORDS); break;
     case 'm' << 8 | 'e': c->answer = sgb_member(c->row, c->len, work, SGB_WORK_WORDS, out, SGB_MAX_WORDS); break;
+    case 'n' << 8 | 'a': c->answer = sgb_named(c->row, c->len, out, SGB_MAX_WORDS); break;
     case 'd' << 8 | 'a': c->answer = sgb_dangling(c->row, c->len, out, SGB_MAX_WORDS); break;
     case 'l' << 8 | 'i': c->answer = sgb_lift(c->row, c->len, 1, work, SGB_WORK_WORDS) ? 0 : ~0ull; break;
     default: c->answer = sgb_check(c->row, c->len);

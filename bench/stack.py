@@ -1,6 +1,6 @@
 #!/usr/bin/env python3
-"""How much stack each call takes (bench/stack.c): rows of some 8,000 words, up to 64 deep, without annotations and with them, and heads that one
-point and membership join with the body's own. These are the figures of include/sogbayile.h.
+"""How much stack each call takes (bench/stack.c): rows of some 8,000 words, up to 64 deep, without annotations and with them, heads that one
+point and membership join with the body's own, and names under 1,952 declarations. These are the figures of include/sogbayile.h.
 
   python3 bench/stack.py        in the repository's root, after rt staticlib sogbayile
 """
@@ -19,12 +19,16 @@ def conjunction(n, i, j):
     return [351, n] + [112, 2, i, 2, j] * n
 
 
+def named_conjunction(n):
+    return [351, n] + [112, 1, 4, 1, 5] * n
+
+
 def nots(n, row):
     return [8] * n + row
 
 
 def usual():
-    for command in COMMANDS:
+    for command in COMMANDS + ["named"]:
         for more in [], ["annotated"]:
             lines = subprocess.run([sys.executable, "bench/rows.py", command, "8000", "6", "3"] + more, stdout=subprocess.PIPE, check=True, text=True).stdout
             for line in lines.splitlines():
@@ -45,12 +49,20 @@ def deep():
             noted, body = head[0] == 862, short if len(head) > 100 else long
             members = [107, 201, 1, 7, 2, 3, 873 if noted else 803, 0] + head[1:]
             yield noted, "fill", [0, 1, 1, 5], head + body
+            yield noted, "named", [], head + nots(n, named_conjunction(500 if len(head) > 100 else 1300))
             yield noted, "prune", [], head + nots(n, conjunction(500 if len(head) > 100 else 1300, 0, 2))
             yield noted, "point", [], head + [351, 2, 101, 2, 0, 2, 1] + body[1:]
             yield True, "point", [], head + [351, 2, 101, 2, 0, 2, 1, 862, 1, 6, 1] + note + short[2:]
             yield True, "point", [], head + [351, 2, 101, 2, 0, 203, 1, 9, 1, 8, 862, 1, 6, 1, 4, 2, 1, 7, 2, 0] + short[2:]
             yield True, "member", [], [107, 1, 7] + members[6:] + [862, 1, 6, 1] + note + short[3:] + [2, 0]
             yield noted, "member", [], members + short[2:] + [201, 2, 1, 2, 0]
+
+
+def wide():
+    """61 quantifiers of 32 declarations round names, without annotations and with them."""
+    names = [10, 1000] + [1, 4] * 1000
+    yield False, "named", [], [word for _ in range(61) for word in [851, 32] + [4] * 32] + names
+    yield True, "named", [], [word for _ in range(61) for word in [861, 32] + [4, 0] * 31 + [4, 1, 1, 4]] + names
 
 
 def measure(calls):
@@ -61,7 +73,7 @@ def measure(calls):
 def main():
     os.makedirs("target/bench", exist_ok=True)
     subprocess.run(["cc", "-O2", "-Iinclude", "-o", "target/bench/stack", "bench/stack.c", LIBRARY, "-lpthread"], check=True)
-    calls = [*usual(), *deep()]
+    calls = [*usual(), *deep(), *wide()]
     print("rows without annotations:", flush=True)
     measure(call for call in calls if not call[0])
     print("all rows:", flush=True)

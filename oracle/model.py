@@ -1,5 +1,5 @@
 #!/usr/bin/env python3
-"""The model of crates/cases as a line program: it answers the cell program's seven commands, spelling included.
+"""The model of crates/cases as a line program: it answers the cell program's eight commands, spelling included.
 
   model.py < LINES        an answer for each line
   model.py --own < LINES  the oracle's commands dangling, lift and offer too

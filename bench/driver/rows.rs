@@ -23,35 +23,53 @@ pub struct Class {
     pub many: bool,
     /// every quantifier has annotations
     pub noted: bool,
+    /// declarations have names of their own, and names stand for indices
+    pub named: bool,
 }
+
+/// The free names are below this, so that no declaration of a named row has one.
+const FREE: u32 = 16;
 
 /// Writes forms; indices that dangle go up to `top`, and not to an odd one below `even`.
 pub struct Writer<'a> {
-    pub rng: &'a mut Rng,
+    rng: &'a mut Rng,
     pub row: Vec<u32>,
-    pub class: Class,
-    pub top: u32,
-    pub even: u32,
+    class: Class,
+    top: u32,
+    even: u32,
+    /// the declared names that are open, from the outside
+    scope: Vec<u32>,
+    declared: u32,
 }
 
-impl Writer<'_> {
+impl<'a> Writer<'a> {
+    pub fn new(rng: &'a mut Rng, head: &[u32], class: Class, top: u32, even: u32) -> Writer<'a> {
+        assert!(top <= FREE);
+        Writer { rng, row: head.to_vec(), class, top, even, scope: vec![], declared: 0 }
+    }
+
     fn binds(&mut self) -> bool {
         let percent = if self.class.many { 40 } else { 4 };
         self.rng.chance(percent)
     }
 
-    /// The tag of a quantifier and its own words, then its declarations, and how many. Half of them have annotations
-    /// where any have; the last one does if no other.
+    /// The tag of a quantifier and its own words, then its declarations, which are open then, and how many. Half of them
+    /// have annotations where any have; the last one does if no other.
     fn declare(&mut self, tag: u32, own: &[u32], k: u32) -> u32 {
         let noted = self.class.noted;
         self.row.push(tag + if !noted { 0 } else if tag > 850 { 10 } else { 70 });
         self.row.extend_from_slice(own);
         let n = 1 + self.rng.below(if self.class.many { 4 } else { 2 });
         self.row.push(n);
-        let mut came = false;
+        let (mut came, mut names) = (false, vec![]);
         for j in 0..n {
-            let name = self.rng.below(16);
+            let mut name = self.rng.below(FREE);
+            if self.class.named {
+                name = FREE + self.declared;
+                self.declared += 1;
+            }
             self.row.push(name);
+            names.push(name);
             if noted {
                 let note = self.rng.chance(50) || (!came && j + 1 == n);
                 self.row.push(u32::from(note));
@@ -61,7 +79,13 @@ impl Writer<'_> {
                 }
             }
         }
+        self.scope.extend(names);
         n
+    }
+
+    /// Closes the declarations that were opened under k others.
+    fn close(&mut self, k: u32) {
+        self.scope.truncate(k as usize);
     }
 
     /// An identifier, or one of the small expressions that types are written with.
@@ -82,17 +106,18 @@ impl Writer<'_> {
 
     fn leaf(&mut self, k: u32) {
         if self.rng.chance(40) {
-            let name = self.rng.below(16);
+            let name = self.rng.below(FREE);
             self.row.extend([1, name]);
         } else if k > 0 && self.rng.chance(50) {
             let i = self.rng.below(k);
-            self.row.extend([2, i]);
+            let word = if self.class.named { [1, self.scope[(k - 1 - i) as usize]] } else { [2, i] };
+            self.row.extend(word);
         } else {
             let mut d = self.rng.below(self.top);
             if d < self.even {
                 d &= !1;
             }
-            self.row.extend([2, k + d]);
+            self.row.extend(if self.class.named { [1, d] } else { [2, k + d] });
         }
     }
 
@@ -104,6 +129,7 @@ impl Writer<'_> {
             let n = self.declare(803, &[0], k);
             self.pred((words - 4) / 2, k + n);
             self.expr((words - 4) / 2, k + n);
+            self.close(k);
         } else if self.rng.chance(20) {
             self.row.push(752);
             self.expr(words - 1, k);
@@ -127,6 +153,7 @@ impl Writer<'_> {
             let n = self.declare(tag, &[], k);
             let used = self.row.len() - before;
             self.pred(words.saturating_sub(used), k + n);
+            self.close(k);
         } else if self.rng.chance(40) {
             self.row.push(251);
             self.pred((words - 1) / 2, k);
@@ -151,6 +178,7 @@ impl Writer<'_> {
             let n = self.declare(tag, &[], k);
             let used = self.row.len() - before;
             self.spine(words.saturating_sub(used), levels - 1, k + n);
+            self.close(k);
         } else if side < 6 {
             self.row.push(8);
             self.spine(words - 1, levels - 1, k);
