@@ -22,8 +22,9 @@
  * may be called from several threads with rows of their own. A work row may hold anything before and after.
  *
  * STACK. As measured on rows of some 8,000 words, up to 64 deep (bench/stack.py), a call takes up to 431 KB of the
- * caller's stack: sgb_point 431 KB, sgb_member 312, sgb_fill 165, sgb_free 141, sgb_dangling 110, sgb_prune 77, the
- * others less than 60; on rows without annotations sgb_point 291, sgb_member 242, sgb_fill 135, sgb_prune 54.
+ * caller's stack: sgb_point 431 KB, sgb_named 391, sgb_member 312, sgb_fill 165, sgb_free 141, sgb_dangling 110,
+ * sgb_prune 77, the others less than 60; on rows without annotations sgb_named 391, sgb_point 291, sgb_member 242,
+ * sgb_fill 135, sgb_prune 54.
  *
  * REFUSALS, in the order in which they are tested: 15, then 1 and 2 for each row (the form first, then the
  * list), 3, 4, 5, 6, 9, 7, 14; for offers 1, 2, 5, 10, 11, 12, 13.
