@@ -1,4 +1,4 @@
-/* Shifts one form by -1, and by -2 with the command's number; reads a form written with names; asks where a row breaks,
+/* Shifts one form by -1 and by -2; reads a form written with names; asks where a row breaks,
  * and offers one equality to a set of places. Its output is example.out. */
 #include <stdio.h>
 
@@ -21,12 +21,11 @@ int main(void)
 {
     /* there is a v9 with: index 0 equals index 2, which dangles as 1 */
     const uint32_t row[] = {852, 1, 9, 101, 2, 0, 2, 2};
-    static uint32_t out[SGB_MAX_WORDS], work[1];
+    static uint32_t out[SGB_MAX_WORDS];
     size_t n = sizeof row / sizeof *row;
 
     show("shift -1", sgb_shift(row, n, -1, out, SGB_MAX_WORDS), out);
-    show("shift -2", sgb_run(SGB_SHIFT, -2, row, 0, row, n, work, 0, out, SGB_MAX_WORDS), out);
-    show("no command", sgb_run(0, 0, row, 0, row, n, work, 0, out, SGB_MAX_WORDS), out);
+    show("shift -2", sgb_shift(row, n, -2, out, SGB_MAX_WORDS), out);
 
     /* there are a v4 and a v5 with: v4 equals v6 */
     const uint32_t named[] = {852, 2, 4, 5, 101, 1, 4, 1, 6};

@@ -49,7 +49,6 @@ enum {
     SGB_BAD_COUNT = 5,        /* another number of places than of declarations; a set for over 32 declarations */
     SGB_CAPTURE = 6,          /* a dangling index would come below its depth */
     SGB_OUTSIDE_LIMITS = 7,   /* a result outside the row limits */
-    SGB_NO_COMMAND = 8,       /* a number that is no command's, in sgb_run */
     SGB_NOTHING_TO_DO = 9,    /* nothing to rewrite */
     SGB_NO_EQUALITY = 10,     /* an offer that is not 101 with a bound side */
     SGB_NO_TARGET = 11,       /* a target not below the number of declarations */
@@ -125,22 +124,6 @@ uint64_t sgb_member(const uint32_t *row, size_t row_len, uint32_t *work, size_t 
  * first and, within one quantifier, the last first; the others stay free. The names of an annotation are looked up outside
  * its quantifier. Any tag 2 in the row is refused by 2, at that tag. 1, 2, 14. */
 uint64_t sgb_named(const uint32_t *row, size_t row_len, uint32_t *out, size_t out_len);
-
-/* Any of the commands by its number, as its own call answers; one that takes no offset, no list or no work row does not
- * look at it. A number that is no command's is refused by 8. */
-enum {
-    SGB_SHIFT = 1,
-    SGB_FREE = 2,
-    SGB_BIND = 3,
-    SGB_FILL = 4,
-    SGB_PRUNE = 5,
-    SGB_POINT = 6,
-    SGB_MEMBER = 7,
-    SGB_NAMED = 8
-};
-uint64_t sgb_run(uint32_t number, int32_t offset, const uint32_t *list, size_t list_len,
-                 const uint32_t *row, size_t row_len, uint32_t *work, size_t work_len,
-                 uint32_t *out, size_t out_len);
 
 /* A set of places for n declarations: for each, the first declaration's first, where its replacement starts and
  * ends in the row that was offered. An end of 0 is a free place. n and the two arrays are the whole set.

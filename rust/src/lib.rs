@@ -34,7 +34,7 @@ pub enum Refusal {
     Capture,
     /// a result outside the row limits
     OutsideLimits,
-    /// a line that is not a command ([`text`] alone); a number that is no command's, which [`run`] never asks for
+    /// a line that is not a command ([`text`] alone)
     NotACommand,
     /// nothing to rewrite
     NothingToDo,
@@ -133,18 +133,6 @@ mod c {
         pub fn sgb_point(row: *const u32, n: usize, work: *mut u32, work_n: usize, out: *mut u32, room: usize) -> u64;
         pub fn sgb_member(row: *const u32, n: usize, work: *mut u32, work_n: usize, out: *mut u32, room: usize) -> u64;
         pub fn sgb_named(row: *const u32, n: usize, out: *mut u32, room: usize) -> u64;
-        pub fn sgb_run(
-            number: u32,
-            offset: i32,
-            list: *const u32,
-            list_n: usize,
-            row: *const u32,
-            n: usize,
-            work: *mut u32,
-            work_n: usize,
-            out: *mut u32,
-            room: usize,
-        ) -> u64;
         pub fn sgb_places(n: usize, starts: *mut usize, ends: *mut usize) -> u64;
         pub fn sgb_offer(n: usize, starts: *mut usize, ends: *mut usize, row: *const u32, row_n: usize) -> u64;
     }
@@ -276,17 +264,17 @@ pub fn named(row: &[u32], out: &mut [u32]) -> Result<usize, Refusal> {
     length(unsafe { c::sgb_named(row.as_ptr(), row.len(), out.as_mut_ptr(), out.len()) })
 }
 
-/// A command, with its number in the C header.
+/// The commands.
 #[derive(Clone, Copy, Debug, PartialEq, Eq)]
 pub enum Command {
-    Shift = 1,
-    Free = 2,
-    Bind = 3,
-    Fill = 4,
-    Prune = 5,
-    Point = 6,
-    Member = 7,
-    Named = 8,
+    Shift,
+    Free,
+    Bind,
+    Fill,
+    Prune,
+    Point,
+    Member,
+    Named,
 }
 
 /// Runs any command. One that takes no offset, no list or no `work` does not look at it.
@@ -298,20 +286,16 @@ pub fn run(
     work: &mut [u32],
     out: &mut [u32],
 ) -> Result<usize, Refusal> {
-    length(unsafe {
-        c::sgb_run(
-            command as u32,
-            offset,
-            list.as_ptr(),
-            list.len(),
-            row.as_ptr(),
-            row.len(),
-            work.as_mut_ptr(),
-            work.len(),
-            out.as_mut_ptr(),
-            out.len(),
-        )
-    })
+    match command {
+        Command::Shift => shift(row, offset, out),
+        Command::Free => free(list, row, work, out),
+        Command::Bind => bind(list, row, out),
+        Command::Fill => fill(list, row, work, out),
+        Command::Prune => prune(row, out),
+        Command::Point => point(row, work, out),
+        Command::Member => member(row, work, out),
+        Command::Named => named(row, out),
+    }
 }
 
 /// A set of places: for each declaration, where its replacement lies in the row that was offered.

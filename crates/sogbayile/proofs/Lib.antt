@@ -1,4 +1,3 @@
 pub mod CodeLaws
-pub mod RunLaws
 pub mod ShortLaws
 pub mod OfferLaws
