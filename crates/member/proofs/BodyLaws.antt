@@ -33,7 +33,7 @@ use Rattle.member.specs.Internal.Member.{Shares, shares, keepPart, spotA
 use Rattle.member.specs.declared.member.Comprehension.{Comprehension}
 use Rattle.places.proofs.WroteLaws.{wrote-end, wrote-on, wrote-in, wrote-self, based, headed}
 use Rattle.places.proofs.PartsOk.{OkParts, equal-ok, counted-ok, parts-few}
-use Rattle.rules.proofs.FrontLaws.{map-replicate}
+use Rattle.rules.proofs.ReplicateLaws.{map-replicate}
 use Rattle.member.proofs.SetLaws.{head-tag}
 use Rattle.member.proofs.MemberTree.{shiftRight, parts-lift, offersOf, share-offers, front-lift}
 

@@ -19,6 +19,7 @@ use Rattle.rules.specs.Prune.{isNot}
 use Rattle.rules.specs.Partial.{front, lowerPlace, onNote, putRound, instantiatePartial}
 use Rattle.rules.specs.Member.{anyFilled}
 use Rattle.rules.proofs.WalkLaws.{eachDecls}
+use Rattle.rules.proofs.FrontLaws.{kept-decls}
 use Rattle.rules.proofs.JoinLaws.{unusedNotes, round-other}
 use Rattle.rules.proofs.JoinFill.{fits, deeper}
 use Rattle.shift.proofs.AroundLaws.{Quant}
@@ -27,7 +28,7 @@ use Rattle.decls.specs.Internal.Used.{clearedBy}
 use Rattle.decls.proofs.RoundTree.{kept-front, fronts, rests, stays, all-filled, partial-stays, partial-none, partial-other, partial-unlike, partial-joined, partial-apart}
 use Rattle.member.specs.Internal.Member.{lifted, filledBody}
 use Rattle.member.specs.Internal.Noted.{noZero, frontAlone}
-use Rattle.member.proofs.MemberTree.{front-lift, front-low, lift-drop, kept-count-lift, behind-front, whole-front, subst-same, none-filled}
+use Rattle.member.proofs.MemberTree.{front-lift, front-low, lift-drop, kept-count-lift, behind-front, whole-front, subst-same, all-kept, none-filled}
 use Rattle.member.proofs.TableLaws.{inFront}
 use Rattle.member.proofs.NotesLaws.{clear-test, lowered-back}
 
@@ -40,11 +41,7 @@ kept-lifted k (kept ∷ ps) (d ∷ ds) = ap (λ z. d ∷ z) (kept-lifted k ps ds
 kept-lifted k (filled x ∷ ps) (d ∷ ds) = kept-lifted k ps ds
 
 kept-all : (ps : List Place) (ds : List Decl) → length ps ≡ length ds → front ps ≡ length ps → keptDecls ps ds ≡ ds
-kept-all [] [] e h = refl
-kept-all [] (d ∷ ds) e h = absurd (omega arith)
-kept-all (p ∷ ps) [] e h = absurd (omega arith)
-kept-all (kept ∷ ps) (d ∷ ds) e h = ap (λ z. d ∷ z) (kept-all ps ds (omega arith) (omega arith))
-kept-all (filled x ∷ ps) (d ∷ ds) e h = absurd (omega arith)
+kept-all ps ds e h = ap (λ z. keptDecls z ds) (all-kept ps h) ∙ kept-decls ds (length ps) (sym e)
 
 none-left : (ps : List Place) (ds : List Decl) → keptCount ps ≡ 0 → keptDecls ps ds ≡ []
 none-left [] ds e = refl

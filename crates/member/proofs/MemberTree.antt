@@ -5,7 +5,6 @@ use mathlib.Core.Bool.{Bool, true, false, _&&_, and-false}
 use mathlib.Core.List.{List, [], _∷_, _++_, map, map-append, reverse, reverse-append, reverse-cons}
 use mathlib.Core.Option.{Option, none as absent, some}
 use Prim.Native.Nat.{ℕ, zero, suc, _+_, _-_, _≤_, _<_}
-use native.Mathlib.Nat.{zero-add}
 use native.Mathlib.Omega.{arith}
 use borrow.Author.Tests.{ltb-true, ltb-false, lt-ltb, le-ltb, le-leb}
 use lib.Dec.{ltb, eqb}
@@ -14,8 +13,8 @@ use Rattle.tree.specs.Form.{free, bound, Form, leaf, node, noted, Forms, none, 
 use Rattle.form.specs.Lists.{Place, kept, filled}
 use Rattle.rules.specs.Walk.{Outer, named, dangling, walk, walkAll, up, lift, put, subst, collect, each}
 use Rattle.rules.specs.Shift.{reaches, fall, lower}
-use Rattle.rules.proofs.WalkLaws.{binding-add, fuse-level, shift-shift, self, always, each-always, each-all, walk-agree}
-use Rattle.rules.proofs.TreeLaws.{walk-self, each-walk}
+use Rattle.rules.proofs.WalkLaws.{binding-add, fuse-level, shift-shift, always, each-always, each-all, walk-agree}
+use Rattle.rules.proofs.TreeLaws.{each-walk}
 use Rattle.rules.specs.Fill.{keptCount, fillIndex, fillFor}
 use Rattle.replace.proofs.PlainLaws.{keptNames}
 use Rattle.replace.proofs.FillTree.{kept-reverse}
@@ -25,7 +24,7 @@ use Rattle.rules.specs.Partial.{front, lowerPlace}
 use Rattle.rules.specs.Member.{Offers, offers, isFree, leave, offerNext, offerAll}
 use Rattle.member.specs.Internal.Member.{Shares, shares, keepPart, spotAt, shareNext, share, equalities, lifted}
 use Rattle.places.proofs.PlacesLaws.{place-from}
-use Rattle.rules.proofs.FrontLaws.{reverse-kept}
+use Rattle.rules.proofs.FrontLaws.{reverse-kept, kept-index, subst-kept}
 
 -- the parts of a value and a shifted element
 abbrev pub shiftRight : ℕ → Form × Form → Form × Form
@@ -170,13 +169,6 @@ front-split (kept ∷ ps) = ap (λ z. kept ∷ z) (front-split ps)
 front-split (filled e ∷ ps) = refl
 
 -- kept declarations all round change nothing but the lift
-kept-index : (j c i : ℕ) → fillIndex (j + c) c (replicate j kept) i ≡ leaf (bound (c + i))
-kept-index zero c i = rw zero-add
-kept-index (suc j) c zero = ap (λ z. leaf (bound z)) (omega arith)
-kept-index (suc j) c (suc i) =
-    let e : suc j + c ≡ j + suc c = omega arith in
-    rw e (kept-index j (suc c) i ∙ ap (λ z. leaf (bound z)) (omega arith))
-
 index-front : (j m c : ℕ) (rs : List Place) (i : ℕ) → m ≡ c + keptCount rs → fillIndex (j + m) c (rs ++ replicate j kept) i ≡ fillIndex m c (map (lifted j) rs) i
 index-front j m c [] i e =
     let q : m ≡ c = omega arith in
@@ -235,20 +227,13 @@ pub whole-front : (ps : List Place) (x : Outer) → fillFor ps x ≡ fillFor (ma
 whole-front ps x = ap (λ z. fillFor z x) (front-split ps) ∙ fill-front (front ps) (drop (front ps) ps) x
 
 -- with no place filled nothing changes
-all-kept : (ps : List Place) → front ps ≡ length ps → ps ≡ replicate (length ps) kept ++ []
+pub all-kept : (ps : List Place) → front ps ≡ length ps → ps ≡ replicate (length ps) kept
 all-kept [] e = refl
 all-kept (kept ∷ ps) e = ap (λ z. kept ∷ z) (all-kept ps (omega arith))
 all-kept (filled x ∷ ps) e = absurd (omega arith)
 
-kept-self : (k : ℕ) (x : Outer) → put (fillFor []) k x ≡ self k x
-unfolding walk
-kept-self k (named m) = refl
-kept-self k (dangling j) = ap (λ z. leaf (bound z)) (omega arith)
-
 pub none-filled : (ps : List Place) → front ps ≡ length ps → (g : Form) → subst (fillFor ps) g ≡ g
-none-filled ps e g =
-    subst-same (fillFor ps) (fillFor []) (λ x. ap (λ z. fillFor z x) (all-kept ps e) ∙ fill-front (length ps) [] x) 0 g
-    ∙ (walk-agree always (put (fillFor [])) self (λ k x h. kept-self k x) 0 g (each-always 0 g) ∙ walk-self 0 g)
+none-filled ps e g = ap (λ z. subst (fillFor z) g) (all-kept ps e) ∙ subst-kept (length ps) g
 
 -- the names that are kept
 pub names-lift : (j : ℕ) (ps : List Place) (ns : List ℕ) → keptNames (map (lifted j) ps) ns ≡ keptNames ps ns

@@ -20,7 +20,7 @@ use Rattle.rules.specs.Fill.{Decl, unlisted, around, fillFor}
 use Rattle.rules.specs.Partial.{onNote}
 use Rattle.rules.specs.Replacement.{above}
 use Rattle.rules.proofs.LimitLaws.{ok-small}
-use Rattle.rules.proofs.FrontLaws.{map-replicate}
+use Rattle.rules.proofs.ReplicateLaws.{replicate-at, map-replicate}
 use Rattle.shift.specs.Internal.Items.{items, wordsOf, rewritten}
 use Rattle.shift.specs.declared.items.Item.the-variants.{Plain}
 use Rattle.shift.proofs.RowLaws.{itemsOf, itemsDecls, marksOf, marksDecls, items-encode, items-encodeDecls, mark-front, rewritten-append}
@@ -33,7 +33,7 @@ use Rattle.replace.proofs.ReadyLaws.{ready-is}
 use Rattle.decls.proofs.DeclLaws.{GoodDecls}
 use Rattle.one_point.specs.Internal.Reduce.{oneTable, Marking}
 use Rattle.one_point.specs.Internal.Noted.{underRow, fullTable, notesIn, freeWords}
-use Rattle.one_point.proofs.PartialLaws.{first-filled, getD-kept, part-items}
+use Rattle.one_point.proofs.PartialLaws.{first-filled, part-items}
 use Rattle.one_point.proofs.PlaceLaws.{whole-expr, row-all, one-ready}
 use Rattle.one_point.proofs.PointTree.{pointPlaces}
 
@@ -54,11 +54,11 @@ module _ (e : Form) (part pm : List ℕ) (is-part : decode 63 expr part ≡ got 
 
     placed : (h : ℕ) → h < length ps → PlaceAt (Unit {0}) part pm (getD (replicate 32 0) h 0) (getD (replicate 32 (length part)) h 0) (getD ps h kept)
     placed zero l = (part-there, ok-small (whole-expr part e is-part .1) 0)
-    placed (suc h) l = rw (getD-kept i h) tt
+    placed (suc h) l = rw (replicate-at i h kept) tt
 
     higher : (h : ℕ) → h < length ps → Above (suc i) (getD ps h kept)
     higher zero l = over
-    higher (suc h) l = rw (getD-kept i h) tt
+    higher (suc h) l = rw (replicate-at i h kept) tt
 
     pub point-filled : (h : ℕ) {d : ℕ} {f : Form} → h + 32 * d ≤ 2048 → Ok d pred f
         → rewritten (planned (downPlan (oneTable (suc i) (length part)) (suc i)) part pm) (itemsOf (h + suc i) f) ≡ encode (walk (put (fillFor (pointPlaces i e))) h f)

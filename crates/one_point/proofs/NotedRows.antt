@@ -21,6 +21,7 @@ use Rattle.rules.specs.Prune.{isNot}
 use Rattle.rules.specs.Replacement.{above}
 use Rattle.reader.specs.Internal.Reads.{mark}
 use Rattle.rules.proofs.WalkLaws.{eachDecls}
+use Rattle.rules.proofs.ReplicateLaws.{replicate-front}
 use Rattle.rules.proofs.JoinLaws.{names-plain, bare-decls, unusedNotes}
 use Rattle.rules.proofs.JoinFill.{deeper, fits}
 use Rattle.shift.specs.Internal.Items.{items, rewritten, store}
@@ -36,7 +37,6 @@ use Rattle.decls.proofs.HeadLaws.{quantHead, encode-head, noted-head, flags-len
 use Rattle.one_point.specs.Internal.Reduce.{operatorIn, declsIn, Headed, oneTable, placedForm, placedOutcome, targetOf, Putting}
 use Rattle.one_point.specs.Internal.Noted.{Flags, underRow, keptRow, withNames, namesEnd, Inside, allOnes}
 use Rattle.one_point.proofs.HeadedLaws.{head-count, store-long}
-use Rattle.one_point.proofs.PartialLaws.{zeros-front}
 use Rattle.one_point.proofs.PlaceLaws.{whole-pred}
 use Rattle.one_point.proofs.PointTree.{pointPlaces, zero-words, kept-front, joined-is}
 use Rattle.one_point.proofs.FilledWords.{under-is, inner-filled}
@@ -171,7 +171,7 @@ pub front-zeros : (head : List ℕ) → Headed head → map wordFor (replicate (
 front-zeros head h =
     let c = head-count head h in
     let f = h .few in
-    zero-words (getD head 1 0 - 1) ∙ sym (zeros-front (getD head 1 0 - 1) 32 (omega arith))
+    zero-words (getD head 1 0 - 1) ∙ sym (replicate-front (getD head 1 0 - 1) 32 0 (omega arith))
 
 pub front-kept : (head : List ℕ) → Headed head → keptDecls (replicate (getD head 1 0 - 1) kept) (frontDecls head) ≡ frontDecls head
 front-kept head h = let c = head-count head h in kept-front (getD head 1 0 - 1) (declsIn head) (omega arith)

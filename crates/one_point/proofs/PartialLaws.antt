@@ -29,7 +29,8 @@ use Rattle.rules.specs.Replacement.{above}
 use Rattle.rules.specs.Partial.{noPlaces, setPlace, lowerPlace, putRound, instantiatePartial}
 use Rattle.replace.specs.Internal.Partial.{partialWords}
 use Rattle.places.proofs.SidesLaws.{part-words}
-use Rattle.rules.proofs.FrontLaws.{map-replicate, front-is, from-front}
+use Rattle.rules.proofs.ReplicateLaws.{replicate-at, replicate-front, map-replicate}
+use Rattle.rules.proofs.FrontLaws.{front-is, from-front}
 use Rattle.replace.proofs.PartialLaws.{ok-heads, round-words}
 use Rattle.form.proofs.HeadLaws.{here}
 
@@ -90,20 +91,10 @@ kept-all [] (suc n) e = absurd (omega arith)
 kept-all (x ∷ xs) zero e = absurd (omega arith)
 kept-all (x ∷ xs) (suc n) e = ap (λ z. x ∷ z) (kept-all xs n (omega arith))
 
-pub getD-kept : (n k : ℕ) → getD (replicate n kept) k kept ≡ kept
-getD-kept zero k = refl
-getD-kept (suc n) zero = refl
-getD-kept (suc n) (suc k) = getD-kept n k
-
 -- the words of a table of n places of which the first is filled
-pub zeros-front : (i n : ℕ) → i ≤ n → take {A = ℕ} i (replicate n 0) ≡ replicate i 0
-zeros-front zero n h = refl
-zeros-front (suc i) zero h = absurd (omega arith)
-zeros-front (suc i) (suc n) h = ap (λ z. 0 ∷ z) (zeros-front i n (omega arith))
-
 pub first-filled : (n i : ℕ) → i < n → take {A = ℕ} (suc i) (set (replicate n 0) 0 1) ≡ 1 ∷ replicate i 0
 first-filled zero i h = absurd (omega arith)
-first-filled (suc n) i h = ap (λ z. 1 ∷ z) (zeros-front i n (omega arith))
+first-filled (suc n) i h = ap (λ z. 1 ∷ z) (replicate-front i n 0 (omega arith))
 
 -- the items of a form that stands at s in a row, with the marks that a reader made there in a row of zeros
 pub part-items : (f : Form) (row lm : List ℕ) (s e n : ℕ) → e ≡ s + length (encode f) → drop s row ≡ encode f ++ drop e row → e ≤ n → lm ≡ mark f s 0 (replicate n 0)
@@ -135,11 +126,11 @@ module _ (t : ℕ) (which : (eqb t 851 || eqb t 852) ≡ true) (ns : List ℕ) (
 
   ps-placed : (k : ℕ) → k < length ps → PlaceAt (Unit {0}) list lm (getD (tb .starts) k 0) (getD (tb .ends) k 0) (getD ps k kept)
   ps-placed zero h = (there, ok-small ok-e 0)
-  ps-placed (suc k) h = rw (getD-kept i k) tt
+  ps-placed (suc k) h = rw (replicate-at i k kept) tt
 
   ps-higher : (k : ℕ) → k < length ps → Above (tb .n) (getD ps k kept)
   ps-higher zero h = rw number over
-  ps-higher (suc k) h = rw (getD-kept i k) tt
+  ps-higher (suc k) h = rw (replicate-at i k kept) tt
 
   ps-fit : length ps ≡ length (drop j ns)
   ps-fit = let l = length-drop j ns in let p = ps-length in omega arith

@@ -22,7 +22,8 @@ use Rattle.rules.specs.Partial.{onNote, noPlaces, setPlace, putRound, instantia
 use Rattle.rules.specs.Replacement.{above}
 use Rattle.rules.proofs.WalkLaws.{eachDecls, binding-add, subst-subst, and-left, and-right, always, each-agree, each-always, walk-agree}
 use Rattle.rules.proofs.TreeLaws.{after, lift-zero, each-walk}
-use Rattle.rules.proofs.FrontLaws.{places-are, front-is, rest-is, unlike-stays}
+use Rattle.rules.proofs.ReplicateLaws.{replicate-front}
+use Rattle.rules.proofs.FrontLaws.{places-are, front-is, rest-is, kept-decls, unlike-stays}
 use Rattle.rules.proofs.JoinLaws.{round-stays, round-other, unusedNotes}
 use Rattle.rules.proofs.JoinFill.{deeper, fits, fill-joined, fill-apart}
 use Rattle.replace.proofs.FillTree.{wordFor}
@@ -30,31 +31,24 @@ use Rattle.decls.specs.Internal.Used.{clearedBy}
 use Rattle.one_point.specs.Internal.Reduce.{placedForm}
 use Rattle.one_point.specs.Internal.Noted.{allOnes, joiningBy}
 use Rattle.one_point.specs.declared.joined.Joining.the-variants.{Apart, Unused, Used}
-use Rattle.one_point.proofs.PartialLaws.{zeros-front}
 
 -- the places of the declarations from the replaced one on
 abbrev pub pointPlaces : ℕ → Form → List Place
 pointPlaces i e = filled (lower (suc i) e) ∷ replicate i kept
 
 -- the declarations that are kept
-kept-all : (ds : List Decl) (n : ℕ) → length ds ≡ n → keptDecls (replicate n kept) ds ≡ ds
-kept-all [] zero e = refl
-kept-all [] (suc n) e = absurd (omega arith)
-kept-all (d ∷ ds) zero e = absurd (omega arith)
-kept-all (d ∷ ds) (suc n) e = ap (λ z. d ∷ z) (kept-all ds n (omega arith))
-
 pub kept-front : (j : ℕ) (ds : List Decl) → j ≤ length ds → keptDecls (replicate j kept) (take j ds) ≡ take j ds
-kept-front j ds h = kept-all (take j ds) j (length-take-le j ds h)
+kept-front j ds h = kept-decls (take j ds) j (length-take-le j ds h)
 
 kept-behind : (h : Decl → Decl) (x : Form) (ds : List Decl) (j i : ℕ) → length ds ≡ j + suc i → keptDecls (filled x ∷ replicate i kept) (map h (drop j ds)) ≡ map h (drop (suc j) ds)
 kept-behind h x [] zero i e = absurd (omega arith)
-kept-behind h x (d ∷ ds) zero i e = kept-all (map h ds) i (length-map ds h ∙ omega arith)
+kept-behind h x (d ∷ ds) zero i e = kept-decls (map h ds) i (length-map ds h ∙ omega arith)
 kept-behind h x [] (suc j) i e = absurd (omega arith)
 kept-behind h x (d ∷ ds) (suc j) i e = kept-behind h x ds j i (omega arith)
 
 kept-but : (e : Form) (ds : List Decl) (j i : ℕ) → length ds ≡ j + suc i → keptDecls (replicate j kept ++ (filled e ∷ replicate i kept)) ds ≡ take j ds ++ drop (suc j) ds
 kept-but e [] zero i h = absurd (omega arith)
-kept-but e (d ∷ ds) zero i h = kept-all ds i (omega arith)
+kept-but e (d ∷ ds) zero i h = kept-decls ds i (omega arith)
 kept-but e [] (suc j) i h = absurd (omega arith)
 kept-but e (d ∷ ds) (suc j) i h = ap (λ z. d ∷ z) (kept-but e ds j i (omega arith))
 
@@ -67,7 +61,7 @@ but-words : (e : Form) (m j i : ℕ) → j + suc i ≤ m → map wordFor (replic
 but-words e zero j i h = absurd (omega arith)
 but-words e (suc m) zero i h =
     let k : 0 + suc i ≡ suc i = omega arith in
-    rw (k, zero-words i) (ap (λ z. 1 ∷ z) (sym (zeros-front i m (omega arith))))
+    rw (k, zero-words i) (ap (λ z. 1 ∷ z) (sym (replicate-front i m 0 (omega arith))))
 but-words e (suc m) (suc j) i h = let k : suc j + suc i ≡ suc (j + suc i) = omega arith in rw k (ap (λ z. 0 ∷ z) (but-words e m j i (omega arith)))
 
 module _ (ds : List Decl) (i : ℕ) (e : Form) (low : i < length ds) where

@@ -12,10 +12,10 @@ use Rattle.tree.specs.Form.{bound, Form, leaf}
 use Rattle.form.specs.Lists.{kept, filled}
 use Rattle.rules.specs.Walk.{Outer, named, dangling, walk, up, lift, put, subst}
 use Rattle.rules.specs.Shift.{reaches, fall, lower}
-use Rattle.rules.specs.Fill.{Decl, keptCount, keptDecls, fillIndex, fillFor}
+use Rattle.rules.specs.Fill.{fillIndex, fillFor}
 use Rattle.rules.proofs.WalkLaws.{binding-add, self, undo}
 use Rattle.rules.specs.Replacement.{above}
-use Rattle.rules.proofs.FrontLaws.{reverse-kept}
+use Rattle.rules.proofs.FrontLaws.{reverse-kept, kept-count}
 use Rattle.reading.specs.Reading.{Reading, Env, cons, value}
 use Rattle.reading.specs.Premise.{push, readInBody}
 use Rattle.reading.proofs.ValueLaws.{outerValue, push-add, lift-value, subst-value}
@@ -39,21 +39,13 @@ module _ (R : Reading) (e : Form) (η ρ : Env) (m : ℕ) (there : value R ρ (l
 reverse-filled : (e : Form) (n : ℕ) → reverse (filled e ∷ replicate n kept) ≡ replicate n kept ++ (filled e ∷ [])
 reverse-filled e n = reverseAux-eq (replicate n kept) (filled e ∷ []) ∙ ap (λ z. z ++ (filled e ∷ [])) (reverse-kept n)
 
-keptCount-kept : (n : ℕ) → keptCount (replicate n kept) ≡ n
-keptCount-kept zero = refl
-keptCount-kept (suc n) = ap suc (keptCount-kept n)
-
-pub keptDecls-kept : (ns : List Decl) → keptDecls (replicate (length ns) kept) ns ≡ ns
-keptDecls-kept [] = refl
-keptDecls-kept (n ∷ ns) = ap (λ z. n ∷ z) (keptDecls-kept ns)
-
 -- the filled form under the values c of what is kept: the form, with the replacement's value put in
 module _ (R : Reading) (e : Form) (η : Env) (c : List ℤ) where
   fillFor-value : (x : Outer) → value R (push c η) (fillFor (filled e ∷ replicate (length c) kept) x) ≡ outerValue R (push c (cons (value R η e) η)) x
   unfolding value
   fillFor-value (named n) = refl
   fillFor-value (dangling j) =
-      rw (reverse-filled e (length c), keptCount-kept (length c))
+      rw (reverse-filled e (length c), kept-count (length c))
       (fillIndex-value R e η (push c η) (length c) (lift-value R c η e) (push-add c η) c 0 (λ x. rw zero-add) j)
 
   pub fill-value : (f : Form)

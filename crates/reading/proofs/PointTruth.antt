@@ -20,13 +20,13 @@ use Rattle.rules.specs.Replacement.{above, taken, nothing}
 use Rattle.rules.specs.Scan.{Scan, scanned, scan}
 use Rattle.rules.specs.Partial.{onNote, noPlaces, setPlace, putRound, instantiatePartial}
 use Rattle.rules.specs.Point.{polarity, restOf, reduce, reduceQuantified, onePoint}
-use Rattle.rules.proofs.FrontLaws.{front-is, rest-is}
+use Rattle.rules.proofs.FrontLaws.{front-is, rest-is, kept-decls}
 use Rattle.reading.specs.Reading.{Reading, truth, same, valueOf, Env, value, holds}
 use Rattle.reading.specs.Premise.{has, readInBody, inRange, premiseOf, premise}
 use Rattle.reading.proofs.Exists.{exOver, every-over, tagOf, asks, names-noted, quantified-tag, quantified-truth}
 use Rattle.reading.proofs.ScanLaws.{tied, Good, leftTruth}
 use Rattle.reading.proofs.ScanTruth.{scan-tied}
-use Rattle.reading.proofs.FillLaws.{keptDecls-kept, lift-lower, read-lowered}
+use Rattle.reading.proofs.FillLaws.{lift-lower, read-lowered}
 use Rattle.reading.proofs.OnePointLaws.{one-point}
 
 -- the reduced form: the target's declaration gone, those after it round the filled body, those before it round that
@@ -47,7 +47,7 @@ module _ (t : ℕ) (ns : List Decl) (i : ℕ) (e f : Form) (lt : i < length ns) 
   fill-after : (d : Decl) (es : List Decl) (m : ℕ) (x : Form) → length es ≡ m
       → fill t (d ∷ es) (filled x ∷ replicate m kept) f ≡ quantify t es (subst (fillFor (filled x ∷ replicate m kept)) f)
   unfolding fill
-  fill-after d es m x q = rw (← q, keptDecls-kept es)
+  fill-after d es m x q = rw (← q, kept-decls es (length es) refl)
 
   reduced-is : instantiatePartial t ns (setPlace (length ns) i e (noPlaces (length ns))) f
       ≡ putRound t (take (length ns - suc i) ns)

@@ -7,7 +7,7 @@ use native.Mathlib.Nat.{le-refl}
 use native.Mathlib.Omega.{arith}
 use borrow.Author.Tests.{eqb-true, eqb-false, ne-eqb, leb-true, leb-false}
 use lib.Dec.{leb, ltb, eqb}
-use lib.ListN.{length, getD, take, drop, set, replicate}
+use lib.ListN.{length, getD, take, drop, set}
 use lib.Seq.{getD-take, getD-set-same, getD-set-other}
 use Rattle.tree.specs.Form.{pick}
 use Rattle.form.proofs.DecodeLaws.{clash}
@@ -22,11 +22,6 @@ use Rattle.replace.specs.declared.pieces.Piece.the-variants.{Same, Index
 use Rattle.replace.specs.declared.pieces.Rule.{Rule}
 use Rattle.replace.proofs.PieceLaws.{used-first}
 use Rattle.replace.proofs.SpliceLaws.{Storing, is-marked, word-room, word-next, part-inside, part-room, part-next}
-
-pub zeros-at : (n i : ℕ) → _≡_ {A = ℕ} (getD (replicate n 0) i 0) 0
-zeros-at zero i = refl
-zeros-at (suc n) zero = refl
-zeros-at (suc n) (suc i) = zeros-at n i
 
 -- a table that is set from its end downwards
 pub table-step : (n s g : ℕ) (l : List ℕ) (f : ℕ → ℕ) → s < length l → ((i : ℕ) → s < i → i ≤ n → getD l i 0 ≡ f i) → g ≡ f s → (i : ℕ) → s - 1 < i → i ≤ n → getD (set l s g) i 0 ≡ f i

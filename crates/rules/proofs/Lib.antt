@@ -3,6 +3,7 @@ pub mod LimitLaws
 pub mod TreeLaws
 pub mod OkLaws
 pub mod NamedLaws
+pub mod ReplicateLaws
 pub mod FrontLaws
 pub mod JoinLaws
 pub mod JoinFill

@@ -7,7 +7,8 @@ use lib.ListN.{length, getD, drop, length-set}
 use lib.Seq.{getD-set-same, getD-set-other}
 use Rattle.replace.specs.Internal.Pieces.{filledWords}
 use Rattle.replace.proofs.PieceLaws.{filled-few, falls-none, falls-next}
-use Rattle.replace.proofs.SpliceSlots.{table-step, zeros-at}
+use Rattle.rules.proofs.ReplicateLaws.{replicate-at}
+use Rattle.replace.proofs.SpliceSlots.{table-step}
 use Rattle.replace.proofs.splice.set_slots.Statement.{statement}
 use Rattle.replace.proofs.splice.set_slots.Tie as tie
 use Rattle.replace.proofs.splice.set_slots.Reads as reads
@@ -26,8 +27,8 @@ loop-holds c =
       (λ i l h. absurd (omega arith)),
       (λ i l h. absurd (omega arith)),
       rw (b3 .pre .1) refl,
-      rw (b3 .pre .1) (zeros-at 34 (length (b3 .args .words .now) + 1)),
-      rw (b3 .pre .2) (zeros-at 34 (length (b3 .args .words .now) + 1)),
+      rw (b3 .pre .1) (replicate-at 34 (length (b3 .args .words .now) + 1) 0),
+      rw (b3 .pre .2) (replicate-at 34 (length (b3 .args .words .now) + 1) 0),
       falls-none (b3 .args .words .now),
       omega arith,
       omega arith,
