@@ -4,7 +4,8 @@
  *   before ROUNDS < SETS        bench/before.py writes the sets and builds this
  *
  * A set is a line "COMMAND SIZE COUNT", then for each row its list and itself, each with the number of its words in front. The sets "good" and
- * "broken" are rows for the check, which takes the ones and refuses the others. */
+ * "broken" are rows for the check, which takes the ones and refuses the others. The set "missing" is for fill: the earlier library is given the
+ * whole list, the present one the list without the kept places at its end. */
 #include <stdio.h>
 #include <stdlib.h>
 #include <string.h>
@@ -27,6 +28,7 @@ EARLIER(check);
 struct row {
     uint32_t *list, *words;
     size_t list_len, len;
+    size_t before_len, sgb_len; /* of the list of "missing" */
 };
 
 static uint32_t out[SGB_MAX_WORDS], work[SGB_WORK_WORDS];
@@ -42,6 +44,8 @@ static volatile uint64_t sink;
         case 'b' << 8 | 'i': return lib##_bind(r->list, r->list_len, r->words, r->len, out, SGB_MAX_WORDS);                 \
         case 'f' << 8 | 'i':                                                                                                \
             return lib##_fill(r->list, r->list_len, r->words, r->len, work, SGB_WORK_WORDS, out, SGB_MAX_WORDS);            \
+        case 'm' << 8 | 'i':                                                                                                \
+            return lib##_fill(r->list, r->lib##_len, r->words, r->len, work, SGB_WORK_WORDS, out, SGB_MAX_WORDS);           \
         case 'p' << 8 | 'r': return lib##_prune(r->words, r->len, out, SGB_MAX_WORDS);                                      \
         case 'p' << 8 | 'o': return lib##_point(r->words, r->len, work, SGB_WORK_WORDS, out, SGB_MAX_WORDS);                \
         case 'm' << 8 | 'e': return lib##_member(r->words, r->len, work, SGB_WORK_WORDS, out, SGB_MAX_WORDS);               \
@@ -62,8 +66,12 @@ int main(int argc, char **argv)
         for (int i = 0; i < count; i++) {
             rows[i].list = words(&rows[i].list_len);
             rows[i].words = words(&rows[i].len);
+            rows[i].before_len = rows[i].sgb_len = rows[i].list_len;
+            while (rows[i].sgb_len > 0 && rows[i].list[rows[i].sgb_len - 1] == 0)
+                rows[i].sgb_len--;
             total += rows[i].len;
-            if ((sgb_number(present(command, &rows[i])) == SGB_NOT_A_FORM) != !strncmp(command, "broken", 6))
+            uint32_t refusal = sgb_number(present(command, &rows[i]));
+            if (strncmp(command, "broken", 6) ? refusal == SGB_NOT_A_FORM || refusal == SGB_BAD_COUNT : refusal != SGB_NOT_A_FORM)
                 return fprintf(stderr, "%s: a row is taken or refused that should not be\n", command), 1;
         }
         int turns = 1 + (int)(WORDS_A_ROUND / total);

@@ -26,17 +26,20 @@ def rows_of(command, size, count, more):
 
 
 def sets():
-    """The rows of each call; and those of shift for the check alone, as they are and with a last word over the limit."""
+    """The rows of each call; those of fill with the last two of four places kept, which the present library is not given; and those of shift for
+    the check alone, as they are and with a last word over the limit."""
     lines = []
     for more in [], ["annotated"]:
-        for command in COMMANDS + ["good", "broken"]:
+        for command in COMMANDS + ["missing", "good", "broken"]:
             for size, count in SIZES:
                 if more and command == "prune" and size == 20:
                     continue        # 32 declarations with annotations alone have more words
                 lines.append("%s %d %d" % (command + ("+notes" if more else ""), size, count))
-                for listed, row in rows_of(command if command in COMMANDS else "shift", size, count, more):
+                for listed, row in rows_of(command if command in COMMANDS else "fill" if command == "missing" else "shift", size, count, more):
                     if command == "broken":
                         row[-1] = 70000
+                    if command == "missing":
+                        listed = listed[:5] + [0]
                     lines += [" ".join(map(str, [len(words)] + words)) for words in (listed, row)]
     return "\n".join(lines) + "\n"
 

@@ -349,7 +349,7 @@ def predict(s):
         ns = [x[0] for x in l] if h == 'free' else l
         if len(ns) > 32 or any((n > 65535 for n in ns)) or len(set(ns)) < len(ns):
             return 4
-    if h == 'fill' and len(l) != f[1]:
+    if h == 'fill' and len(l) > f[1]:
         return 5
     return None
 

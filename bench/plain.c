@@ -674,8 +674,9 @@ uint64_t plain_fill(const u32 *list, size_t count, const u32 *row, size_t n, u32
         return refuse(k);
     if (!quantified(&q, row))
         return refuse(3);
-    if (op.n != q.n)
+    if (op.n > q.n)
         return refuse(5);
+    op.n = q.n; /* places that are missing have the word 0 and are kept */
     return filled(&op, &q, row, n, out, room);
 }
 

@@ -1,5 +1,5 @@
-/* Shifts one form by -1 and by -2; reads a form written with names; asks where a row breaks,
- * and offers one equality to a set of places. Its output is example.out. */
+/* Shifts one form by -1 and by -2; reads a form written with names; fills one of two declarations; asks where a
+ * row breaks, and offers one equality to a set of places. Its output is example.out. */
 #include <stdio.h>
 
 #include "sogbayile.h"
@@ -31,6 +31,11 @@ int main(void)
     const uint32_t named[] = {852, 2, 4, 5, 101, 1, 4, 1, 6};
     show("named", sgb_named(named, 9, out, SGB_MAX_WORDS), out);
     show("an index", sgb_named(row, n, out, SGB_MAX_WORDS), out);
+
+    /* the first declaration is filled; the second has no place in the list and is kept */
+    const uint32_t two[] = {852, 2, 4, 5, 101, 2, 1, 2, 0}, first[] = {1, 1, 7};
+    static uint32_t work[SGB_WORK_WORDS];
+    show("fill", sgb_fill(first, 3, two, 9, work, SGB_WORK_WORDS, out, SGB_MAX_WORDS), out);
 
     /* the right side of the equality is a predicate */
     const uint32_t broken[] = {852, 1, 9, 101, 2, 0, 610};

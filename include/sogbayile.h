@@ -46,7 +46,7 @@ enum {
                                  one is needed; or a tag 2 in a named row; the lower 32 bits are the position */
     SGB_NOT_QUANTIFIED = 3,   /* fill or prune of what is not 851, 852, 861 or 862 */
     SGB_BAD_NAMES = 4,        /* a name listed twice, a name over 65,535, over 32 names */
-    SGB_BAD_COUNT = 5,        /* another number of places than of declarations; a set for over 32 declarations */
+    SGB_BAD_COUNT = 5,        /* more places than declarations; over 32 declarations, for a set or a check of places */
     SGB_CAPTURE = 6,          /* a dangling index would come below its depth */
     SGB_OUTSIDE_LIMITS = 7,   /* a result outside the row limits */
     SGB_NOTHING_TO_DO = 9,    /* nothing to rewrite */
@@ -76,7 +76,7 @@ uint64_t sgb_check_expression(const uint32_t *row, size_t row_len);
 uint64_t sgb_check_predicate(const uint32_t *row, size_t row_len);
 
 /* Whether a row is a list: of names (1, 4); of a name and an expression in turn (1, 2, 4); of 0, or 1 and an
- * expression, for each of n declarations (1, 2, 5). */
+ * expression, for each of n declarations, of which places may be missing at the end (1, 2, 5). */
 uint64_t sgb_check_names(const uint32_t *row, size_t row_len);
 uint64_t sgb_check_pairs(const uint32_t *row, size_t row_len);
 uint64_t sgb_check_places(const uint32_t *row, size_t row_len, uint32_t n);
@@ -104,7 +104,8 @@ uint64_t sgb_bind(const uint32_t *names, size_t names_len, const uint32_t *row, 
                   uint32_t *out, size_t out_len);
 
 /* For each declaration of the quantified predicate the list has 0 (it is kept, with its annotation), or 1 and the
- * expression that is put for it. 15, 1, 2, 3, 5, 7, 14. */
+ * expression that is put for it. Declarations whose places are missing at the end of the list are kept.
+ * 15, 1, 2, 3, 5, 7, 14. */
 uint64_t sgb_fill(const uint32_t *list, size_t list_len, const uint32_t *row, size_t row_len,
                   uint32_t *work, size_t work_len, uint32_t *out, size_t out_len);
 

@@ -567,6 +567,14 @@ def answered(oracle, lines):
     return out
 
 
+def whole_lists(oracle, pairs):
+    """Lines are chosen by what the Rust does with them as they are. Where it panics because places are missing, the answer is the Rust's to
+    the list with them."""
+    short = [l for l, _ in pairs if compare.with_all_places(l) != l]
+    there = dict(zip(short, compare.ask([oracle], [compare.with_all_places(l) for l in short])))
+    return [(l, compare.expected(l, there[l]) if l in there else w) for l, w in pairs]
+
+
 def choose(pairs, each):
     """The line that adds most new traits for its length, as long as one does; then the shortest with a new set of traits."""
     pairs = sorted(pairs, key=lambda p: (len(p[0]) + len(p[1]), p))
@@ -611,7 +619,7 @@ def main():
         kept, n, cover = choose(pairs, o.each * (3 if cmd in ("point", "member") else 2) // 2)
         say("%-7s %6d candidates, %4d traits covered by %4d, %4d lines:" % (cmd, len(pairs), n, cover, len(kept)),
             dict(sorted(collections.Counter(w if w.startswith("[no ") else "form" for _, w in kept).items())))
-        out += kept
+        out += whole_lists(o.oracle, kept)
     whole = [l.rstrip("\n").split("\t") for l in open("cases.txt")]
     whole = [(l, w) for l, w in whole if l[1:].split(" ")[0] in commands]
     say("whole cases of document 01:", len(whole))

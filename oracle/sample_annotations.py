@@ -261,7 +261,7 @@ def main():
         small_lines[line[1:].split(" ", 1)[0]].append(line)
     more = [l for c in COMMANDS for l in list(candidates(c)) + small_lines[c][::7] if "[86" in l or "[87" in l]
     lines = list(dict.fromkeys(lines + more + list(borders())))
-    asked = [l.replace("[point ", "[pointd ", 1).replace("[member ", "[memberd ", 1) for l in lines]
+    asked = [compare.with_all_places(l).replace("[point ", "[pointd ", 1).replace("[member ", "[memberd ", 1) for l in lines]
     counts, answers = collections.Counter(), {}
     for line, rust in zip(lines, compare.ask([o.oracle], asked)):
         mine = model.answer(line)

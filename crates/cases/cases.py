@@ -1,5 +1,5 @@
 #!/usr/bin/env python3
-"""The library cases and what documents 01 and 02 (Papers 1, 4 and 8) answer to them.
+"""The library cases and what documents 01 and 02 (Papers 1, 2, 4 and 8) answer to them.
 
   cases.py stdin  > stdin     the cases, as src/main.rt describes them
   cases.py stdout > stdout    what must be printed, from the model below
@@ -413,6 +413,21 @@ def entries(ws, kind):
     return out
 
 
+def all_places(places, n):
+    """5 for more places than the n declarations; places that are missing at the end count as kept."""
+    if len(places) > n:
+        raise No(5)
+    return places + [None] * (n - len(places))
+
+
+def check_places(ws, n):
+    """1, 2 and 5 of a list of places for n declarations."""
+    places = entries(ws, "places")
+    if n > DECLARATIONS:
+        raise No(5)
+    all_places(places, n)
+
+
 def good_names(names):
     if len(names) > 32 or len(set(names)) < len(names) or any(x > 65535 for x in names):
         raise No(4)
@@ -452,9 +467,7 @@ def call(op, out, work, by, lst, row):
         raise No(3)
     n = len(f[2])
     if op == "fill":
-        if len(places) != n:
-            raise No(5)
-        return finish(fill(f, places), out, s)
+        return finish(fill(f, all_places(places, n)), out, s)
     used = dangling(f[3][0])
     places = [None if n - 1 - j in used else (3, [0], [], []) for j in range(n)]
     if all(p is None for p in places):
@@ -576,7 +589,7 @@ def cases():
     yield one("fill, 3 before 5", "fill", "610", "0", 3, enough)
     yield one("fill, 3", "fill", "610", "", 3, enough)
     yield one("fill, a list of 8193 words", "fill", fill_row, "8193*0", 3, enough)
-    yield one("fill, 5 with fewer places", "fill", fill_row, "0", 0, enough)
+    yield one("fill, fewer places, output 0", "fill", fill_row, "0", 0, enough)
     yield one("fill, 5 with more places", "fill", fill_row, "0 0 0", 0, enough)
     yield one("fill, 7 before 14", "fill", "852 2 4 5 9 2 0", "0 1 2 65535", 0, enough)
     yield one("prune, 3", "prune", "8 852 1 4 610", "", 3)
@@ -662,7 +675,7 @@ def cases():
         for out in (0, length - 1, length, length + 1, length + 4):
             yield one("annotated %s, output %d" % (name, out), op, row, lst, out, enough, by)
     # one annotation, which falls with its declaration: the old tag; the annotations of kept declarations stay as they are
-    for name, lst in [("its declaration falls", "1 1 5 0"), ("the other falls", "0 1 1 5"), ("none falls", "0 0"), ("both fall", "1 2 0 1 2 1"), ("5, fewer places", "0"), ("5, more places", "0 0 0")]:
+    for name, lst in [("its declaration falls", "1 1 5 0"), ("the other falls", "0 1 1 5"), ("none falls", "0 0"), ("both fall", "1 2 0 1 2 1"), ("fewer places", "0"), ("5, more places", "0 0 0")]:
         yield one("fill annotated, %s" % name, "fill", "862 2 4 1 2 0 5 0 101 2 0 2 1", lst, 20, enough)
         yield one("fill annotated for all, %s" % name, "fill", "861 2 4 1 2 1 5 0 862 1 6 1 2 1 101 2 0 2 2", lst, 20, enough)
     yield one("fill annotated, into an annotation", "fill", "852 2 4 5 861 1 6 1 2 0 101 2 1 2 2", "0 1 873 0 1 7 1 2 0 610 2 1", 40, enough)
@@ -753,9 +766,37 @@ def cases():
             ("room for a name", "10 8189 8188*401 1 4"), ("an index where there is room", "10 8189 8188*401 2 4")]:
         yield one("named, breaks: %s" % name, "named", row, "", 3)
 
+    # lists with a place less than declarations, as many and one more: all kept, all filled, the first or the last one filled
+    kept = lambda k: "%d*0" % k if k > 0 else ""
+    for n in (1, 2, 31, 32):
+        row = "852 %d %d*4 101 2 %d 2 %d" % (n, n, n - 1, n)
+        for k in (n - 1, n, n + 1):
+            for name, lst in [("all kept", kept(k)), ("all filled", "1 401 " * k), ("the first filled", "1 401 " + kept(k - 1)), ("the last filled", kept(k - 1) + " 1 2 0")][:4 if k else 1]:
+                yield one("fill, %d for %d declarations, %s" % (k, n, name), "fill", row, lst, len(w(row)) + 1, enough)
+    # no place at all, and one of two, with output rows one short, as long and longer
+    two, noted_first, noted_last = "852 2 4 5 101 2 1 2 2", "862 2 4 1 2 0 5 0 101 2 0 2 1", "862 2 4 0 5 1 2 0 101 2 0 2 1"
+    for name, row, lst, length in [("no place", two, "", 9), ("the first of two", two, "1 1 5", 8), ("no place, annotated", noted_first, "", 13), ("the first of two, annotated", noted_last, "1 1 5", 11),
+                                   ("the first of two, the old tag", noted_first, "1 1 5", 8)]:
+        for out in (0, length - 1, length, length + 3):
+            yield one("fill, %s, output %d" % (name, out), "fill", row, lst, out, enough)
+    # 15, the list's 1 and 2, 3, 5, 7 and 14 with short lists
+    yield one("fill, no place, 15", "fill", two, "", 9, 16383)
+    yield one("fill, three for two, the list's 2 before 5", "fill", two, "0 0 0 1", 9, enough)
+    yield one("fill, no place, 3", "fill", "9 803 0 2 4 5 610 2 0", "", 9, enough)
+    yield one("fill, one of two places, 7 before 14", "fill", "852 2 4 5 9 2 1", "1 2 65535", 0, enough)
+    yield one("fill, one of two places, an index of 65535", "fill", "852 2 4 5 9 2 1", "1 2 65534", 6, enough)
+    # the check of a list of places for n declarations
+    for n in (0, 1, 2, 31, 32, 33, 4294967295):
+        for k in sorted({0, 1, 33} | {j for j in (n - 1, n, n + 1) if 0 <= j <= 34}):
+            yield one("check of %d places for %d" % (k, n), "places", kept(k), "", 0, 0, n)
+    for name, lst, n in [
+            ("filled", "1 1 5 0 1 2 0", 3), ("filled, one missing", "1 1 5 0 1 2 0", 4), ("5, filled", "1 1 5 0 1 2 0", 2), ("1", "8193*0", 2), ("8192 places", "8192*0", 32), ("2, no flag", "0 2", 2), ("2, no expression", "0 1", 2),
+            ("2, a predicate", "1 610", 1), ("2 before 5", "0 0 0 3", 2), ("2 before 5 by n", "3", 33), ("1 before 5", "8193*0", 33)]:
+        yield one("check of places, %s" % name, "places", lst, "", 0, 0, n)
+
 
 # the numbers of the commands, and of the calls that are no command's
-OTHERS = ["dangling", "lift", "new", "forced"]
+OTHERS = ["dangling", "lift", "new", "forced", "places"]
 NUMBERS = {**{op: i + 1 for i, op in enumerate(COMMANDS)}, **{op: i + 101 for i, op in enumerate(OTHERS)}}
 SIGNS = {-1: 1, -2: 2, -2147483648: 3}
 
@@ -774,6 +815,12 @@ def expected(case):
     if op == "lift":
         part = lift(w(row), by, work)
         return "%s: %d |%s" % (name, len(part), say(part))
+    if op == "places":
+        try:
+            check_places(w(row), by)
+            return "%s: 0 0" % name
+        except No as x:
+            return "%s: %d %d" % (name, x.k, x.p)
     if op in ("new", "forced"):
         said, n, filled = offers(by, op == "forced", [w(r) for r in row.split("/")] if row else [])
         return "%s:%s | %d |%s" % (name, say(said), n, "".join(say(p) for p in filled))

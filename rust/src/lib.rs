@@ -28,7 +28,7 @@ pub enum Refusal {
     NotQuantified,
     /// a name listed twice, a name over 65,535, over 32 names
     BadNames,
-    /// another number of places than of declarations; a set for over 32 declarations
+    /// more places than declarations; over 32 declarations, for a set or a check of places
     BadCount,
     /// a dangling index would come below its depth
     Capture,
@@ -178,7 +178,7 @@ pub fn check_pairs(row: &[u32]) -> Result<(), Refusal> {
     done(unsafe { c::sgb_check_pairs(row.as_ptr(), row.len()) })
 }
 
-/// Whether the row is a list of places for so many declarations: 0, or 1 and an expression, for each.
+/// Whether the row is a list of places for so many declarations: 0, or 1 and an expression, for each. Places may be missing at its end.
 pub fn check_places(row: &[u32], count: u32) -> Result<(), Refusal> {
     done(unsafe { c::sgb_check_places(row.as_ptr(), row.len(), count) })
 }
@@ -224,7 +224,8 @@ pub fn bind(names: &[u32], row: &[u32], out: &mut [u32]) -> Result<usize, Refusa
     length(unsafe { c::sgb_bind(names.as_ptr(), names.len(), row.as_ptr(), row.len(), out.as_mut_ptr(), out.len()) })
 }
 
-/// Puts the expressions of the list (0, or 1 and an expression, for each declaration) for the declarations.
+/// Puts the expressions of the list (0, or 1 and an expression, for each declaration) for the declarations. Declarations whose
+/// places are missing at the end of the list are kept.
 pub fn fill(list: &[u32], row: &[u32], work: &mut [u32], out: &mut [u32]) -> Result<usize, Refusal> {
     length(unsafe {
         c::sgb_fill(

@@ -81,6 +81,21 @@ fn named_forms() {
 }
 
 #[test]
+fn short_place_lists() {
+    let two = [852, 2, 4, 5, 101, 2, 1, 2, 2];
+    let (mut work, mut out) = (vec![OLD; WORK_WORDS], [OLD; 9]);
+    assert_eq!(sogbayile::fill(&[1, 1, 5], &two, &mut work, &mut out), Ok(8));
+    assert_eq!(out, [852, 1, 5, 101, 1, 5, 2, 1, OLD]);
+    assert_eq!(sogbayile::fill(&[], &two, &mut work, &mut out), Ok(9));
+    assert_eq!(out, two);
+    let mut out = [OLD; 9];
+    assert_eq!(sogbayile::fill(&[0, 0, 0], &two, &mut work, &mut out), Err(Refusal::BadCount));
+    assert_eq!(sogbayile::fill(&[], &two, &mut work, &mut out[..8]), Err(Refusal::OutShort));
+    assert_eq!(sogbayile::fill(&[], &[610], &mut work, &mut out), Err(Refusal::NotQuantified));
+    assert_eq!(out, [OLD; 9]);
+}
+
+#[test]
 fn the_parts_of_lift() {
     let closed = [1, 7];
     let mut work = [OLD; 9];
@@ -119,7 +134,11 @@ fn checks() {
     assert_eq!(sogbayile::check_pairs(&[4, 1, 7]), Ok(()));
     assert_eq!(sogbayile::check_pairs(&[4]), Err(Refusal::NotAForm(1)));
     assert_eq!(sogbayile::check_places(&[0, 1, 1, 7], 2), Ok(()));
-    assert_eq!(sogbayile::check_places(&[0, 1, 1, 7], 3), Err(Refusal::BadCount));
+    assert_eq!(sogbayile::check_places(&[0, 1, 1, 7], 3), Ok(()));
+    assert_eq!(sogbayile::check_places(&[], 32), Ok(()));
+    assert_eq!(sogbayile::check_places(&[0, 1, 1, 7], 1), Err(Refusal::BadCount));
+    assert_eq!(sogbayile::check_places(&[], 33), Err(Refusal::BadCount));
+    assert_eq!(sogbayile::check_places(&[0, 0, 2], 1), Err(Refusal::NotAForm(2)));
 }
 
 #[test]

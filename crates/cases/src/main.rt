@@ -2,7 +2,8 @@
 //
 // A case is: name; and then in words the call, the length of the output row, the length of the work row, the parameter, its sign, the
 // number of words of the list, the list, the row. A space ends each word, which may stand behind how often it is repeated and a star. The
-// call is a command's number, or 101 dangling, 102 lift, 103 a new set of places, 104 a set that no constructor makes.
+// call is a command's number, or 101 dangling, 102 lift, 103 a new set of places, 104 a set that no constructor makes,
+// 105 the check of a list of places, which is the row.
 // The rows that are offered to a set stand in the row, each behind the number of its words. The sign is 1, 2 or 3 for the offsets -1, -2
 // and -2147483648. The output row holds 88 everywhere before the call and the work row 77. What is printed: the name, document 01's number,
 // the length of an answer or the position of a refusal, and every word of the output row. For lift it is the part that it answers; for a set
@@ -104,6 +105,7 @@ fn run_words(words: &[u32]) {
         102 => lift_fresh(row, w, param),
         103 => place_sets::run(row, Replacements::new(param as usize)),
         104 => place_sets::run(row, place_sets::forced(param as usize)),
+        105 => print::answer(reader::lists::check_places(row, param)),
         _ => run_fresh(
             call,
             offset(param, word_at(words, 4)),

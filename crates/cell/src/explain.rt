@@ -62,7 +62,7 @@ fn explain(k: u32) -> bool {
             b"4: A list has a name twice, a name over 65,535, or over 32 names.\nLook at the names of the list.\n",
         ),
         5 => say(
-            b"5: A fill has another number of places than the form has declarations, or a set of places is for over 32 declarations.\nCount the places and the declarations.\n",
+            b"5: A fill has more places than the form has declarations, or a set of places is for over 32 declarations.\nCount the places and the declarations; fewer places are no fault, since those that are missing at the end count as kept.\n",
         ),
         6 => say(
             b"6: The shift would bring a dangling index below its depth, and a declaration would capture it.\nLook at the lowest dangling index: the offset may take it to 0 and no lower.\n",

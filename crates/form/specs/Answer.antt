@@ -3,7 +3,7 @@ use mathlib.Core.Bool.{Bool, true, false, _&&_}
 use mathlib.Core.List.{List, [], _++_, map}
 use mathlib.Core.Option.{Option, none as absent, some}
 use Prim.Native.Nat.{ℕ}
-use lib.Dec.{leb, eqb}
+use lib.Dec.{leb}
 use lib.ListN.{length, drop}
 use Rattle.tree.specs.Form.{Form, pick, encode}
 use Rattle.tree.specs.Tag.{Sort}
@@ -71,7 +71,7 @@ isOne = elim [ one f ↦ true | not-one ↦ false ]
 unfoldable pub finish : Sort → ℕ → Form → Outcome
 finish s room g = needs 7 (isOne (rowForm s (encode g))) (needs 14 (leb (length (encode g)) room) (answer (encode g)))
 
--- the checks: of a form, and of the three lists (4 for the names, 5 for the number of places)
+-- the checks: of a form, and of the three lists (4 for the names, 5 for more places than declarations, or over 32 of these)
 unfoldable pub checkOutcome : Kind → List ℕ → Outcome
 checkOutcome kind row = withForm kind row (λ s f. answer [])
 
@@ -82,4 +82,4 @@ unfoldable pub pairsOutcome : List ℕ → Outcome
 pairsOutcome row = withList Pairs row (λ es. needs 4 (goodNames (map wordOf es)) (answer []))
 
 unfoldable pub placesOutcome : ℕ → List ℕ → Outcome
-placesOutcome n row = withList Places row (λ es. needs 5 (leb n 32 && eqb (length es) n) (answer []))
+placesOutcome n row = withList Places row (λ es. needs 5 (leb n 32 && leb (length es) n) (answer []))

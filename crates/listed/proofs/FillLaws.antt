@@ -1,30 +1,32 @@
 -- Fill on rows is fill on trees. Assumes nothing.
 use mathlib.Core.Path.{_≡_, refl, ap, sym, _∙_}
 use mathlib.Core.Bool.{Bool, true, false}
-use mathlib.Core.List.{List, [], _∷_, _++_, map}
+use mathlib.Core.List.{List, [], _∷_, _++_, map, map-append}
 use mathlib.Core.Option.{none as absent, some}
 use Prim.Native.Nat.{ℕ, zero, suc, _+_, _-_, _≤_, _<_}
 use native.Mathlib.Omega.{arith}
-use borrow.Author.Tests.{eq-eqb, ne-eqb, lt-ltb, le-ltb}
-use lib.Dec.{eqb, ltb}
-use lib.ListN.{length, getD, take, drop, replicate, length-map, length-drop, take-append-drop}
+use borrow.Author.Tests.{le-leb, lt-leb, leb-true, leb-false, lt-ltb, le-ltb}
+use lib.Dec.{leb, ltb}
+use lib.ListN.{length, getD, take, drop, replicate, length-append, length-map, length-drop, length-replicate, List·getD-append, take-append-drop}
+use lib.Seq.{getD-append-add}
 use Rattle.tree.specs.Form.{Form, pick, encode}
 use Rattle.tree.specs.Tag.{Sort, pred}
 use Rattle.form.specs.Break.{breakAt, breakList}
 use Rattle.form.specs.Decode.{rowForm, missing, formOf}
 use Rattle.form.specs.Lists.{Place, kept, filled, Entry, entry, wordOf, placeOf, listOf}
 use Rattle.form.specs.Answer.{Outcome, refusal, needs, isOne, finish, stop}
-use Rattle.reader.specs.Internal.Reads.{mark, markEntries, emptyTable, tabled, Listing}
+use Rattle.reader.specs.Internal.Reads.{mark, markEntries, tableOf, emptyTable, tabled, Listing}
 use Rattle.form.specs.declared.answer.Kind.the-variants.{Predicate}
 use Rattle.form.specs.declared.answer.ListKind.the-variants.{Places}
 use Rattle.reader.specs.declared.lists.Table.{Table}
 use Rattle.form.proofs.DecodeLaws.{clash, Ok}
 use Rattle.form.proofs.RowLaws.{row-encode}
 use Rattle.form.proofs.ListLaws.{GoodAll, list-sound}
-use Rattle.reader.proofs.TableLaws.{listed-words, listed-n, rows-n, listing-yes}
+use Rattle.reader.proofs.TableLaws.{rows-n, listing-yes}
 use Rattle.shift.proofs.CheckedLaws.{Checked}
 use Rattle.rules.specs.Walk.{subst}
-use Rattle.rules.specs.Fill.{unnoted, quantified, ofQuantified, keptDecls, fillFor, fill, fillOutcome}
+use Rattle.rules.specs.Fill.{unnoted, quantified, ofQuantified, keptDecls, fillFor, fill, placesFor, fillOutcome}
+use Rattle.rules.proofs.ReplicateLaws.{replicate-at, map-replicate}
 use Rattle.shift.specs.Internal.Items.{items, rewritten}
 use Rattle.shift.proofs.RowLaws.{itemsOf, marksOf, only-mark}
 use Rattle.shift.proofs.AroundLaws.{headOf, body-items, Quant, quant-of}
@@ -35,9 +37,9 @@ use Rattle.decls.proofs.CountLaws.{quant-good, body-start}
 use Rattle.decls.proofs.HeadLaws.{quantHead, encode-head}
 use Rattle.decls.proofs.RowHeads.{plain-start, plain-head, noted-row-head, no-quant, the-quant, the-count}
 use Rattle.listed.specs.Internal.Listed.{plainRow, notedRow, filledRow}
-use Rattle.replace.proofs.EntryLaws.{PlaceAt, listed-places, listed-in-row, listed-full}
+use Rattle.replace.proofs.EntryLaws.{PlaceAt, listed-words-for, listed-places, listed-in-row, listed-full}
 use Rattle.replace.proofs.BuildLaws.{emit-sure}
-use Rattle.replace.proofs.InsideLaws.{SmallPlaces, some-deep, filled-body}
+use Rattle.replace.proofs.InsideLaws.{SmallPlaces, some-deep, small-append, filled-body}
 use Rattle.replace.proofs.SmallLaws.{LeavesBy, listed-small}
 use Rattle.listed.proofs.CallLaws.{call-small, call-long, call-missing, call-list-long, call-no-list, call-read}
 use Rattle.replace.proofs.FillTree.{wordFor, fill-tree}
@@ -123,7 +125,7 @@ module _ (m : ℕ) (f : Form) (d : ℕ) (o : Ok (suc d) pred f) (deep : d + m �
 
 -- the whole call
 abbrev fillGo : ℕ → Sort → Form → List Entry → Outcome
-fillGo room s f es = ofQuantified (λ t ns b. needs 5 (eqb (length es) (length ns)) (finish pred room (fill t ns (map placeOf es) b))) 3 (quantified f)
+fillGo room s f es = ofQuantified (λ t ns b. needs 5 (leb (length es) (length ns)) (finish pred room (fill t ns (placesFor (length ns) es) b))) 3 (quantified f)
 
 module _ (list row : List ℕ) (wl room : ℕ) where
   pub fill-small : wl < 16384 → fillOutcome list row wl room ≡ refusal 15
@@ -154,7 +156,7 @@ module _ (list row : List ℕ) (wl room : ℕ) where
         fill-read es o = call-read Predicate Places (fillGo room) list row wl enough m x short es o
 
         fill-counted : (es : List Entry) → listOf Places list ≡ some es → (q : Quant 63 (x .form))
-            → fillOutcome list row wl room ≡ needs 5 (eqb (length es) (length (q .decls))) (finish pred room (fill (q .op) (q .decls) (map placeOf es) (q .body)))
+            → fillOutcome list row wl room ≡ needs 5 (leb (length es) (length (q .decls))) (finish pred room (fill (q .op) (q .decls) (placesFor (length (q .decls)) es) (q .body)))
         fill-counted es o q = fill-read es o ∙ rw (q .is)
 
         module _ (a b : List ℕ) (t : Table) (ok : Bool) (h : Listing (listOf Places list) emptyTable t a b ok) (y : ok ≡ true) (n : ℕ) (e : n ≡ countIn row) where
@@ -166,88 +168,132 @@ module _ (list row : List ℕ) (wl room : ℕ) where
               go : (es : List Entry) → listOf Places list ≡ some es → fillOutcome list row wl room ≡ refusal 3
               go es o = fill-read es o ∙ rw (no-quant row m (length row) x n e z)
 
-          pub fill-count : (n ≡ 0 → ⊥) → (t .n ≡ n → ⊥) → fillOutcome list row wl room ≡ refusal 5
-          fill-count z c =
+          pub fill-more : (n ≡ 0 → ⊥) → n < t .n → fillOutcome list row wl room ≡ refusal 5
+          fill-more z c =
               let (es, o, u, k) = listing-yes _ _ _ _ _ _ h y in
               go es o u
             where
               go : (es : List Entry) → listOf Places list ≡ some es → t ≡ tabled es 0 emptyTable → fillOutcome list row wl room ≡ refusal 5
               go es o u =
                   let q = the-quant row m (length row) x n e z in
-                  let d : length es ≡ length (q .decls) → ⊥ = λ r. c (rows-n es t u ∙ (r ∙ sym (the-count row m (length row) x n e q))) in
-                  fill-counted es o q ∙ rw (ne-eqb (length es) (length (q .decls)) d)
+                  let r = rows-n es t u in
+                  let k = the-count row m (length row) x n e q in
+                  fill-counted es o q ∙ rw (lt-leb (length es) (length (q .decls)) (omega arith))
 
 -- the places of a list
+place-listed : (n : ℕ) (es : List Entry) (i : ℕ) → i < length es → getD (placesFor n es) i kept ≡ getD (map placeOf es) i kept
+place-listed n es i h = List·getD-append (map placeOf es) _ kept i (rw length-map h)
+
+place-past : (n : ℕ) (es : List Entry) (i : ℕ) → length es ≤ i → getD (placesFor n es) i kept ≡ kept
+place-past n es i h =
+    let l = length-map es placeOf in
+    let k : length (map placeOf es) + (i - length es) ≡ i = omega arith in
+    ap (λ z. getD (placesFor n es) z kept) (sym k) ∙ (getD-append-add (map placeOf es) _ (i - length es) kept ∙ replicate-at (n - length es) (i - length es) kept)
+
+small-kept : (m k : ℕ) → SmallPlaces m (replicate k kept)
+small-kept m zero = tt
+small-kept m (suc k) = (tt, small-kept m k)
+
 place-words : (es : List Entry) → GoodAll Places es → map wordOf es ≡ map wordFor (map placeOf es)
 place-words [] g = refl
 place-words (entry w kept ∷ es) g = rw (g .0, place-words es (g .1))
 place-words (entry w (filled x) ∷ es) g = rw (g .0 .0, place-words es (g .1))
 
+-- a table taken for n declarations: behind the entries its words are 0, so these places are kept
+abbrev counted : ℕ → Table → Table
+counted n t = tableOf n (t .words) (t .starts) (t .ends)
+
 pub record Placing (list : List ℕ) (t : Table) (work : List ℕ) (n : ℕ) : Type 0 where
   pub es : List Entry
   pub is : listOf Places list ≡ some es
-  pub count : length es ≡ n
+  pub enough : length es ≤ n
   pub table : t ≡ tabled es 0 emptyTable
   pub marks : take (length list) (drop 8192 work) ≡ markEntries es 0 (replicate (length list) 0)
 
-pub placing : (list work : List ℕ) (t : Table) (ok : Bool) (n : ℕ) → Listing (listOf Places list) emptyTable t (replicate (length list) 0) (take (length list) (drop 8192 work)) ok → ok ≡ true → t .n ≡ n → Placing list t work n
+pub placing : (list work : List ℕ) (t : Table) (ok : Bool) (n : ℕ) → Listing (listOf Places list) emptyTable t (replicate (length list) 0) (take (length list) (drop 8192 work)) ok → ok ≡ true → t .n ≤ n → Placing list t work n
 placing list work t ok n h y c =
     let (es, o, u, k) = listing-yes _ _ _ _ _ _ h y in
-    record { es = es; is = o; count = sym (rows-n es t u) ∙ c; table = u; marks = k }
+    let r = rows-n es t u in
+    record { es = es; is = o; enough = omega arith; table = u; marks = k }
+
+-- the places of n declarations, their number and their words
+module _ (n : ℕ) (es : List Entry) (enough : length es ≤ n) where
+  places-count : length (placesFor n es) ≡ n
+  places-count = rw (length-append, length-map, length-replicate) (omega arith)
+
+  places-words : GoodAll Places es → n ≤ 32 → take n (tabled es 0 emptyTable .words) ≡ map wordFor (placesFor n es)
+  places-words g most = rw (listed-words-for es n enough most, place-words es g, map-append, map-replicate)
 
 module _ (list : List ℕ) (t : Table) (work : List ℕ) (n : ℕ) (y : Placing list t work n) (few : n ≤ 32) where
-  table-n : t .n ≡ length (y .es)
-  table-n = rows-n (y .es) t (y .table)
-
   es-few : length (y .es) ≤ 32
-  es-few = let c = y .count in omega arith
+  es-few = let c = y .enough in omega arith
 
-  places-in-row : InRow (fillPlan t) (length list)
+  places-in-row : InRow (fillPlan (counted n t)) (length list)
   unfolding InRow
-  places-in-row i h = rw (y .table) (listed-in-row Places list (y .es) (y .is) es-few i (let c = table-n in omega arith))
+  places-in-row i h = rw (y .table) (listed-in-row Places list (y .es) (y .is) es-few i)
 
-  pub places-ready : 8192 + length list ≤ length work → Ready (fillPlan t) list (drop 8192 work)
+  pub places-ready : 8192 + length list ≤ length work → Ready (fillPlan (counted n t)) list (drop 8192 work)
   places-ready h =
       let f = listed-full (y .es) t (y .table) in
-      record { tabled = record { few = (let c = table-n in let d = es-few in omega arith); words = f .0; starts = f .1; ends = f .2 }; in-row = places-in-row; marked = rw length-drop (omega arith) }
+      record { tabled = record { few = few; words = f .0; starts = f .1; ends = f .2 }; in-row = places-in-row; marked = rw length-drop (omega arith) }
 
   module _ (row : List ℕ) (wl room : ℕ) (enough : 16384 ≤ wl) (short : length list ≤ 8192) (row-short : length row ≤ 8192) (x : Checked Predicate row (take (length row) work) (length row))
       (e : n ≡ countIn row) (z : n ≡ 0 → ⊥) where
     q : Quant 63 (x .form)
     q = the-quant row (take (length row) work) (length row) x n e z
 
-    ps-count : length (map placeOf (y .es)) ≡ length (q .decls)
-    ps-count = length-map (y .es) placeOf ∙ (y .count ∙ the-count row (take (length row) work) (length row) x n e q)
+    abbrev ps : List Place
+    ps = placesFor n (y .es)
+
+    decls-count : n ≡ length (q .decls)
+    decls-count = the-count row (take (length row) work) (length row) x n e q
+
+    ps-count : length ps ≡ length (q .decls)
+    ps-count = places-count n (y .es) (y .enough) ∙ decls-count
 
     row-marks : take (length (encode (x .form))) work ≡ mark (x .form) 0 0 (replicate (length (encode (x .form))) 0)
     row-marks = rw (x .words) at (x .marks)
 
-    fill-said : fillOutcome list row wl room ≡ finish pred room (fill (q .op) (q .decls) (map placeOf (y .es)) (q .body))
-    fill-said = fill-counted list row wl room enough (take (length row) work) x short (y .es) (y .is) q ∙ rw (eq-eqb (length (y .es)) (length (q .decls)) (sym (length-map (y .es) placeOf) ∙ ps-count))
+    fill-said : fillOutcome list row wl room ≡ finish pred room (fill (q .op) (q .decls) ps (q .body))
+    fill-said =
+        let h = y .enough in
+        fill-counted list row wl room enough (take (length row) work) x short (y .es) (y .is) q ∙ rw (← decls-count, le-leb (length (y .es)) n h)
 
+    -- the depth of the expressions is measured by the entries alone
     module _ (d : ℕ) (left : LeavesBy (t .starts) (t .ends) (t .n) list d) (b : Bool) (shallow : b ≡ true → Ok d (x .sort) (x .form)) where
       abbrev result : Form
-      result = fill (q .op) (q .decls) (map placeOf (y .es)) (q .body)
+      result = fill (q .op) (q .decls) ps (q .body)
+
+      small-all : 0 < d → SmallPlaces (64 - d) ps
+      small-all h = small-append (64 - d) (map placeOf (y .es)) _ (listed-small Places list (y .es) (y .is) es-few d (rw (y .table) at left) h) (small-kept (64 - d) (n - length (y .es)))
+
+      placed : (i : ℕ) → i < length ps → PlaceAt (Unit {0}) list (drop 8192 work) (getD (tabled (y .es) 0 emptyTable .starts) i 0) (getD (tabled (y .es) 0 emptyTable .ends) i 0) (getD ps i kept)
+      placed i h = go (leb (length (y .es)) i) refl
+        where
+          go : (c : Bool) → leb (length (y .es)) i ≡ c → PlaceAt (Unit {0}) list (drop 8192 work) (getD (tabled (y .es) 0 emptyTable .starts) i 0) (getD (tabled (y .es) 0 emptyTable .ends) i 0) (getD ps i kept)
+          go true k = rw (place-past n (y .es) i (leb-true (length (y .es)) i k)) tt
+          go false k =
+              let l = leb-false (length (y .es)) i k in
+              rw (place-listed n (y .es) i l) (listed-places Places list (y .es) (y .is) es-few (drop 8192 work) (y .marks) i l)
 
       within : (k : ℕ) → k ≡ d → Ok k pred (x .form) → length (encode result) ≤ 8192 → isOne (rowForm pred (encode result)) ≡ true
       within zero e o l = absurd (let h = some-deep o in omega arith)
       within (suc k) e o l =
           let a = left .most in
-          fill-fits (64 - d) (x .form) k o (omega arith) (form-ok row (take (length row) work) (length row) x) q (map placeOf (y .es)) ps-count (listed-small Places list (y .es) (y .is) es-few d (rw (y .table) at left) (omega arith)) l
+          fill-fits (64 - d) (x .form) k o (omega arith) (form-ok row (take (length row) work) (length row) x) q ps ps-count (small-all (omega arith)) l
 
       fill-within : b ≡ true → length (encode result) ≤ 8192 → isOne (rowForm pred (encode result)) ≡ true
       fill-within s l = within d refl (rw (pred-sort row (x .sort) (x .form) (x .is-found)) at (shallow s)) l
 
-      fill-built : filledRow b list (drop 8192 work) (encode (x .form)) work (tabled (y .es) 0 emptyTable) room ≡ finish pred room result
+      fill-built : filledRow b list (drop 8192 work) (encode (x .form)) work (counted n (tabled (y .es) 0 emptyTable)) room ≡ finish pred room result
       fill-built =
-          filled-tree (x .form) q (tabled (y .es) 0 emptyTable) list (drop 8192 work) (map placeOf (y .es)) (listed-words (y .es) es-few ∙ place-words (y .es) (list-sound Places list (y .es) (y .is) .1))
-          (listed-n (y .es) ∙ sym (length-map (y .es) placeOf))
-          (λ i h. listed-places Places list (y .es) (y .is) es-few (drop 8192 work) (y .marks) i (rw (length-map (y .es) placeOf) at h)) ps-count (form-ok row (take (length row) work) (length row) x) (rw (x .words) at row-short) work row-marks room b fill-within
+          filled-tree (x .form) q (counted n (tabled (y .es) 0 emptyTable)) list (drop 8192 work) ps (places-words n (y .es) (y .enough) (list-sound Places list (y .es) (y .is) .1) few)
+          (sym (places-count n (y .es) (y .enough))) placed ps-count (form-ok row (take (length row) work) (length row) x) (rw (x .words) at row-short) work row-marks room b fill-within
 
-      fill-made : filledRow b list (drop 8192 work) row work t room ≡ finish pred room result
+      fill-made : filledRow b list (drop 8192 work) row work (counted n t) room ≡ finish pred room result
       fill-made =
-          ap (λ (u : Table). filledRow b list (drop 8192 work) row work u room) (y .table)
-          ∙ (ap (λ (r : List ℕ). filledRow b list (drop 8192 work) r work (tabled (y .es) 0 emptyTable) room) (x .words) ∙ fill-built)
+          ap (λ (u : Table). filledRow b list (drop 8192 work) row work (counted n u) room) (y .table)
+          ∙ (ap (λ (r : List ℕ). filledRow b list (drop 8192 work) r work (counted n (tabled (y .es) 0 emptyTable)) room) (x .words) ∙ fill-built)
 
-      pub fill-row : filledRow b list (drop 8192 work) row work t room ≡ fillOutcome list row wl room
+      pub fill-row : filledRow b list (drop 8192 work) row work (counted n t) room ≡ fillOutcome list row wl room
       fill-row = fill-made ∙ sym fill-said

@@ -212,7 +212,7 @@ module _ (list : List ℕ) (t : Table) (work : List ℕ) (y : Pairing list t wor
 
   pub pairs-in-row : InRow (freePlan t) (length list)
   unfolding InRow
-  pairs-in-row i h = rw (y .table) (listed-in-row Pairs list (y .es) (y .is) (y .few) i (let n = listed-n (y .es) in let q = rw (y .table) at h in omega arith))
+  pairs-in-row i h = rw (y .table) (listed-in-row Pairs list (y .es) (y .is) (y .few) i)
 
   module _ (row : List ℕ) (wl room : ℕ) (enough : 16384 ≤ wl) (short : length list ≤ 8192) (x : Checked Either row (take (length row) work) (length row)) where
     row-items : items row work ≡ itemsOf 0 (x .form)

@@ -3,3 +3,4 @@ pub mod ShallowLaws
 pub mod FreeLaws
 pub mod FillLaws
 pub mod TreeLaws
+pub mod NoneLaws

@@ -233,7 +233,7 @@ fn fill_marked(
     )
 }
 
-// Replaces the filled declarations of a quantified predicate by their expressions.
+// Replaces the filled declarations of a quantified predicate by their expressions; those without a place at the list's end are kept.
 pub fn instantiate(list: &[u32], row: &[u32], work: &mut [u32], out: &mut [u32]) -> Answer
     ensures { λ r. ⌜ r ≡ told (fillOutcome (now (list .entry)) (now (row .entry)) (length (now (work .entry))) (length (now (out .entry)))) ⌝ }
     ensures { λ _. ⌜ now (out .exit) ≡ written (fillOutcome (now (list .entry)) (now (row .entry)) (length (now (work .entry))) (length (now (out .entry)))) (now (out .entry)) ⌝ }
@@ -258,8 +258,7 @@ pub fn instantiate(list: &[u32], row: &[u32], work: &mut [u32], out: &mut [u32])
         &mut starts,
         &mut ends,
     );
-    let n = listed.n;
-    let depth = depth_left_by(&starts, &ends, n, list);
+    let depth = depth_left_by(&starts, &ends, listed.n, list);
     let Reading::Taken(sure) = mark_row(row, Kind::Predicate, depth, work) else {
         return Answer::No(2, broken_at(row, Kind::Predicate));
     };
@@ -270,8 +269,10 @@ pub fn instantiate(list: &[u32], row: &[u32], work: &mut [u32], out: &mut [u32])
     if names == 0 {
         return Answer::No(3, 0);
     }
-    if n != names as usize {
+    let n = names as usize;
+    if n < listed.n {
         return Answer::No(5, 0);
     }
+    // Where the list has fewer places, the words of the others are 0: they are kept.
     fill_marked(sure, list, row, n, &words, &starts, &ends, work, out)
 }

@@ -7,7 +7,7 @@ use Prim.Native.Nat.{ℕ, zero, suc, _+_, _≤_, _<_}
 use native.Mathlib.Numerals.{add-one}
 use native.Mathlib.Omega.{arith}
 use borrow.Author.Tests.{le-leb, lt-leb, leb-true, eq-eqb, ne-eqb}
-use lib.Dec.{leb, eqb}
+use lib.Dec.{leb}
 use lib.ListN.{length, getD, take, drop, set, length-set, length-map}
 use lib.Seq.{drop-drop, drop-append-seam, take-suc-set}
 use Rattle.tree.specs.Form.{pick}
@@ -286,12 +286,12 @@ module _ (row : List ℕ) where
     unfolding placesOutcome
     places-none d t e q k = rw (le-leb (length row) 8192 h, listing-no _ _ _ _ _ _ t e, k)
 
-    places-some : (d : ℕ) (es : List Entry) → listOf Places row ≡ some es → u ≡ tabled es 0 emptyTable → (v : Bool) → (leb d 32 && eqb (u .n) d) ≡ v → told (needs 5 v (answer [])) ≡ told (placesOutcome d row)
+    places-some : (d : ℕ) (es : List Entry) → listOf Places row ≡ some es → u ≡ tabled es 0 emptyTable → (v : Bool) → (leb d 32 && leb (u .n) d) ≡ v → told (needs 5 v (answer [])) ≡ told (placesOutcome d row)
     unfolding placesOutcome
     places-some d es o t v e = rw (le-leb (length row) 8192 h, o, ← rows-n es u t, e)
 
     module _ (d : ℕ) (t : Read Places) (e : ok ≡ true) where
-      places-answer : (v : Bool) → (leb d 32 && eqb (u .n) d) ≡ v → told (needs 5 v (answer [])) ≡ told (placesOutcome d row)
+      places-answer : (v : Bool) → (leb d 32 && leb (u .n) d) ≡ v → told (needs 5 v (answer [])) ≡ told (placesOutcome d row)
       places-answer v q =
           let (es, o, t, m) = listing-yes _ _ _ _ _ _ t e in
           places-some d es o t v q
@@ -299,8 +299,8 @@ module _ (row : List ℕ) where
       pub places-over : 32 < d → No 5 0 ≡ told (placesOutcome d row)
       places-over g = places-answer false (rw (lt-leb d 32 g))
 
-      pub places-other : d ≤ 32 → (u .n ≡ d → ⊥) → No 5 0 ≡ told (placesOutcome d row)
-      places-other g o = places-answer false (rw (le-leb d 32 g, ne-eqb (u .n) d o))
+      pub places-more : d ≤ 32 → d < u .n → No 5 0 ≡ told (placesOutcome d row)
+      places-more g o = places-answer false (rw (le-leb d 32 g, lt-leb (u .n) d o))
 
-      pub places-done : d ≤ 32 → u .n ≡ d → Done 0 ≡ told (placesOutcome d row)
-      places-done g o = places-answer true (rw (le-leb d 32 g, eq-eqb (u .n) d o))
+      pub places-done : d ≤ 32 → u .n ≤ d → Done 0 ≡ told (placesOutcome d row)
+      places-done g o = places-answer true (rw (le-leb d 32 g, le-leb (u .n) d o))

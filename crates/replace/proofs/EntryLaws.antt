@@ -7,10 +7,10 @@ use Prim.Native.Nat.{ℕ, zero, suc, _+_, _-_, _≤_, _<_}
 use native.Mathlib.Nat.{zero-add}
 use native.Mathlib.Numerals.{add-one}
 use native.Mathlib.Omega.{arith}
-use borrow.Author.Tests.{lt-leb}
+use borrow.Author.Tests.{lt-leb, leb-true, leb-false}
 use lib.Dec.{leb}
 use lib.ListN.{length, getD, take, drop, set, replicate, length-append, length-set, length-replicate, take-append-drop}
-use lib.Seq.{take-at, drop-at, take-suc-set, getD-take}
+use lib.Seq.{take-at, drop-at, take-add, take-suc-set, drop-set-lt, getD-take, getD-drop}
 use Rattle.tree.specs.Form.{Form, pick, encode}
 use Rattle.form.specs.Lists.{Place, kept, filled, Entry, entry, placeOf, placeWords, entryWords, encodeList, wordOf, listOf}
 use Rattle.reader.specs.Internal.Reads.{markEntries, emptyTable, addRow, tabled}
@@ -18,12 +18,13 @@ use Rattle.form.specs.declared.answer.ListKind.{ListKind}
 use Rattle.form.specs.declared.answer.ListKind.the-variants.{Pairs, Places}
 use Rattle.reader.specs.declared.lists.Table.{Table}
 use Rattle.form.proofs.ListLaws.{Good, GoodAll, list-sound}
-use Rattle.reader.proofs.TableLaws.{row-more, listed-n}
+use Rattle.reader.proofs.TableLaws.{row-more, listed-n, listed-words}
 use Rattle.rules.specs.Walk.{each}
 use Rattle.shift.specs.Internal.Items.{items}
 use Rattle.rules.proofs.LimitLaws.{small, ok-small}
 use Rattle.shift.proofs.RowLaws.{itemsOf, marksOf, items-encode, marks-length}
 use Rattle.replace.specs.Internal.Pieces.{part}
+use Rattle.rules.proofs.ReplicateLaws.{replicate-at, replicate-front, replicate-past}
 use Rattle.replace.proofs.MarkLaws.{marksPlace, marksList, place-length, only-entries}
 
 -- a column of the table, entry by entry
@@ -62,6 +63,36 @@ module _ (col : Table → List ℕ) (val : ℕ → Entry → ℕ)
       let n = listed-n es in
       sym (getD-take (tabled es 0 emptyTable .n) (col (tabled es 0 emptyTable)) i 0 (omega arith)) ∙ ap (λ z. getD z i 0) (listed-take es h l)
 
+  -- behind the entries the column is as it was
+  tabled-rest : (es : List Entry) (at : ℕ) (t : Table) → t .n + length es ≤ 32 → drop (t .n + length es) (col (tabled es at t)) ≡ drop (t .n + length es) (col t)
+  unfolding tabled
+  tabled-rest [] at t h = refl
+  tabled-rest (e ∷ es) at t h =
+      let s = at + length (entryWords e) in
+      let u = addRow t (wordOf e) (at + 1) s in
+      let n = row-more t (wordOf e) (at + 1) s u refl in
+      let v = adds t at e (omega arith) in
+      let k : u .n + length es ≡ t .n + suc (length es) = omega arith in
+      ap (λ z. drop z (col (tabled es s u))) (sym k)
+      ∙ (tabled-rest es s u (omega arith) ∙ (ap (λ z. drop (u .n + length es) z) v ∙ (drop-set-lt (u .n + length es) (col t) (t .n) (val at e) (omega arith) ∙ ap (λ z. drop z (col t)) k)))
+
+  listed-rest : (es : List Entry) → length es ≤ 32 → col emptyTable ≡ replicate 32 0 → drop (length es) (col (tabled es 0 emptyTable)) ≡ drop (length es) (replicate 32 0)
+  unfolding emptyTable
+  listed-rest es h b =
+      let r = tabled-rest es 0 emptyTable (omega arith) in
+      (rw zero-add at r) ∙ ap (λ z. drop (length es) z) b
+
+  listed-past : (es : List Entry) (i : ℕ) → length es ≤ 32 → col emptyTable ≡ replicate 32 0 → length es ≤ i → getD (col (tabled es 0 emptyTable)) i 0 ≡ 0
+  listed-past es i h b past =
+      let k : length es + (i - length es) ≡ i = omega arith in
+      ap (λ z. getD (col (tabled es 0 emptyTable)) z 0) (sym k)
+      ∙ (sym (getD-drop (length es) (col (tabled es 0 emptyTable)) (i - length es) 0)
+      ∙ (ap (λ z. getD z (i - length es) 0) (listed-rest es h b) ∙ (getD-drop (length es) (replicate 32 0) (i - length es) 0 ∙ replicate-at 32 (length es + (i - length es)) 0)))
+
+add-word : (t : Table) (at : ℕ) (e : Entry) → t .n < 32 → addRow t (wordOf e) (at + 1) (at + length (entryWords e)) .words ≡ set (t .words) (t .n) (wordOf e)
+unfolding addRow
+add-word t at e h = rw (lt-leb 32 (t .n) h)
+
 add-start : (t : Table) (at : ℕ) (e : Entry) → t .n < 32 → addRow t (wordOf e) (at + 1) (at + length (entryWords e)) .starts ≡ set (t .starts) (t .n) (start at e)
 unfolding addRow
 add-start t at e h = rw (lt-leb 32 (t .n) h)
@@ -70,14 +101,39 @@ add-end : (t : Table) (at : ℕ) (e : Entry) → t .n < 32 → addRow t (wordOf 
 unfolding addRow
 add-end t at e h = rw (lt-leb 32 (t .n) h)
 
-module _ (es : List Entry) (few : length es ≤ 32) (i : ℕ) (low : i < length es) where
-  pub start-at : getD (tabled es 0 emptyTable .starts) i 0 ≡ getD (column start 0 es) i 0
-  unfolding emptyTable
-  start-at = listed-col (λ t. t .starts) start add-start es i few refl low
+module _ (es : List Entry) (few : length es ≤ 32) (i : ℕ) where
+  module _ (low : i < length es) where
+    pub start-at : getD (tabled es 0 emptyTable .starts) i 0 ≡ getD (column start 0 es) i 0
+    unfolding emptyTable
+    start-at = listed-col (λ t. t .starts) start add-start es i few refl low
 
-  pub end-at : getD (tabled es 0 emptyTable .ends) i 0 ≡ getD (column end 0 es) i 0
+    pub end-at : getD (tabled es 0 emptyTable .ends) i 0 ≡ getD (column end 0 es) i 0
+    unfolding emptyTable
+    end-at = listed-col (λ t. t .ends) end add-end es i few refl low
+
+  -- behind the entries
+  module _ (past : length es ≤ i) where
+    start-past : getD (tabled es 0 emptyTable .starts) i 0 ≡ 0
+    unfolding emptyTable
+    start-past = listed-past (λ t. t .starts) start add-start es i few refl past
+
+    end-past : getD (tabled es 0 emptyTable .ends) i 0 ≡ 0
+    unfolding emptyTable
+    end-past = listed-past (λ t. t .ends) end add-end es i few refl past
+
+-- the words of the first n rows of the table: 0 where there is no entry
+module _ (es : List Entry) (n : ℕ) (few : length es ≤ n) (most : n ≤ 32) where
+  words-past : take (n - length es) (drop (length es) (tabled es 0 emptyTable .words)) ≡ replicate (n - length es) 0
   unfolding emptyTable
-  end-at = listed-col (λ t. t .ends) end add-end es i few refl low
+  words-past =
+      ap (λ z. take (n - length es) z) (listed-rest (λ t. t .words) (λ at e. wordOf e) add-word es (omega arith) refl ∙ replicate-past (length es) 32 0) ∙ replicate-front (n - length es) (32 - length es) 0 (omega arith)
+
+  pub listed-words-for : take n (tabled es 0 emptyTable .words) ≡ map wordOf es ++ replicate (n - length es) 0
+  listed-words-for =
+      let ws = tabled es 0 emptyTable .words in
+      let k : length es + (n - length es) ≡ n = omega arith in
+      let a : take (length es) ws ≡ map wordOf es = ap (λ z. take z ws) (sym (listed-n es)) ∙ listed-words es (omega arith) in
+      ap (λ z. take z ws) (sym k) ∙ (take-add (length es) (n - length es) ws ∙ (ap (λ z. z ++ take (n - length es) (drop (length es) ws)) a ∙ ap (λ z. map wordOf es ++ z) words-past))
 
 -- a table has 32 places
 abbrev pub Full : Table → Type 0
@@ -174,9 +230,14 @@ entry-part (entry w p ∷ es) a b at h (suc i) l =
 
 -- the places of a list that was read, by its table
 module _ (kind : ListKind) (list : List ℕ) (es : List Entry) (is : listOf kind list ≡ some es) (few : length es ≤ 32) where
-  pub listed-in-row : (i : ℕ) → i < length es
-      → (getD (tabled es 0 emptyTable .starts) i 0 ≤ getD (tabled es 0 emptyTable .ends) i 0) × (getD (tabled es 0 emptyTable .ends) i 0 ≤ length list)
-  listed-in-row i h = rw (start-at es few i h, end-at es few i h, list-sound kind list es is .0) (rw zero-add at (spans es 0 i h))
+  pub listed-in-row : (i : ℕ) → (getD (tabled es 0 emptyTable .starts) i 0 ≤ getD (tabled es 0 emptyTable .ends) i 0) × (getD (tabled es 0 emptyTable .ends) i 0 ≤ length list)
+  listed-in-row i = go (leb (length es) i) refl
+    where
+      go : (b : Bool) → leb (length es) i ≡ b → (getD (tabled es 0 emptyTable .starts) i 0 ≤ getD (tabled es 0 emptyTable .ends) i 0) × (getD (tabled es 0 emptyTable .ends) i 0 ≤ length list)
+      go true q = let past = leb-true (length es) i q in rw (start-past es few i past, end-past es few i past) (omega arith, omega arith)
+      go false q =
+          let h = leb-false (length es) i q in
+          rw (start-at es few i h, end-at es few i h, list-sound kind list es is .0) (rw zero-add at (spans es 0 i h))
 
   pub listed-part : (i : ℕ) → i < length es → part (getD (tabled es 0 emptyTable .starts) i 0) (getD (tabled es 0 emptyTable .ends) i 0) list ≡ placeWords (getD (map placeOf es) i kept)
   listed-part i h = rw (start-at es few i h, end-at es few i h, list-sound kind list es is .0) (rw append-nil at (entry-part es [] [] 0 refl i h))

@@ -13,7 +13,7 @@ use Rattle.tree.specs.Form.{Form, pick, encode}
 use Rattle.tree.specs.Tag.{Sort, pred}
 use Rattle.form.specs.Decode.{Whole, one, not-one, rowForm, Found, found, missing, formOf}
 use Rattle.form.specs.Break.{breakAt, breakList}
-use Rattle.form.specs.Lists.{Entry, wordOf, placeOf, listOf, goodNames}
+use Rattle.form.specs.Lists.{Entry, wordOf, listOf, goodNames}
 use Rattle.form.specs.Answer.{Outcome, answer, stop, withForm, ofFound, withList, ofList, needs, isOne, finish}
 use Rattle.form.specs.declared.answer.Kind.{Kind}
 use Rattle.form.specs.declared.answer.Kind.the-variants.{Predicate, Either, Named as NamedRow}
@@ -23,7 +23,7 @@ use Rattle.form.proofs.RowLaws.{found-either, row-one}
 use Rattle.rules.specs.Shift.{shift, ofShifted, shiftOutcome}
 use Rattle.rules.specs.Bind.{bind, bindOutcome}
 use Rattle.rules.specs.Free.{substitute, freeOutcome}
-use Rattle.rules.specs.Fill.{Decl, Quantified, quantifier, other, quantified, ofQuantified, keptCount, fill, fillOutcome}
+use Rattle.rules.specs.Fill.{Decl, Quantified, quantifier, other, quantified, ofQuantified, keptCount, fill, placesFor, fillOutcome}
 use Rattle.rules.specs.Prune.{usedPlaces, prune, pruneOutcome}
 use Rattle.rules.specs.Point.{onePoint, ofResult, pointOutcome}
 use Rattle.rules.specs.Member.{membership, memberOutcome}
@@ -98,7 +98,7 @@ good-fill : (list row : List ℕ) (work room : ℕ) → Good (fillOutcome list r
 unfolding fillOutcome
 good-fill list row work room =
     good-needs 15 (leb 16384 work) _
-    (good-form Predicate row _ (λ s f. good-list Places list _ (λ es. good-quantified _ 3 (quantified f) (λ t ns b. good-needs 5 (eqb (length es) (length ns)) _ (good-finish pred room (fill t ns (map placeOf es) b))))))
+    (good-form Predicate row _ (λ s f. good-list Places list _ (λ es. good-quantified _ 3 (quantified f) (λ t ns b. good-needs 5 (leb (length es) (length ns)) _ (good-finish pred room (fill t ns (placesFor (length ns) es) b))))))
 
 good-prune : (row : List ℕ) (room : ℕ) → Good (pruneOutcome row room)
 unfolding pruneOutcome

@@ -8,5 +8,6 @@ pub mod FrontLaws
 pub mod JoinLaws
 pub mod JoinFill
 pub mod CommandLaws
+pub mod MissingPlaces
 pub mod Starred
 pub mod NamedCases

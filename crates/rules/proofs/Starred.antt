@@ -1,4 +1,5 @@
--- Document 01's starred cases, from row to row: one table, one statement about the definitions. Assumes nothing.
+-- Document 01's starred cases, with Paper 2's lists of one place, of none and of three for two declarations, from row to row: one table, one
+-- statement about the definitions. Assumes nothing.
 use mathlib.Core.Path.{_≡_, refl}
 use mathlib.Core.List.{List, [], _∷_}
 use Prim.Native.Nat.{ℕ}
@@ -36,6 +37,9 @@ cases =
     ∷ run Free (pos 0) (4 ∷ 2 ∷ 0 ∷ []) (852 ∷ 1 ∷ 9 ∷ 101 ∷ 2 ∷ 0 ∷ 1 ∷ 4 ∷ [])
     ∷ run Bind (pos 0) (4 ∷ 5 ∷ []) (101 ∷ 1 ∷ 4 ∷ 2 ∷ 0 ∷ [])
     ∷ run Fill (pos 0) (0 ∷ 1 ∷ 1 ∷ 5 ∷ []) (852 ∷ 2 ∷ 4 ∷ 5 ∷ 101 ∷ 2 ∷ 1 ∷ 2 ∷ 2 ∷ [])
+    ∷ run Fill (pos 0) (1 ∷ 1 ∷ 5 ∷ []) (852 ∷ 2 ∷ 4 ∷ 5 ∷ 101 ∷ 2 ∷ 1 ∷ 2 ∷ 2 ∷ [])
+    ∷ run Fill (pos 0) [] (852 ∷ 2 ∷ 4 ∷ 5 ∷ 101 ∷ 2 ∷ 1 ∷ 2 ∷ 2 ∷ [])
+    ∷ run Fill (pos 0) (0 ∷ 0 ∷ 0 ∷ []) (852 ∷ 2 ∷ 4 ∷ 5 ∷ 101 ∷ 2 ∷ 1 ∷ 2 ∷ 2 ∷ [])
     ∷ run Prune (pos 0) [] (852 ∷ 2 ∷ 4 ∷ 5 ∷ 101 ∷ 2 ∷ 1 ∷ 1 ∷ 7 ∷ [])
     ∷ run Point (pos 0) [] (852 ∷ 1 ∷ 4 ∷ 101 ∷ 2 ∷ 0 ∷ 1 ∷ 7 ∷ [])
     ∷ run Point (pos 0) [] (851 ∷ 1 ∷ 4 ∷ 8 ∷ 101 ∷ 2 ∷ 0 ∷ 1 ∷ 7 ∷ [])
@@ -51,6 +55,9 @@ answers =
     ∷ answer (852 ∷ 1 ∷ 9 ∷ 101 ∷ 2 ∷ 0 ∷ 2 ∷ 1 ∷ [])
     ∷ answer (101 ∷ 2 ∷ 1 ∷ 2 ∷ 2 ∷ [])
     ∷ answer (852 ∷ 1 ∷ 4 ∷ 101 ∷ 2 ∷ 0 ∷ 2 ∷ 1 ∷ [])
+    ∷ answer (852 ∷ 1 ∷ 5 ∷ 101 ∷ 1 ∷ 5 ∷ 2 ∷ 1 ∷ [])
+    ∷ answer (852 ∷ 2 ∷ 4 ∷ 5 ∷ 101 ∷ 2 ∷ 1 ∷ 2 ∷ 2 ∷ [])
+    ∷ refusal 5
     ∷ answer (852 ∷ 1 ∷ 4 ∷ 101 ∷ 2 ∷ 0 ∷ 1 ∷ 7 ∷ [])
     ∷ answer (610 ∷ [])
     ∷ answer (611 ∷ [])
@@ -72,6 +79,7 @@ notedCases =
     ∷ run Bind (pos 0) (7 ∷ []) (861 ∷ 1 ∷ 9 ∷ 1 ∷ 1 ∷ 7 ∷ 101 ∷ 2 ∷ 0 ∷ 1 ∷ 7 ∷ [])
     ∷ run Fill (pos 0) (0 ∷ 1 ∷ 1 ∷ 5 ∷ []) (862 ∷ 2 ∷ 4 ∷ 1 ∷ 2 ∷ 0 ∷ 5 ∷ 0 ∷ 101 ∷ 2 ∷ 1 ∷ 2 ∷ 2 ∷ [])
     ∷ run Fill (pos 0) (1 ∷ 1 ∷ 5 ∷ 0 ∷ []) (862 ∷ 2 ∷ 4 ∷ 1 ∷ 1 ∷ 6 ∷ 5 ∷ 0 ∷ 101 ∷ 2 ∷ 0 ∷ 2 ∷ 1 ∷ [])
+    ∷ run Fill (pos 0) (1 ∷ 1 ∷ 5 ∷ []) (862 ∷ 2 ∷ 4 ∷ 0 ∷ 5 ∷ 1 ∷ 2 ∷ 0 ∷ 101 ∷ 2 ∷ 0 ∷ 2 ∷ 1 ∷ [])
     ∷ run Prune (pos 0) [] (862 ∷ 2 ∷ 4 ∷ 0 ∷ 5 ∷ 1 ∷ 1 ∷ 8 ∷ 101 ∷ 2 ∷ 1 ∷ 1 ∷ 7 ∷ [])
     ∷ run Prune (pos 0) [] (862 ∷ 2 ∷ 4 ∷ 1 ∷ 2 ∷ 0 ∷ 5 ∷ 1 ∷ 1 ∷ 8 ∷ 101 ∷ 2 ∷ 1 ∷ 1 ∷ 7 ∷ [])
     ∷ run Point (pos 0) [] (852 ∷ 2 ∷ 4 ∷ 5 ∷ 351 ∷ 2 ∷ 101 ∷ 2 ∷ 0 ∷ 2 ∷ 1 ∷ 862 ∷ 1 ∷ 6 ∷ 1 ∷ 2 ∷ 2 ∷ 101 ∷ 2 ∷ 0 ∷ 2 ∷ 1 ∷ [])
@@ -88,6 +96,7 @@ notedAnswers =
     ∷ answer (861 ∷ 1 ∷ 9 ∷ 1 ∷ 2 ∷ 0 ∷ 101 ∷ 2 ∷ 0 ∷ 2 ∷ 1 ∷ [])
     ∷ answer (862 ∷ 1 ∷ 4 ∷ 1 ∷ 2 ∷ 0 ∷ 101 ∷ 2 ∷ 0 ∷ 2 ∷ 1 ∷ [])
     ∷ answer (852 ∷ 1 ∷ 5 ∷ 101 ∷ 2 ∷ 0 ∷ 1 ∷ 5 ∷ [])
+    ∷ answer (862 ∷ 1 ∷ 5 ∷ 1 ∷ 2 ∷ 0 ∷ 101 ∷ 2 ∷ 0 ∷ 1 ∷ 5 ∷ [])
     ∷ answer (852 ∷ 1 ∷ 4 ∷ 101 ∷ 2 ∷ 0 ∷ 1 ∷ 7 ∷ [])
     ∷ answer (862 ∷ 1 ∷ 4 ∷ 1 ∷ 2 ∷ 0 ∷ 101 ∷ 2 ∷ 0 ∷ 1 ∷ 7 ∷ [])
     ∷ answer (862 ∷ 2 ∷ 4 ∷ 0 ∷ 6 ∷ 1 ∷ 2 ∷ 0 ∷ 101 ∷ 2 ∷ 0 ∷ 2 ∷ 1 ∷ [])

@@ -1,13 +1,13 @@
 -- Fill: some declarations of a quantified predicate are replaced by expressions; the others are kept and renumbered from the inside.
 use mathlib.Core.Bool.{Bool, true, false, _||_}
-use mathlib.Core.List.{List, [], _∷_, reverse, map}
+use mathlib.Core.List.{List, [], _∷_, _++_, reverse, map}
 use mathlib.Core.Option.{Option, none as absent, some}
 use Prim.Native.Nat.{ℕ, zero, suc, _+_, _-_}
-use lib.Dec.{eqb}
-use lib.ListN.{length}
+use lib.Dec.{eqb, leb}
+use lib.ListN.{length, replicate}
 use Rattle.tree.specs.Form.{free, bound, Form, leaf, node, noted, Decls, undeclared, bare, typed, none, more, pick}
 use Rattle.tree.specs.Tag.{pred}
-use Rattle.form.specs.Lists.{Place, kept, filled, placeOf}
+use Rattle.form.specs.Lists.{Place, kept, filled, Entry, placeOf}
 use Rattle.form.specs.Answer.{Outcome, refusal, withWork, withForm, withList, needs, finish}
 use Rattle.form.specs.declared.answer.Kind.the-variants.{Predicate}
 use Rattle.form.specs.declared.answer.ListKind.the-variants.{Places}
@@ -92,9 +92,13 @@ fill t ns ps f = quantify t (keptDecls ps ns) (subst (fillFor ps) f)
 abbrev pub ofQuantified : (ℕ → List Decl → Form → Outcome) → ℕ → Quantified → Outcome
 ofQuantified go n = elim [ quantifier t ns f ↦ go t ns f | other ↦ refusal n ]
 
+-- the places of n declarations: those that are missing at the end are kept
+abbrev pub placesFor : ℕ → List Entry → List Place
+placesFor n es = map placeOf es ++ replicate (n - length es) kept
+
 unfoldable pub fillOutcome : List ℕ → List ℕ → ℕ → ℕ → Outcome
 fillOutcome list row work room =
     withWork work
     (withForm Predicate row
     (λ s f. withList Places list
-    (λ es. ofQuantified (λ t ns b. needs 5 (eqb (length es) (length ns)) (finish pred room (fill t ns (map placeOf es) b))) 3 (quantified f))))
+    (λ es. ofQuantified (λ t ns b. needs 5 (leb (length es) (length ns)) (finish pred room (fill t ns (placesFor (length ns) es) b))) 3 (quantified f))))

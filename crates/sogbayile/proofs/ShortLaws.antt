@@ -14,7 +14,7 @@ use Rattle.tree.specs.Form.{free, bound, Form, leaf, node, noted, Decls, undecl
 use Rattle.tree.specs.Tag.{Sort, pred, expr}
 use Rattle.form.specs.Decode.{rowForm, Found, found, missing, formOf}
 use Rattle.form.specs.Break.{Next, Open, leastAll, after, breakFrom, breakSort, breakEither, breakAt, breakList, entryNext}
-use Rattle.form.specs.Lists.{Entry, wordOf, placeOf, listOf, goodNames}
+use Rattle.form.specs.Lists.{Entry, wordOf, listOf, goodNames}
 use Rattle.form.specs.Answer.{Outcome, answer, stop, refusal, told, number, lengthOf, position, ofFound, ofList, withForm, withList, needs, isOne, finish, checkOutcome, namesOutcome, pairsOutcome, placesOutcome}
 use Rattle.form.specs.declared.answer.Kind.{Kind}
 use Rattle.form.specs.declared.answer.Kind.the-variants.{Either, Expression, Predicate, Named}
@@ -26,7 +26,7 @@ use Rattle.rules.specs.Dangling.{indexOf, insert, insertAll, danglingSet, dangl
 use Rattle.rules.specs.Shift.{shift, ofShifted, shiftOutcome}
 use Rattle.rules.specs.Bind.{bind, bindOutcome}
 use Rattle.rules.specs.Free.{substitute, freeOutcome}
-use Rattle.rules.specs.Fill.{Decl, Quantified, quantifier, other, quantified, keptCount, fill, ofQuantified, fillOutcome}
+use Rattle.rules.specs.Fill.{Decl, Quantified, quantifier, other, quantified, keptCount, fill, ofQuantified, placesFor, fillOutcome}
 use Rattle.rules.specs.Prune.{usedPlaces, prune, pruneOutcome}
 use Rattle.rules.specs.Point.{ofResult, onePoint, pointOutcome}
 use Rattle.rules.specs.Member.{membership, memberOutcome}
@@ -135,7 +135,7 @@ pairs-short row = list-short Pairs row _ (λ es. tested 4 (goodNames (map wordOf
 
 pub places-short : (n : ℕ) (row : List ℕ) → Short (placesOutcome n row)
 unfolding placesOutcome
-places-short n row = list-short Places row _ (λ es. tested 5 (leb n 32 && eqb (length es) n) _ nothing-written)
+places-short n row = list-short Places row _ (λ es. tested 5 (leb n 32 && leb (length es) n) _ nothing-written)
 
 -- the rewritings
 pub shift-short : (row : List ℕ) (offset : ℤ) (room : ℕ) → Short (shiftOutcome row offset room)
@@ -157,7 +157,7 @@ free-short list row work room = tested 15 (leb 16384 work) _ (form-short Either 
 pub fill-short : (list row : List ℕ) (work room : ℕ) → Short (fillOutcome list row work room)
 unfolding fillOutcome
 fill-short list row work room =
-    tested 15 (leb 16384 work) _ (form-short Predicate row _ (λ s f. list-short Places list _ (λ es. quantified-short _ 3 (quantified f) (λ t ns b. tested 5 (eqb (length es) (length ns)) _ (finished pred room (fill t ns (map placeOf es) b))))))
+    tested 15 (leb 16384 work) _ (form-short Predicate row _ (λ s f. list-short Places list _ (λ es. quantified-short _ 3 (quantified f) (λ t ns b. tested 5 (leb (length es) (length ns)) _ (finished pred room (fill t ns (placesFor (length ns) es) b))))))
 
 pub prune-short : (row : List ℕ) (room : ℕ) → Short (pruneOutcome row room)
 unfolding pruneOutcome

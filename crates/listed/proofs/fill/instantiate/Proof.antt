@@ -16,7 +16,7 @@ use Rattle.listed.proofs.ShallowLaws.{reading-missing, reading-checked,
 use Rattle.replace.proofs.SmallLaws.{leaves-by}
 use Rattle.form.specs.declared.answer.Kind.the-variants.{Predicate}
 use Rattle.form.specs.declared.answer.ListKind.the-variants.{Places}
-use Rattle.listed.proofs.FillLaws.{fill-small, fill-long, fill-missing, fill-list-long, fill-no-list, fill-other, fill-count, placing, places-ready, fill-row}
+use Rattle.listed.proofs.FillLaws.{fill-small, fill-long, fill-missing, fill-list-long, fill-no-list, fill-other, fill-more, placing, places-ready, fill-row}
 use Rattle.decls.proofs.RowHeads.{the-quant, the-count, the-length}
 use borrow.Author.Needs.{needs}
 use Rattle.listed.proofs.fill.instantiate.Statement.{statement}
@@ -24,22 +24,26 @@ use Rattle.listed.proofs.fill.instantiate.Tie as tie
 
 returns : tie.Need-returns
 returns c =
-    let b5 = c .before .before .before .before .before in
-    refused _ _ _ _ (fill-small (b5 .args .list .now) (b5 .args .row .now) _ _ (c .if1 .taken)) refl
+    let entry = c .before .before .before .before .before in
+    refused _ _ _ _ (fill-small (entry .args .list .now) (entry .args .row .now) _ _ (c .if1 .taken)) refl
 
 returns-2 : tie.Need-returns-2
 returns-2 c =
-    let b6 = c .before .before .before .before .before .before in
-    refused _ _ _ _ (fill-long (b6 .args .list .now) (b6 .args .row .now) _ _ (c .before .if1 .left) (c .if2 .taken)) refl
+    let after-work = c .before in
+    let entry = after-work .before .before .before .before .before in
+    refused _ _ _ _ (fill-long (entry .args .list .now) (entry .args .row .now) _ _ (after-work .if1 .left) (c .if2 .taken)) refl
 
 refuse-list-requires : tie.Need-refuse-list-requires
 refuse-list-requires c κs = search needs
 
 returns-3 : tie.Need-returns-3
 returns-3 c =
-    let b3 = c .before .before .before in
-    let b8 = b3 .before .before .before .before .before in
-    refused-by _ (isFound (formOf Predicate (b8 .args .row .now))) (breakAt Predicate (b8 .args .row .now)) _ _ (fill-list-long (b8 .args .list .now) (b8 .args .row .now) _ _ (b3 .if1 .left) (c .before .before .if2 .left) (c .before .if3 .taken)) (c .refuse-list .ensures)
+    let after-list-limit = c .before in
+    let after-row-limit = after-list-limit .before in
+    let after-work = after-row-limit .before in
+    let entry = after-work .before .before .before .before .before in
+    refused-by _ (isFound (formOf Predicate (entry .args .row .now))) (breakAt Predicate (entry .args .row .now)) _ _
+    (fill-list-long (entry .args .list .now) (entry .args .row .now) _ _ (after-work .if1 .left) (after-row-limit .if2 .left) (after-list-limit .if3 .taken)) (c .refuse-list .ensures)
 
 mark-entries-requires : tie.Need-mark-entries-requires
 mark-entries-requires c κs = search needs
@@ -49,10 +53,15 @@ depth-left-by-requires c κs = search needs
 
 mark-row-requires : tie.Need-mark-row-requires
 mark-row-requires c κs =
-    let b6 = c .before .before .before .before .before .before in
-    let b12 = b6 .before .before .before .before .before .before in
-    let b13 = b12 .before in
-    let left = leaves-by _ _ _ _ _ (c .before .depth-left-by .ensures) in let h : 8192 ≤ length (b6 .mark-entries .last .1 .1 .0) = let v = b6 .mark-entries .kept .1 .1 .0 in let w = b13 .if1 .left in omega arith in (left .most, (h, b12 .if2 .left))
+    let after-depth = c .before in
+    let after-entries = after-depth .before .before .before .before .before in
+    let after-row-limit = after-entries .before .before .before .before .before .before in
+    let after-work = after-row-limit .before in
+    let left = leaves-by _ _ _ _ _ (after-depth .depth-left-by .ensures) in
+    let v = after-entries .mark-entries .kept .1 .1 .0 in
+    let w = after-work .if1 .left in
+    let h : 8192 ≤ length (after-entries .mark-entries .last .1 .1 .0) = omega arith in
+    (left .most, (h, after-row-limit .if2 .left))
 
 enum-known-sure : tie.Need-enum-known-sure
 enum-known-sure c = search needs
@@ -68,12 +77,13 @@ same-length c = search needs
 
 returns-4 : tie.Need-returns-4
 returns-4 c =
-    let b4 = c .before .before .before .before .before in
-    let b6 = b4 .before .before in
-    let b17 = b6 .before .before .before .before .before .before .before .before .before .before .before in
-    let b18 = b17 .before in
-    let b23 = b18 .before .before .before .before .before in
-    let left = leaves-by _ _ _ _ _ (b6 .depth-left-by .ensures) in refused-at _ _ _ _ _ (fill-missing (b23 .args .list .now) (b23 .args .row .now) _ _ (b18 .if1 .left) (b17 .if2 .left) (reading-missing _ (left .most) _ _ _ (b4 .mark-row .ensures .0) (c .before .enum-told .given .1))) (c .broken-at .ensures)
+    let after-row = c .before .before .before .before .before in
+    let after-depth = after-row .before .before in
+    let after-row-limit = after-depth .before .before .before .before .before .before .before .before .before .before .before in
+    let after-work = after-row-limit .before in
+    let entry = after-work .before .before .before .before .before in
+    let left = leaves-by _ _ _ _ _ (after-depth .depth-left-by .ensures) in
+    refused-at _ _ _ _ _ (fill-missing (entry .args .list .now) (entry .args .row .now) _ _ (after-work .if1 .left) (after-row-limit .if2 .left) (reading-missing _ (left .most) _ _ _ (after-row .mark-row .ensures .0) (c .before .enum-told .given .1))) (c .broken-at .ensures)
 
 broken-list-requires : tie.Need-broken-list-requires
 broken-list-requires c κs = search needs
@@ -83,17 +93,18 @@ same-length-2 c = search needs
 
 returns-5 : tie.Need-returns-5
 returns-5 c =
-    let b3 = c .before .before .before .before in
-    let b7 = b3 .before .before .before .before in
-    let b9 = b7 .before .before in
-    let b14 = b9 .before .before .before .before .before in
-    let b19 = b14 .before .before .before .before .before in
-    let b20 = b19 .before in
-    let b21 = b20 .before in
-    let b26 = b21 .before .before .before .before .before in
-    let left = leaves-by _ _ _ _ _ (b9 .depth-left-by .ensures) in
-    let x = reading-checked _ (left .most) Predicate (b26 .args .row .now) _ (length (b26 .args .row .now)) _ refl _ _ (b20 .if2 .left) (b7 .mark-row .ensures .0) (b3 .sure .given .1) (b7 .mark-row .ensures .1 .0) in
-    refused-at _ _ _ _ _ (fill-no-list (b26 .args .list .now) (b26 .args .row .now) _ _ (b21 .if1 .left) _ x (b19 .if3 .left) (listing-no _ _ _ _ _ _ (b14 .mark-entries .ensures) (not-true _ (c .before .if4 .taken)))) (c .broken-list .ensures)
+    let after-list = c .before in
+    let after-sure = after-list .before .before .before in
+    let after-row = after-sure .before .before .before .before in
+    let after-depth = after-row .before .before in
+    let after-entries = after-depth .before .before .before .before .before in
+    let after-list-limit = after-entries .before .before .before .before .before in
+    let after-row-limit = after-list-limit .before in
+    let after-work = after-row-limit .before in
+    let entry = after-work .before .before .before .before .before in
+    let left = leaves-by _ _ _ _ _ (after-depth .depth-left-by .ensures) in
+    let x = reading-checked _ (left .most) Predicate (entry .args .row .now) _ (length (entry .args .row .now)) _ refl _ _ (after-row-limit .if2 .left) (after-row .mark-row .ensures .0) (after-sure .sure .given .1) (after-row .mark-row .ensures .1 .0) in
+    refused-at _ _ _ _ _ (fill-no-list (entry .args .list .now) (entry .args .row .now) _ _ (after-work .if1 .left) _ x (after-list-limit .if3 .left) (listing-no _ _ _ _ _ _ (after-entries .mark-entries .ensures) (not-true _ (after-list .if4 .taken)))) (c .broken-list .ensures)
 
 declared-requires : tie.Need-declared-requires
 declared-requires c κs = search needs
@@ -104,20 +115,22 @@ same-length-3 c = search needs
 returns-6 : tie.Need-returns-6
 unfolding emptyTable
 returns-6 c =
-    let b5 = c .before .before .before .before .before in
-    let b9 = b5 .before .before .before .before in
-    let b11 = b9 .before .before in
-    let b16 = b11 .before .before .before .before .before in
-    let b21 = b16 .before .before .before .before .before in
-    let b22 = b21 .before in
-    let b23 = b22 .before in
-    let b28 = b23 .before .before .before .before .before in
-    let left = leaves-by _ _ _ _ _ (b11 .depth-left-by .ensures) in
-    let x = reading-checked _ (left .most) Predicate (b28 .args .row .now) _ (length (b28 .args .row .now)) _ refl _ _ (b22 .if2 .left) (b9 .mark-row .ensures .0) (b5 .sure .given .1) (b9 .mark-row .ensures .1 .0) in
-    refused _ _ _ _ (fill-other (b28 .args .list .now) (b28 .args .row .now) _ _ (b23 .if1 .left) _ x (b21 .if3 .left) _ _ _ _ (b16 .mark-entries .ensures) (not-false _ (c .before .before .if4 .left)) _ (c .before .declared .ensures) (c .if5 .taken)) refl
+    let after-declared = c .before in
+    let after-list = after-declared .before in
+    let after-sure = after-list .before .before .before in
+    let after-row = after-sure .before .before .before .before in
+    let after-depth = after-row .before .before in
+    let after-entries = after-depth .before .before .before .before .before in
+    let after-list-limit = after-entries .before .before .before .before .before in
+    let after-row-limit = after-list-limit .before in
+    let after-work = after-row-limit .before in
+    let entry = after-work .before .before .before .before .before in
+    let left = leaves-by _ _ _ _ _ (after-depth .depth-left-by .ensures) in
+    let x = reading-checked _ (left .most) Predicate (entry .args .row .now) _ (length (entry .args .row .now)) _ refl _ _ (after-row-limit .if2 .left) (after-row .mark-row .ensures .0) (after-sure .sure .given .1) (after-row .mark-row .ensures .1 .0) in
+    refused _ _ _ _ (fill-other (entry .args .list .now) (entry .args .row .now) _ _ (after-work .if1 .left) _ x (after-list-limit .if3 .left) _ _ _ _ (after-entries .mark-entries .ensures) (not-false _ (after-list .if4 .left)) _ (after-declared .declared .ensures) (c .if5 .taken)) refl
 
-cast-if6 : tie.Need-cast-if6
-cast-if6 c = search needs
+cast-n : tie.Need-cast-n
+cast-n c = search needs
 
 same-length-4 : tie.Need-same-length-4
 same-length-4 c = search needs
@@ -125,49 +138,50 @@ same-length-4 c = search needs
 returns-7 : tie.Need-returns-7
 unfolding emptyTable
 returns-7 c =
-    let b3 = c .before .before .before in
-    let b6 = b3 .before .before .before in
-    let b10 = b6 .before .before .before .before in
-    let b12 = b10 .before .before in
-    let b17 = b12 .before .before .before .before .before in
-    let b22 = b17 .before .before .before .before .before in
-    let b23 = b22 .before in
-    let b24 = b23 .before in
-    let b29 = b24 .before .before .before .before .before in
-    let left = leaves-by _ _ _ _ _ (b12 .depth-left-by .ensures) in
-    let x = reading-checked _ (left .most) Predicate (b29 .args .row .now) _ (length (b29 .args .row .now)) _ refl _ _ (b23 .if2 .left) (b10 .mark-row .ensures .0) (b6 .sure .given .1) (b10 .mark-row .ensures .1 .0) in
-    refused _ _ _ _ (fill-count (b29 .args .list .now) (b29 .args .row .now) _ _ (b24 .if1 .left) _ x (b22 .if3 .left) _ _ _ _ (b17 .mark-entries .ensures) (not-false _ (b3 .if4 .left)) _ (c .before .before .declared .ensures) (c .before .if5 .left) (c .if6 .taken)) refl
+    let after-quantified = c .before .before in
+    let after-declared = after-quantified .before in
+    let after-list = after-declared .before in
+    let after-sure = after-list .before .before .before in
+    let after-row = after-sure .before .before .before .before in
+    let after-depth = after-row .before .before in
+    let after-entries = after-depth .before .before .before .before .before in
+    let after-list-limit = after-entries .before .before .before .before .before in
+    let after-row-limit = after-list-limit .before in
+    let after-work = after-row-limit .before in
+    let entry = after-work .before .before .before .before .before in
+    let left = leaves-by _ _ _ _ _ (after-depth .depth-left-by .ensures) in
+    let x = reading-checked _ (left .most) Predicate (entry .args .row .now) _ (length (entry .args .row .now)) _ refl _ _ (after-row-limit .if2 .left) (after-row .mark-row .ensures .0) (after-sure .sure .given .1) (after-row .mark-row .ensures .1 .0) in
+    refused _ _ _ _ (fill-more (entry .args .list .now) (entry .args .row .now) _ _ (after-work .if1 .left) _ x (after-list-limit .if3 .left) _ _ _ _ (after-entries .mark-entries .ensures) (not-false _ (after-list .if4 .left)) _ (after-declared .declared .ensures) (after-quantified .if5 .left) (c .if6 .taken)) refl
 
 fill-marked-requires : tie.Need-fill-marked-requires
 unfolding emptyTable
 fill-marked-requires c κs =
-    let b5 = c .before .before .before .before .before in
-    let b6 = b5 .before in
-    let b7 = b6 .before in
-    let b8 = b7 .before in
-    let b11 = b8 .before .before .before in
-    let b15 = b11 .before .before .before .before in
-    let b17 = b15 .before .before in
-    let b22 = b17 .before .before .before .before .before in
-    let b27 = b22 .before .before .before .before .before in
-    let b28 = b27 .before in
-    let b29 = b28 .before in
-    let b34 = b29 .before .before .before .before .before in
-    let u = b15 .mark-row .kept .1 .1 .1 .0 in
-    let v = b22 .mark-entries .kept .1 .1 .0 in
-    let w = b29 .if1 .left in
-    let z = b27 .if3 .left in
-    let left = leaves-by _ _ _ _ _ (b17 .depth-left-by .ensures) in
-    let x = reading-checked _ (left .most) Predicate (b34 .args .row .now) _ (length (b34 .args .row .now)) _ refl _ _ (b28 .if2 .left) (b15 .mark-row .ensures .0) (b11 .sure .given .1) (b15 .mark-row .ensures .1 .0) in
-    let q = the-quant _ _ _ x _ (b7 .declared .ensures) (b6 .if5 .left) in
+    let after-count = c .before .before .before .before .before in
+    let after-quantified = after-count .before .before in
+    let after-declared = after-quantified .before in
+    let after-list = after-declared .before in
+    let after-sure = after-list .before .before .before in
+    let after-row = after-sure .before .before .before .before in
+    let after-depth = after-row .before .before in
+    let after-entries = after-depth .before .before .before .before .before in
+    let after-list-limit = after-entries .before .before .before .before .before in
+    let after-row-limit = after-list-limit .before in
+    let after-work = after-row-limit .before in
+    let entry = after-work .before .before .before .before .before in
+    let left = leaves-by _ _ _ _ _ (after-depth .depth-left-by .ensures) in
+    let x = reading-checked _ (left .most) Predicate (entry .args .row .now) _ (length (entry .args .row .now)) _ refl _ _ (after-row-limit .if2 .left) (after-row .mark-row .ensures .0) (after-sure .sure .given .1) (after-row .mark-row .ensures .1 .0) in
+    let q = the-quant _ _ _ x _ (after-declared .declared .ensures) (after-quantified .if5 .left) in
     let m = q .most in
-    let nc = the-count _ _ _ x _ (b7 .declared .ensures) q in
-    let few : b7 .declared .result ≤ 32 = omega arith in
-    let y = placing (b34 .args .list .now) (b15 .mark-row .last .1 .1 .1 .0) _ _ _ (listing-kept Places (b34 .args .list .now) (b22 .mark-entries .last .1 .1 .0) (b15 .mark-row .last .1 .1 .1 .0) _ _ _ (b15 .mark-row .ensures .1 .1) (b22 .mark-entries .ensures)) (not-false _ (b8 .if4 .left)) (b5 .if6 .left) in
-    let h : 8192 ≤ length (b15 .mark-row .last .1 .1 .1 .0) = omega arith in
+    let nc = the-count _ _ _ x _ (after-declared .declared .ensures) q in
+    let few : after-declared .declared .result ≤ 32 = omega arith in
+    let y = placing (entry .args .list .now) (after-row .mark-row .last .1 .1 .1 .0) _ _ _ (listing-kept Places (entry .args .list .now) (after-entries .mark-entries .last .1 .1 .0) (after-row .mark-row .last .1 .1 .1 .0) _ _ _ (after-row .mark-row .ensures .1 .1) (after-entries .mark-entries .ensures)) (not-false _ (after-list .if4 .left)) (after-count .if6 .left) in
+    let u = after-row .mark-row .kept .1 .1 .1 .0 in
+    let v = after-entries .mark-entries .kept .1 .1 .0 in
+    let w = after-work .if1 .left in
+    let z = after-list-limit .if3 .left in
+    let h : 8192 ≤ length (after-row .mark-row .last .1 .1 .1 .0) = omega arith in
     let g = the-length _ _ _ x q in
-    let t = b5 .if6 .left in
-    (h, (places-ready (b34 .args .list .now) _ (b15 .mark-row .last .1 .1 .1 .0) _ y few (omega arith), omega arith))
+    (h, (places-ready (entry .args .list .now) _ (after-row .mark-row .last .1 .1 .1 .0) _ y few (omega arith), omega arith))
 
 same-length-5 : tie.Need-same-length-5
 same-length-5 c = search needs
@@ -178,26 +192,28 @@ same-length-6 c = search needs
 returns-8 : tie.Need-returns-8
 unfolding emptyTable
 returns-8 c =
-    let b8 = c .before .before .before .before .before .before .before .before in
-    let b9 = b8 .before in
-    let b10 = b9 .before in
-    let b11 = b10 .before in
-    let b14 = b11 .before .before .before in
-    let b18 = b14 .before .before .before .before in
-    let b20 = b18 .before .before in
-    let b25 = b20 .before .before .before .before .before in
-    let b30 = b25 .before .before .before .before .before in
-    let b31 = b30 .before in
-    let b32 = b31 .before in
-    let b37 = b32 .before .before .before .before .before in
-    let left = leaves-by _ _ _ _ _ (b20 .depth-left-by .ensures) in
-    let x = reading-checked _ (left .most) Predicate (b37 .args .row .now) _ (length (b37 .args .row .now)) _ refl _ _ (b31 .if2 .left) (b18 .mark-row .ensures .0) (b14 .sure .given .1) (b18 .mark-row .ensures .1 .0) in
-    let q = the-quant _ _ _ x _ (b10 .declared .ensures) (b9 .if5 .left) in
+    let after-count = c .before .before .before .before .before .before .before .before in
+    let after-quantified = after-count .before .before in
+    let after-declared = after-quantified .before in
+    let after-list = after-declared .before in
+    let after-sure = after-list .before .before .before in
+    let after-row = after-sure .before .before .before .before in
+    let after-depth = after-row .before .before in
+    let after-entries = after-depth .before .before .before .before .before in
+    let after-list-limit = after-entries .before .before .before .before .before in
+    let after-row-limit = after-list-limit .before in
+    let after-work = after-row-limit .before in
+    let entry = after-work .before .before .before .before .before in
+    let left = leaves-by _ _ _ _ _ (after-depth .depth-left-by .ensures) in
+    let x = reading-checked _ (left .most) Predicate (entry .args .row .now) _ (length (entry .args .row .now)) _ refl _ _ (after-row-limit .if2 .left) (after-row .mark-row .ensures .0) (after-sure .sure .given .1) (after-row .mark-row .ensures .1 .0) in
+    let q = the-quant _ _ _ x _ (after-declared .declared .ensures) (after-quantified .if5 .left) in
     let m = q .most in
-    let nc = the-count _ _ _ x _ (b10 .declared .ensures) q in
-    let few : b10 .declared .result ≤ 32 = omega arith in
-    let y = placing (b37 .args .list .now) (b18 .mark-row .last .1 .1 .1 .0) _ _ _ (listing-kept Places (b37 .args .list .now) (b25 .mark-entries .last .1 .1 .0) (b18 .mark-row .last .1 .1 .1 .0) _ _ _ (b18 .mark-row .ensures .1 .1) (b25 .mark-entries .ensures)) (not-false _ (b11 .if4 .left)) (b8 .if6 .left) in
-    passed _ _ _ _ _ (fill-row (b37 .args .list .now) _ (b18 .mark-row .last .1 .1 .1 .0) _ y few (b37 .args .row .now) _ _ (b32 .if1 .left) (b30 .if3 .left) (b31 .if2 .left) x (b10 .declared .ensures) (b9 .if5 .left) _ left _ (reading-shallow _ (left .most) _ _ _ _ x _ _ (b18 .mark-row .ensures .0) (b14 .sure .given .1))) (c .before .before .fill-marked .ensures)
+    let nc = the-count _ _ _ x _ (after-declared .declared .ensures) q in
+    let few : after-declared .declared .result ≤ 32 = omega arith in
+    let y = placing (entry .args .list .now) (after-row .mark-row .last .1 .1 .1 .0) _ _ _ (listing-kept Places (entry .args .list .now) (after-entries .mark-entries .last .1 .1 .0) (after-row .mark-row .last .1 .1 .1 .0) _ _ _ (after-row .mark-row .ensures .1 .1) (after-entries .mark-entries .ensures)) (not-false _ (after-list .if4 .left)) (after-count .if6 .left) in
+    passed _ _ _ _ _
+    (fill-row (entry .args .list .now) _ (after-row .mark-row .last .1 .1 .1 .0) _ y few (entry .args .row .now) _ _ (after-work .if1 .left) (after-list-limit .if3 .left) (after-row-limit .if2 .left) x (after-declared .declared .ensures) (after-quantified .if5 .left) _ left _
+    (reading-shallow _ (left .most) _ _ _ _ x _ _ (after-row .mark-row .ensures .0) (after-sure .sure .given .1))) (c .before .before .fill-marked .ensures)
 
 pub instantiate-spec : {M : Type 1} → statement M
 instantiate-spec =
@@ -221,7 +237,7 @@ instantiate-spec =
     declared-requires
     same-length-3
     returns-6
-    cast-if6
+    cast-n
     same-length-4
     returns-7
     fill-marked-requires

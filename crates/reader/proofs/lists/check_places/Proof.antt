@@ -1,7 +1,7 @@
 -- `reader::lists::check_places` meets its contract. Assumes nothing.
 use borrow.Author.Tests.{not-true, not-false}
 use Rattle.reader.specs.Internal.Reads.{emptyTable}
-use Rattle.reader.proofs.TableLaws.{places-long, places-none, places-over, places-other, places-done}
+use Rattle.reader.proofs.TableLaws.{places-long, places-none, places-over, places-more, places-done}
 use borrow.Author.Needs.{needs}
 use Rattle.reader.proofs.lists.check_places.Statement.{statement}
 use Rattle.reader.proofs.lists.check_places.Tie as tie
@@ -28,7 +28,7 @@ returns-3 c = let b4 = c .before .before .before .before in let b9 = b4 .before 
 
 returns-4 : tie.Need-returns-4
 unfolding emptyTable
-returns-4 c = let b3 = c .before .before .before in let b6 = b3 .before .before .before in let b11 = b6 .before .before .before .before .before in places-other _ (b11 .if1 .left) _ _ _ _ _ (b6 .mark-list .ensures) (not-false _ (b3 .if2 .left)) (c .before .before .if3 .left) (c .if4 .taken)
+returns-4 c = let b3 = c .before .before .before in let b6 = b3 .before .before .before in let b11 = b6 .before .before .before .before .before in places-more _ (b11 .if1 .left) _ _ _ _ _ (b6 .mark-list .ensures) (not-false _ (b3 .if2 .left)) (c .before .before .if3 .left) (c .if4 .taken)
 
 returns-5 : tie.Need-returns-5
 unfolding emptyTable
