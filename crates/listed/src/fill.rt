@@ -233,7 +233,8 @@ fn fill_marked(
     )
 }
 
-// Replaces the filled declarations of a quantified predicate by their expressions; those without a place at the list's end are kept.
+// Replaces the filled declarations of a quantified predicate by their expressions. A declaration whose place is missing at the end of the
+// list is kept.
 pub fn instantiate(list: &[u32], row: &[u32], work: &mut [u32], out: &mut [u32]) -> Answer
     ensures { λ r. ⌜ r ≡ told (fillOutcome (now (list .entry)) (now (row .entry)) (length (now (work .entry))) (length (now (out .entry)))) ⌝ }
     ensures { λ _. ⌜ now (out .exit) ≡ written (fillOutcome (now (list .entry)) (now (row .entry)) (length (now (work .entry))) (length (now (out .entry)))) (now (out .entry)) ⌝ }
@@ -273,6 +274,6 @@ pub fn instantiate(list: &[u32], row: &[u32], work: &mut [u32], out: &mut [u32])
     if n < listed.n {
         return Answer::No(5, 0);
     }
-    // Where the list has fewer places, the words of the others are 0: they are kept.
+    // The words behind those of the list are 0, so the places that are missing count as kept.
     fill_marked(sure, list, row, n, &words, &starts, &ends, work, out)
 }

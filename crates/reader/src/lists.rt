@@ -189,7 +189,7 @@ pub fn check_pairs(row: &[u32]) -> Answer
     Answer::Done(0)
 }
 
-// The check of a list of places for n declarations, of which some may be missing at its end.
+// The check of a list of places for n declarations. Places may be missing at its end.
 pub fn check_places(row: &[u32], n: u32) -> Answer
     ensures { λ r. ⌜ r ≡ told (placesOutcome n (now (row .entry))) ⌝ }
 {
