@@ -25,6 +25,7 @@ use Rattle.rules.specs.Member.{offerAll, membership, memberOutcome}
 use Rattle.rules.specs.Command.{outcomeOf}
 use Rattle.rules.specs.declared.command.Command.{Command}
 use Rattle.rules.specs.declared.command.Command.the-variants.{Shift, Free, Bind, Fill, Prune, Point, Member}
+use Rattle.rules.proofs.MissingPlaces.{exactFill}
 
 -- a command with an output row of 8,192 words and a work row of 16,384
 abbrev run : Command → ℤ → List ℕ → List ℕ → Outcome
@@ -108,3 +109,14 @@ notedAnswers =
 pub noted-cases : notedCases ≡ notedAnswers
 unfolding S.shiftOutcome S.shift freeOutcome substitute B.bindOutcome B.bind F.fillOutcome F.fill F.quantified P.pruneOutcome P.prune pointOutcome onePoint memberOutcome membership offerAll instantiatePartial putRound scan offerParts accept parts walk collect finish goodNames distinct listOf entries entryOf formOf rowForm decode decodeAll declAt decls read breakAt breakFrom after least leastAll declsNext nextOf own ownOf shapeOf exprTags predTags encode
 noted-cases = refl
+
+-- the rule before Paper 2, on a list as long as the declarations, and on the two that are shorter: these it refused
+abbrev two : List ℕ
+two = 852 ∷ 2 ∷ 4 ∷ 5 ∷ 101 ∷ 2 ∷ 1 ∷ 2 ∷ 2 ∷ []
+
+abbrev formerCases : List Outcome
+formerCases = exactFill (0 ∷ 1 ∷ 1 ∷ 5 ∷ []) two 16384 8192 ∷ exactFill (1 ∷ 1 ∷ 5 ∷ []) two 16384 8192 ∷ exactFill [] two 16384 8192 ∷ []
+
+pub former-cases : formerCases ≡ answer (852 ∷ 1 ∷ 4 ∷ 101 ∷ 2 ∷ 0 ∷ 2 ∷ 1 ∷ []) ∷ refusal 5 ∷ refusal 5 ∷ []
+unfolding F.fill F.quantified walk finish listOf entries entryOf formOf rowForm decode decodeAll declAt decls read own ownOf shapeOf exprTags predTags encode
+former-cases = refl
