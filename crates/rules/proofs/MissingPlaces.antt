@@ -65,6 +65,31 @@ same-quantified : (k : ℕ) (q : Quantified) (old new : ℕ → List Decl → Fo
 same-quantified k (quantifier t ns b) old new h = h t ns b
 same-quantified k other old new h = λ z. refl
 
+-- empty places at the end of a list
+abbrev none-there : ℕ → List Entry
+none-there k = replicate k (entry 0 kept)
+
+append-row : (es fs : List Entry) → encodeList (es ++ fs) ≡ encodeList es ++ encodeList fs
+unfolding encodeList
+append-row [] fs = refl
+append-row (e ∷ es) fs = rw (append-row es fs) (sym (append-assoc (entryWords e) (encodeList es) (encodeList fs)))
+
+none-row : (k : ℕ) → encodeList (none-there k) ≡ replicate k 0
+unfolding encodeList entryWords
+none-row zero = refl
+none-row (suc k) = ap (λ z. 0 ∷ z) (none-row k)
+
+none-good : (es : List Entry) (k : ℕ) → GoodAll Places es → GoodAll Places (es ++ none-there k)
+none-good [] zero g = tt
+none-good [] (suc k) g = (refl, none-good [] k tt)
+none-good (e ∷ es) k g = (g .0, none-good es k (g .1))
+
+list-longer : (list : List ℕ) (es : List Entry) (k : ℕ) → listOf Places list ≡ some es → listOf Places (list ++ replicate k 0) ≡ some (es ++ none-there k)
+list-longer list es k e =
+    let (w, g) = list-sound Places list es e in
+    let r : list ++ replicate k 0 ≡ encodeList (es ++ none-there k) = rw (w, append-row es (none-there k), none-row k) in
+    rw r (list-encode Places (es ++ none-there k) (none-good es k g))
+
 module _ (list row : List ℕ) (work room : ℕ) where
   same-fill : (t : ℕ) (ns : List Decl) (b : Form) (es : List Entry) → Same (needs 5 (eqb (length es) (length ns)) (finish pred room (fill t ns (map placeOf es) b))) (needs 5 (leb (length es) (length ns)) (finish pred room (fill t ns (placesFor (length ns) es) b)))
   same-fill t ns b es =
@@ -100,42 +125,15 @@ module _ (list row : List ℕ) (work room : ℕ) where
     unfolding fillOutcome
     fill-over-5 w r l h = rw (le-leb 16384 work w, le-leb (length row) 8192 r, form, le-leb (length list) 8192 l, places, quant, lt-leb (length es) (length ns) h)
 
--- empty places at the end of a list
-abbrev none-there : ℕ → List Entry
-none-there k = replicate k (entry 0 kept)
-
-append-row : (es fs : List Entry) → encodeList (es ++ fs) ≡ encodeList es ++ encodeList fs
-unfolding encodeList
-append-row [] fs = refl
-append-row (e ∷ es) fs = rw (append-row es fs) (sym (append-assoc (entryWords e) (encodeList es) (encodeList fs)))
-
-none-row : (k : ℕ) → encodeList (none-there k) ≡ replicate k 0
-unfolding encodeList entryWords
-none-row zero = refl
-none-row (suc k) = ap (λ z. 0 ∷ z) (none-row k)
-
-none-good : (es : List Entry) (k : ℕ) → GoodAll Places es → GoodAll Places (es ++ none-there k)
-none-good [] zero g = tt
-none-good [] (suc k) g = (refl, none-good [] k tt)
-none-good (e ∷ es) k g = (g .0, none-good es k (g .1))
-
-list-longer : (list : List ℕ) (es : List Entry) (k : ℕ) → listOf Places list ≡ some es → listOf Places (list ++ replicate k 0) ≡ some (es ++ none-there k)
-list-longer list es k e =
-    let (w, g) = list-sound Places list es e in
-    let r : list ++ replicate k 0 ≡ encodeList (es ++ none-there k) = rw (w, append-row es (none-there k), none-row k) in
-    rw r (list-encode Places (es ++ none-there k) (none-good es k g))
-
-module _ (list row : List ℕ) (work room : ℕ) (s : Sort) (f : Form) (form : formOf Predicate row ≡ found s f) (es : List Entry) (places : listOf Places list ≡ some es)
-    (t : ℕ) (ns : List Decl) (b : Form) (quant : quantified f ≡ quantifier t ns b) where
-  -- a list without its last empty places is answered as the former rule answers the list with them
-  pub fill-missing : length es ≤ length ns → length list + (length ns - length es) ≤ 8192 → fillOutcome list row work room ≡ exactFill (list ++ replicate (length ns - length es) 0) row work room
-  unfolding fillOutcome
-  fill-missing h fits =
-      let k = length ns - length es in
-      let c : length (es ++ none-there k) ≡ length ns = rw (length-append, length-replicate) (omega arith) in
-      let l : length (list ++ replicate k 0) ≤ 8192 = rw (length-append, length-replicate) fits in
-      let p : map placeOf (es ++ none-there k) ≡ placesFor (length ns) es = rw (map-append, map-replicate) in
-      rw (form, places, quant, le-leb (length list) 8192 (omega arith), le-leb (length es) (length ns) h, le-leb (length (list ++ replicate k 0)) 8192 l, list-longer list es k places, eq-eqb (length (es ++ none-there k)) (length ns) c, p)
+    -- a list without its last empty places is answered as the former rule answers the list with them
+    pub missing-kept : length es ≤ length ns → length list + (length ns - length es) ≤ 8192 → fillOutcome list row work room ≡ exactFill (list ++ replicate (length ns - length es) 0) row work room
+    unfolding fillOutcome
+    missing-kept h fits =
+        let k = length ns - length es in
+        let c : length (es ++ none-there k) ≡ length ns = rw (length-append, length-replicate) (omega arith) in
+        let l : length (list ++ replicate k 0) ≤ 8192 = rw (length-append, length-replicate) fits in
+        let p : map placeOf (es ++ none-there k) ≡ placesFor (length ns) es = rw (map-append, map-replicate) in
+        rw (form, places, quant, le-leb (length list) 8192 (omega arith), le-leb (length es) (length ns) h, le-leb (length (list ++ replicate k 0)) 8192 l, list-longer list es k places, eq-eqb (length (es ++ none-there k)) (length ns) c, p)
 
 -- the check of places
 same-places : (n : ℕ) (es : List Entry) (b : Bool) → leb n 32 ≡ b → Same (needs 5 (b && eqb (length es) n) (answer [])) (needs 5 (b && leb (length es) n) (answer []))
