@@ -154,7 +154,7 @@ returns-7 c =
     let sure = after-list .before .before .before in
     refused _ _ _ _ (fill-more (args-of sure .args .list .now) (args-of sure .args .row .now) _ _ (limits sure .before .before .if1 .left) _ (checked sure) (limits sure .if3 .left) _ _ _ _ (after-entries (after-depth (after-row sure)) .mark-entries .ensures) (not-false _ (after-list .if4 .left)) _ (after-declared .declared .ensures) (after-quantified .if5 .left) (c .if6 .taken)) refl
 
--- behind all refusals: the declarations, and the places of the list
+-- behind all refusals there are at most 32 declarations
 declared-few : (c : tie.Else6) → c .before .before .before .declared .result ≤ 32
 declared-few c =
     let sure = c .before .before .before .before .before .before .before in
