@@ -53,7 +53,7 @@ fn explain(k: u32) -> bool {
             b"1: A row has more than 8,192 words.\nLook at the length of the form and of the list; neither may be longer.\n",
         ),
         2 => say(
-            b"2: A row is not exactly one form, or one list, of the kind that the command takes, within the limits of words, depth, names and declarations.\nIn [no 2 p] the words before p are right and word p cannot stand there: leave out the brackets, count the words of the form from 0, and look at word p; if there are only p words, words are missing at the end.\nIn [named FORM] every occurrence is a name: if word p is a 2, an index stands there.\nIf the form is not refused by 2 in [shift 0 FORM], or in [prune FORM] where the command takes a predicate, then count in the list; in a list of places, empty brackets are a word 0, and a word 1 stands before the words of any other.\n",
+            b"2: A row is not exactly one form, or one list, of the kind that the command takes, within the limits of words, depth, names and declarations.\nIn [no 2 p] the words before p are right and word p cannot stand there: leave out the brackets, count the words of the form from 0, and look at word p; if there are only p words, words are missing at the end.\nIn [named FORM] every occurrence is a name: if word p is a 2 where an expression may begin, an index stands there.\nIf the form is not refused by 2 in [shift 0 FORM], or in [prune FORM] where the command takes a predicate, then count in the list; in a list of places, empty brackets are a word 0, and a word 1 stands before the words of any other.\n",
         ),
         3 => say(
             b"3: Fill and prune take a quantified predicate, and this form is none.\nLook at its first word: it must be 851, 852, 861 or 862.\n",
