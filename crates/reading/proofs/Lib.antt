@@ -11,3 +11,4 @@ pub mod PointOutput
 pub mod Notes
 pub mod Worked
 pub mod NamedTruth
+pub mod NamedWorked

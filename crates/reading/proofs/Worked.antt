@@ -3,7 +3,7 @@
 use mathlib.Core.Path.{_≡_, refl, ap, _∙_, sym}
 use mathlib.Core.List.{List, [], _∷_, flatMap}
 use mathlib.Core.Option.{some}
-use mathlib.Core.Bool.{true, false}
+use mathlib.Core.Bool.{Bool, true, false}
 use Prim.Native.Nat.{ℕ, zero, suc, _+_}
 use native.Mathlib.Omega.{arith}
 use lib.Dec.{eqb}
@@ -49,13 +49,13 @@ pairOf a b = pos (twist (code a) (code b))
 pub pair-one : (a b c d : ℤ) → pairOf a b ≡ pairOf c d → (code a ≡ code c) × (code b ≡ code d)
 pair-one a b c d e = twist-one (code a) (code b) (code c) (code d) cc
 
--- a name has its own number, a declaration the range listed for its name
+-- a name has its own number, a dangling index 0, a declaration the range listed for its name; a comprehension what is given for it
 abbrev listedRange : List (ℕ × List ℤ) → ℕ → List ℤ
 listedRange [] d = []
 listedRange (e ∷ es) d = pick (eqb (e .0) d) (e .1) (listedRange es d)
 
-abbrev readingOf : List (ℕ × List ℤ) → Reading
-readingOf ranges =
+abbrev pub readingWith : (List (Bool × ℤ) → ℤ) → List (ℕ × List ℤ) → Reading
+readingWith set ranges =
     record {
       name = λ n. pos n;
       index = λ i. pos 0;
@@ -63,15 +63,18 @@ readingOf ranges =
       pair = pairOf;
       pair-left = λ a b c d e. code-one a c (pair-one a b c d e .0);
       pair-right = λ a b c d e. code-one b d (pair-one a b c d e .1);
-      comprehension = λ t o ds vs. pos 0;
+      comprehension = λ t o ds vs. set vs;
       expression = λ t o ds vs. pos 0;
       predicate = λ t o ds vs. false;
     }
 
-abbrev one : Form → Forms
+abbrev pub readingOf : List (ℕ × List ℤ) → Reading
+readingOf ranges = readingWith (λ vs. pos 0) ranges
+
+abbrev pub one : Form → Forms
 one f = more f none
 
-abbrev index : ℕ → Form
+abbrev pub index : ℕ → Form
 index i = leaf (bound i)
 
 -- [852 2 4 5 [351 2 [101 [2 0] [2 1]] [851 1 6 [101 [2 0] [2 1]]]]], with several values in the ranges
@@ -84,7 +87,7 @@ worked = node 852 (2 ∷ []) (4 ∷ 5 ∷ []) (one (node 351 (2 ∷ []) [] (more
 abbrev workedReduced : Form
 workedReduced = node 852 (1 ∷ []) (4 ∷ []) (one inner)
 
-abbrev several : Reading
+abbrev pub several : Reading
 several = readingOf ((4, pos 1 ∷ pos 2 ∷ []) ∷ (5, pos 0 ∷ pos 1 ∷ pos 2 ∷ []) ∷ (6, pos 1 ∷ []) ∷ [])
 
 pub worked-taken : onePoint worked ≡ some workedReduced

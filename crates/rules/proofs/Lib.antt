@@ -11,3 +11,4 @@ pub mod CommandLaws
 pub mod MissingPlaces
 pub mod Starred
 pub mod NamedCases
+pub mod NamedWorked

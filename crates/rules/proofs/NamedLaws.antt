@@ -1,5 +1,5 @@
 -- Laws of named forms: where an occurrence points; nothing dangles in what `nameless` gives; a form in which no declared name occurs comes back
--- as it is; the row stays as long, and within the limits. Assumes nothing.
+-- as it is; the row stays as long, and within the limits; what named answers. Assumes nothing.
 use mathlib.Core.Path.{_≡_, refl, ap, sym, _∙_}
 use mathlib.Core.Bool.{Bool, true, false, not}
 use mathlib.Core.List.{List, [], _∷_, _++_}
@@ -7,18 +7,20 @@ use Prim.Native.Nat.{ℕ, zero, suc, _+_, _*_, _≤_, _<_}
 use native.Mathlib.Nat.{zero-add}
 use native.Mathlib.Omega.{arith}
 use borrow.Author.Tests.{eq-eqb, eqb-true, le-leb}
-use lib.Dec.{eqb}
+use lib.Dec.{eqb, leb}
 use lib.ListN.{length, length-append}
 use Rattle.tree.specs.Form.{Leaf, free, bound, Form, leaf, node, noted, Decls, undeclared, bare, typed, namesOf, anyTyped, Forms, none, more, pick, between, member, encode, encodeDecls, encodeAll}
 use Rattle.tree.specs.Tag.{Sort}
-use Rattle.form.specs.Decode.{one, rowForm, indexFree, indexFreeDecls, indexFreeAll}
-use Rattle.form.specs.Answer.{isOne}
+use Rattle.form.specs.Decode.{one, rowForm, indexFree, indexFreeDecls, indexFreeAll, Found, found, missing, formOf}
+use Rattle.form.specs.Break.{breakAt}
+use Rattle.form.specs.Answer.{Outcome, answer, refusal, told, number, within, ofFound, withForm, needs, isOne, finish}
+use Rattle.form.specs.declared.answer.Kind.the-variants.{Named}
 use Rattle.form.proofs.HeadLaws.{few-names, few-decls}
 use Rattle.form.proofs.DecodeLaws.{clash, Ok, ok-free, ok-bound, ok-node, ok-noted, OkDecls, ok-end, ok-bare, ok-typed, OkAll, ok-none, ok-more}
-use Rattle.form.proofs.RowLaws.{row-encode, row-one}
+use Rattle.form.proofs.RowLaws.{row-encode, row-one, found-exact}
 use Rattle.rules.specs.Walk.{inside, binding, Outer, named, dangling, collectLeaf, collect, each}
 use Rattle.rules.specs.Dangling.{isNamed, closed}
-use Rattle.rules.specs.Named.{opened, further, occurrence, namelessLeaf, nameless, namelessDecls, namelessAll}
+use Rattle.rules.specs.Named.{opened, further, occurrence, namelessLeaf, nameless, namelessDecls, namelessAll, namedOutcome}
 use Rattle.rules.proofs.WalkLaws.{eachAll, eachDecls, and-left, and-right}
 use Rattle.rules.proofs.LimitLaws.{fineLeaf, two-words}
 use Rattle.rules.proofs.OkLaws.{ok-leaf}
@@ -252,6 +254,34 @@ nameless-row s row f e =
     let q : length (encode f) ≤ 8192 = rw w at a in
     row-encode (scope-ok o [] (omega arith)) (omega arith)
 
--- so refusal 7 cannot arise
 pub nameless-limits : (s : Sort) (row : List ℕ) (f : Form) → rowForm s row ≡ one f → isOne (rowForm s (encode (nameless [] f))) ≡ true
 nameless-limits s row f e = ap isOne (nameless-row s row f e)
+
+-- so named answers, for every row and room: 1 for a row that is too long; 2 for one that is no form written with names; 14 where there is less
+-- room than the row has words; or else the row of the nameless form
+abbrev pub answered : List ℕ → ℕ → Sort → Form → Outcome
+answered row room s f = needs 14 (leb (length row) room) (answer (encode (nameless [] f)))
+
+pub named-outcomes : (row : List ℕ) (room : ℕ) → namedOutcome row room ≡ withForm Named row (answered row room)
+unfolding namedOutcome finish
+named-outcomes row room = ap (within row) (go (formOf Named row) refl)
+  where
+    go : (x : Found) → formOf Named row ≡ x → ofFound (breakAt Named row) (λ s f. finish s room (nameless [] f)) x ≡ ofFound (breakAt Named row) (answered row room) x
+    go missing e = refl
+    go (found s f) e =
+        let r = found-exact Named row s f e in
+        let l : length (encode (nameless [] f)) ≡ length row = nameless-length [] f ∙ sym (ap length (row-one s row f r .1)) in
+        rw (nameless-limits s row f r, l)
+
+-- and never 7
+pub named-never-7 : (row : List ℕ) (room : ℕ) → number (told (namedOutcome row room)) ≡ 7 → ⊥
+named-never-7 row room h = go (leb (length row) 8192) (formOf Named row) (rw (named-outcomes row room) at h)
+  where
+    enough : (b : Bool) (ws : List ℕ) → number (told (needs 14 b (answer ws))) ≡ 7 → ⊥
+    enough true ws q = omega arith
+    enough false ws q = omega arith
+
+    go : (b : Bool) (x : Found) → number (told (pick b (ofFound (breakAt Named row) (answered row room) x) (refusal 1))) ≡ 7 → ⊥
+    go true (found s f) q = enough (leb (length row) room) (encode (nameless [] f)) q
+    go true missing q = omega arith
+    go false x q = omega arith

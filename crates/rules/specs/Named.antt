@@ -40,6 +40,6 @@ unfoldable mutual
   namelessAll scope none = none
   namelessAll scope (more f fs) = more (nameless scope f) (namelessAll scope fs)
 
--- 7 cannot arise: the result is as long as the row and keeps within the limits (`nameless-limits`)
+-- 7 cannot arise: the result is as long as the row and keeps within the limits (`named-outcomes`, `named-never-7`)
 unfoldable pub namedOutcome : List ℕ → ℕ → Outcome
 namedOutcome row room = withForm Named row (λ s f. finish s room (nameless [] f))
