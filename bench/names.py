@@ -16,7 +16,8 @@ from refused import SIZES, parts
 LIBRARY = "target/staticlib/libsogbayile.a"
 BOUND = [3, 7, 1, 12]           # the names that bind is given
 EACH = 32                       # declarations of a quantifier
-LEVELS = {8000: 60, 2000: 28}   # quantifiers round one another, by the words of the row
+LEVELS = {8000: 60, 2000: 28, 500: 8}   # quantifiers round one another, by the words of the row
+SLOTS = {8000: 4093, 2000: 4093, 500: 2039}   # names that are equal modulo this share a slot (crates/named/src/scope.rt)
 
 
 def rows_of(command, size, count, more):
@@ -49,6 +50,9 @@ def wide_rows(size, kind):
     if kind == "alike":
         alike = [256 * i + 7 for i in range(EACH)] + [256 * random.randrange(EACH, 256) + 7 for _ in range(most - EACH)]
         return wide(size, alike, alike[:EACH])
+    if kind == "slot":
+        shared = list(range(7, 65536, SLOTS[size]))
+        return wide(size, [shared[i % len(shared)] for i in range(most)], shared[:2])
     return wide(size, different[:EACH] + [different[EACH]] * (most - EACH), different[:EACH])
 
 
@@ -58,7 +62,7 @@ def sets():
         for size, count in SIZES:
             yield "%d%s" % (size, "+notes" if more else ""), list(zip(rows_of("shift", size, count, more), rows_of("named", size, count, more)))
     for size in LEVELS:
-        for kind in "any", "outermost", "alike", "equal":
+        for kind in "any", "outermost", "alike", "equal", "slot":
             yield "%d:%s" % (size, kind), [wide_rows(size, kind) for _ in range(8)]
 
 

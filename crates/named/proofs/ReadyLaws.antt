@@ -12,7 +12,7 @@ use Rattle.rules.specs.Named.{opened}
 use Rattle.named.specs.Internal.Scope.{Sized, scopeOf, openAll, closes, Held}
 use Rattle.named.specs.Internal.Reads.{readNames, Ready, Wrote, WroteLeaf, Kept}
 use Rattle.form.proofs.DecodeLaws.{clash}
-use Rattle.named.proofs.ScopeLaws.{all-length, all-held, all-scope, all-below, close-held, close-scope, scope-same, scope-less, sized-at}
+use Rattle.named.proofs.ScopeLaws.{all-length, all-held, all-scope, all-outer, close-held, close-scope, scope-less, sized-at}
 
 -- the next call finds what this one found
 pub ready-next : (row made made′ sc sc′ : List ℕ) (at p u v : ℕ) → Ready row made sc at u → length made′ ≡ length made → length sc′ ≡ length sc → v ≤ p → Held sc′ v → Ready row made′ sc′ p v
@@ -62,8 +62,8 @@ module _ (ds : List ℕ) (u : ℕ) (sc sc₁ : List ℕ) (room : Sized (u + leng
   pub close-kept : (q : ℕ) (sc₂ sc₃ : List ℕ) → length sc₂ ≡ length sc → Held sc₂ (u + length ds) → scopeOf sc₂ (u + length ds) ≡ scopeOf sc₁ (u + length ds) → sc₃ ≡ closes u (length ds) sc₂ → Kept (End q) u sc sc₃
   close-kept q sc₂ sc₃ l h e c =
       let same : scopeOf (closes u (length ds) sc₂) u ≡ scopeOf sc u =
-      close-scope u (length ds) sc₂ (sized-at (u + length ds) (u + length ds) (length sc₂) (length sc) l (omega arith) room)
-      ∙ (scope-less (length ds) u sc₂ sc₁ e ∙ rw begun (scope-same u (openAll ds u sc) sc (all-below ds u sc room))) in
+      close-scope u (length ds) sc₂ (sized-at (u + length ds) (u + length ds) (length sc₂) (length sc) l (omega arith) room) h
+      ∙ (scope-less (length ds) u sc₂ sc₁ e ∙ rw begun (all-outer ds u sc room)) in
       rw c (end-kept q u sc (closes u (length ds) sc₂) (close-held u (length ds) sc₂ h) same)
 
 -- names kept one after another: those before i stay, and the last is there

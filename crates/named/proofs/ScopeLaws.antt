@@ -1,4 +1,4 @@
--- The row of open declarations: opened, closed, and looked up. Assumes nothing.
+-- The row of open declarations: its slots and cells; declarations opened and closed. Assumes nothing.
 use mathlib.Core.Path.{_≡_, refl, ap, sym, _∙_}
 use mathlib.Core.Bool.{Bool, true, false}
 use mathlib.Core.List.{List, [], _∷_}
@@ -6,62 +6,143 @@ use Prim.Native.Nat.{ℕ, zero, suc, _+_, _-_, _*_, _%_, _≤_, _<_}
 use native.Mathlib.Nat.{mod-lt}
 use native.Mathlib.Numerals.{add-one}
 use native.Mathlib.Omega.{arith}
-use borrow.Author.Tests.{ltb-true, ltb-false, lt-ltb, le-ltb}
-use lib.Dec.{ltb}
+use borrow.Author.Tests.{ltb-true, ltb-false, lt-ltb, le-ltb, eqb-true}
+use lib.Dec.{ltb, eqb}
 use lib.ListN.{length, getD, set, drop, length-set}
 use lib.Seq.{getD-set-same, getD-set-other, set-getD, set-set}
 use Rattle.tree.specs.Form.{pick}
 use Rattle.form.proofs.DecodeLaws.{clash}
 use Rattle.form.proofs.HeadLaws.{gone, here}
 use Rattle.rules.specs.Named.{opened}
-use Rattle.named.specs.Internal.Scope.{slots, slotOf, Sized, scopeOf, opens, openAll, pop, closes, Held}
+use Rattle.named.specs.Internal.Scope.{slots, slotOf, Sized, scopeOf, orElse, firstIn, cellAt, cellIn, opens, openAll, pop, closes, Innermost, Held}
 
 -- the three sizes of rows: how many slots there are, and where that of a name stands
 module _ (n : ℕ) where
-  module _ (l : n < 4096) where
+  module _ (l : n < 2048) where
     few-slots : slots n ≡ 256
     unfolding slots
-    few-slots = rw (lt-ltb n 4096 l)
+    few-slots = rw (lt-ltb n 2048 l)
 
     pub slot-few : (m : ℕ) → 256 ≤ n → (n - 256 + m % 251 ≡ slotOf n m) × (n - 256 + m % 251 < n)
     unfolding slotOf
-    slot-few m h = let z : 0 < 251 = omega arith in let r = mod-lt m z in (rw (lt-ltb n 4096 l), omega arith)
+    slot-few m h = let z : 0 < 251 = omega arith in let r = mod-lt m z in (rw (lt-ltb n 2048 l), omega arith)
 
-  module _ (l : 4096 ≤ n) (h : n < 65536) where
-    more-slots : slots n ≡ 4096
+  module _ (l : 2048 ≤ n) (h : n < 8192) where
+    more-slots : slots n ≡ 2048
     unfolding slots
-    more-slots = rw (le-ltb n 4096 l, lt-ltb n 65536 h)
+    more-slots = rw (le-ltb n 2048 l, lt-ltb n 8192 h)
 
-    pub slot-more : (m : ℕ) → (n - 4096 + m % 4093 ≡ slotOf n m) × (n - 4096 + m % 4093 < n)
+    pub slot-more : (m : ℕ) → (n - 2048 + m % 2039 ≡ slotOf n m) × (n - 2048 + m % 2039 < n)
     unfolding slotOf
-    slot-more m = let z : 0 < 4093 = omega arith in let r = mod-lt m z in (rw (le-ltb n 4096 l, lt-ltb n 65536 h), omega arith)
+    slot-more m = let z : 0 < 2039 = omega arith in let r = mod-lt m z in (rw (le-ltb n 2048 l, lt-ltb n 8192 h), omega arith)
 
-  module _ (l : 65536 ≤ n) where
-    many-slots : slots n ≡ 65536
+  module _ (l : 8192 ≤ n) where
+    many-slots : slots n ≡ 4096
     unfolding slots
-    many-slots = let k : 4096 ≤ n = omega arith in rw (le-ltb n 4096 k, le-ltb n 65536 l)
+    many-slots = let k : 2048 ≤ n = omega arith in rw (le-ltb n 2048 k, le-ltb n 8192 l)
 
-    pub slot-many : (m : ℕ) → (n - 65536 + m % 65536 ≡ slotOf n m) × (n - 65536 + m % 65536 < n)
+    pub slot-many : (m : ℕ) → (n - 4096 + m % 4093 ≡ slotOf n m) × (n - 4096 + m % 4093 < n)
     unfolding slotOf
     slot-many m =
-        let z : 0 < 65536 = omega arith in
+        let z : 0 < 4093 = omega arith in
         let r = mod-lt m z in
-        let k : 4096 ≤ n = omega arith in
-        (rw (le-ltb n 4096 k, le-ltb n 65536 l), omega arith)
+        let k : 2048 ≤ n = omega arith in
+        (rw (le-ltb n 2048 k, le-ltb n 8192 l), omega arith)
 
 -- a slot stands in the last words of the row
 pub slot-in : (n m : ℕ) → 256 ≤ n → (slotOf n m < n) × (n ≤ slotOf n m + slots n)
-slot-in n m h = go (ltb n 4096) refl (ltb n 65536) refl
+slot-in n m h = go (ltb n 2048) refl (ltb n 8192) refl
   where
-    go : (b : Bool) → ltb n 4096 ≡ b → (c : Bool) → ltb n 65536 ≡ c → (slotOf n m < n) × (n ≤ slotOf n m + slots n)
-    go true e c f = let l = ltb-true n 4096 e in let k = few-slots n l in let (q, r) = slot-few n l m h in (omega arith, omega arith)
-    go false e true f = let l = ltb-false n 4096 e in let j = ltb-true n 65536 f in let k = more-slots n l j in let (q, r) = slot-more n l j m in (omega arith, omega arith)
-    go false e false f = let l = ltb-false n 65536 f in let k = many-slots n l in let (q, r) = slot-many n l m in (omega arith, omega arith)
+    go : (b : Bool) → ltb n 2048 ≡ b → (c : Bool) → ltb n 8192 ≡ c → (slotOf n m < n) × (n ≤ slotOf n m + slots n)
+    go true e c f = let l = ltb-true n 2048 e in let k = few-slots n l in let (q, r) = slot-few n l m h in (omega arith, omega arith)
+    go false e true f = let l = ltb-false n 2048 e in let j = ltb-true n 8192 f in let k = more-slots n l j in let (q, r) = slot-more n l j m in (omega arith, omega arith)
+    go false e false f = let l = ltb-false n 8192 f in let k = many-slots n l in let (q, r) = slot-many n l m in (omega arith, omega arith)
+
+pub sized-at : (u v n n′ : ℕ) → n ≡ n′ → u ≤ v → Sized v n′ → Sized u n
+sized-at u v n n′ e h r = let k = r .room in rw e (record { some = r .some; most = r .most; room = omega arith })
+
+pub sized-few : (m n : ℕ) → 4 * m + 256 ≤ n → n < 2048 → Sized m n
+sized-few m n h l = record { some = omega arith; most = omega arith; room = rw (few-slots n l) h }
+
+pub sized-more : (m n : ℕ) → 4 * m + 2048 ≤ n → n < 8192 → Sized m n
+sized-more m n h l = let k : 2048 ≤ n = omega arith in record { some = omega arith; most = omega arith; room = rw (more-slots n k l) h }
+
+pub sized-many : (m n : ℕ) → 4 * m + 4096 ≤ n → 8192 ≤ n → n ≤ 65536 → Sized m n
+sized-many m n h k l = record { some = omega arith; most = l; room = rw (many-slots n k) h }
+
+-- the names that are open are those of the levels
+pub scope-same : (u : ℕ) (a b : List ℕ) → ((l : ℕ) → l < u → getD a (4 * l) 0 ≡ getD b (4 * l) 0) → scopeOf a u ≡ scopeOf b u
+unfolding scopeOf
+scope-same zero a b e = refl
+scope-same (suc u) a b e = rw (e u (omega arith), scope-same u a b (λ l h. e l (omega arith)))
+
+pub scope-length : (sc : List ℕ) (u : ℕ) → length (scopeOf sc u) ≡ u
+unfolding scopeOf
+scope-length sc zero = refl
+scope-length sc (suc u) = ap suc (scope-length sc u)
+
+-- the same names are open below u where they are the same below u + n
+pub scope-less : (n u : ℕ) (a b : List ℕ) → scopeOf a (u + n) ≡ scopeOf b (u + n) → scopeOf a u ≡ scopeOf b u
+unfolding scopeOf
+scope-less zero u a b e = let z : u + 0 ≡ u = omega arith in rw z at e
+scope-less (suc n) u a b e =
+    let z : u + suc n ≡ suc (u + n) = omega arith in
+    let k : scopeOf a (u + n) ≡ scopeOf b (u + n) = cc (rw z at e) in
+    scope-less n u a b k
+
+-- a name's outermost declaration: it bears the name, and no declaration outside it does
+pub record First (sc : List ℕ) (u m l : ℕ) : Type 0 where
+  pub inside : l < u
+  pub bears : getD sc (4 * l) 0 ≡ m
+  pub outside : firstIn (scopeOf sc l) m ≡ 0
+
+pub first-is : (sc : List ℕ) (u m l : ℕ) → firstIn (scopeOf sc u) m ≡ suc l → First sc u m l
+unfolding scopeOf firstIn
+first-is sc zero m l e = absurd (clash cc)
+first-is sc (suc u) m l e = go (firstIn (scopeOf sc u) m) refl (eqb (getD sc (4 * u) 0) m) refl e (λ f. first-is sc u m l f)
+  where
+    go : (k : ℕ) → firstIn (scopeOf sc u) m ≡ k → (b : Bool) → eqb (getD sc (4 * u) 0) m ≡ b → orElse k (pick b (suc (length (scopeOf sc u))) 0) ≡ suc l
+        → (firstIn (scopeOf sc u) m ≡ suc l → First sc u m l) → First sc (suc u) m l
+    go zero f true g h outer =
+        let z = scope-length sc u in
+        let i : l ≡ u = omega arith in
+        rw i (record { inside = omega arith; bears = eqb-true (getD sc (4 * u) 0) m g; outside = f })
+    go zero f false g h outer = absurd (clash cc)
+    go (suc k) f b g h outer =
+        let r = outer (f ∙ h) in
+        let i = r .inside in
+        record { inside = omega arith; bears = r .bears; outside = r .outside }
+
+-- a cell is in the row, and is no word of a level but the third
+module _ (sc : List ℕ) (u m : ℕ) where
+  pub cell-low : (v : ℕ) → u ≤ v → Sized v (length sc) → cellIn sc u m < length sc
+  unfolding cellIn
+  cell-low v h room = go (firstIn (scopeOf sc u) m) refl
+    where
+      go : (k : ℕ) → firstIn (scopeOf sc u) m ≡ k → cellAt (slotOf (length sc) m) k < length sc
+      go zero e = slot-in (length sc) m (room .some) .0
+      go (suc l) e = let i = first-is sc u m l e .inside in let r = room .room in omega arith
+
+  pub cell-not : (w : ℕ) → 256 ≤ length sc → w + slots (length sc) < length sc → ((l : ℕ) → w ≡ 4 * l + 2 → ⊥) → w ≡ cellIn sc u m → ⊥
+  unfolding cellIn
+  cell-not w some low ne e = go (firstIn (scopeOf sc u) m) e
+    where
+      go : (k : ℕ) → w ≡ cellAt (slotOf (length sc) m) k → ⊥
+      go zero q = let s = slot-in (length sc) m some .1 in omega arith
+      go (suc l) q = ne l q
+
+pub cell-inside : (sc : List ℕ) (u v m c : ℕ) → c ≡ cellIn sc u m → u ≤ v → Sized v (length sc) → c < length sc
+cell-inside sc u v m c e h r = rw e (cell-low sc u m v h r)
+
+-- the cell of a name is the same in rows of one length in which the same names are open
+pub cell-same : (a b : List ℕ) (u m : ℕ) → length a ≡ length b → scopeOf a u ≡ scopeOf b u → cellIn a u m ≡ cellIn b u m
+unfolding cellIn
+cell-same a b u m l e = rw (l, e)
 
 -- rows that have the same words where it matters: below the level u, and in the slots
 record Agree (u : ℕ) (a b : List ℕ) : Type 0 where
   pub long : length a ≡ length b
-  pub low : (i : ℕ) → i < 2 * u → getD a i 0 ≡ getD b i 0
+  pub low : (i : ℕ) → i < 4 * u → getD a i 0 ≡ getD b i 0
   pub high : (i : ℕ) → length a ≤ i + slots (length a) → getD a i 0 ≡ getD b i 0
 
 set-agree : (a b : List ℕ) (s i v : ℕ) → length a ≡ length b → getD a i 0 ≡ getD b i 0 → getD (set a s v) i 0 ≡ getD (set b s v) i 0
@@ -80,235 +161,286 @@ pop-length u a = length-set a _ _
 pop-agree : (u : ℕ) (a b : List ℕ) → Agree (suc u) a b → Agree u (pop u a) (pop u b)
 unfolding pop
 pop-agree u a b g =
-    let n = g .low (2 * u) (omega arith) in
-    let v = g .low (2 * u + 1) (omega arith) in
+    let c = g .low (4 * u + 3) (omega arith) in
+    let v = g .low (4 * u + 1) (omega arith) in
     let same : (i : ℕ) → getD a i 0 ≡ getD b i 0 → getD (pop u a) i 0 ≡ getD (pop u b) i 0 =
-    λ i e. rw (← g .long, ← n, ← v) (set-agree a b (slotOf (length a) (getD a (2 * u) 0)) i (getD a (2 * u + 1) 0) (g .long) e) in
+    λ i e. rw (← c, ← v) (set-agree a b (getD a (4 * u + 3) 0) i (getD a (4 * u + 1) 0) (g .long) e) in
     record {
       long = pop-length u a ∙ (g .long ∙ sym (pop-length u b));
       low = λ i h. same i (g .low i (omega arith));
       high = λ i h. same i (g .high i (rw (pop-length u a) at h));
     }
 
+scope-agree : (u v : ℕ) (a b : List ℕ) → u ≤ v → Agree v a b → scopeOf a u ≡ scopeOf b u
+scope-agree u v a b h g = scope-same u a b (λ l k. g .low (4 * l) (omega arith))
+
+cell-agree : (u v : ℕ) (a b : List ℕ) (m : ℕ) → u ≤ v → 256 ≤ length a → Agree v a b → getD a (cellIn a u m) 0 ≡ getD b (cellIn a u m) 0
+unfolding cellIn
+cell-agree u v a b m h some g = go (firstIn (scopeOf a u) m) refl
+  where
+    go : (k : ℕ) → firstIn (scopeOf a u) m ≡ k → getD a (cellAt (slotOf (length a) m) k) 0 ≡ getD b (cellAt (slotOf (length a) m) k) 0
+    go zero e = g .high (slotOf (length a) m) (slot-in (length a) m some .1)
+    go (suc l) e = let i = first-is a u m l e .inside in g .low (4 * l + 2) (omega arith)
+
 held-agree : (u : ℕ) (a b : List ℕ) → 256 ≤ length a → Agree u a b → Held a u → Held b u
 unfolding Held
 held-agree zero a b h g k = λ m. sym (rw (← g .long) (g .high (slotOf (length a) m) (slot-in (length a) m h .1))) ∙ rw (g .long) at (k m)
 held-agree (suc u) a b h g k =
-    let n = g .low (2 * u) (omega arith) in
-    let s = slotOf (length a) (getD a (2 * u) 0) in
-    let e : getD b s 0 ≡ suc u = sym (g .high s (slot-in (length a) (getD a (2 * u) 0) h .1)) ∙ k .0 in
-    (rw (← g .long, ← n) e, held-agree u (pop u a) (pop u b) (rw (pop-length u a) h) (pop-agree u a b g) (k .1))
+    let i = k .0 in
+    let n = g .low (4 * u) (omega arith) in
+    let c = g .low (4 * u + 3) (omega arith) in
+    let s = cell-same a b u (getD a (4 * u) 0) (g .long) (scope-agree u (suc u) a b (omega arith) g) in
+    let e : getD b (getD a (4 * u + 3) 0) 0 ≡ suc u =
+    rw (i .cell) (sym (cell-agree u (suc u) a b (getD a (4 * u) 0) (omega arith) h g) ∙ rw (i .cell) at (i .held)) in (
+      record { cell = rw (← c, ← n) (i .cell ∙ s); held = rw (← c) e; own = sym (g .low (4 * u + 2) (omega arith)) ∙ i .own },
+      held-agree u (pop u a) (pop u b) (rw (pop-length u a) h) (pop-agree u a b g) (k .1),
+    )
 
--- one declaration more
-module _ (m u : ℕ) (sc : List ℕ) (room : Sized (suc u) (length sc)) where
-  abbrev slot : ℕ
-  slot = slotOf (length sc) m
+-- one declaration more: its four words, and its level in its cell
+module _ (m u : ℕ) (sc : List ℕ) (sized : Sized (suc u) (length sc)) where
+  abbrev cell : ℕ
+  cell = cellIn sc u m
 
-  abbrev link : ℕ
-  link = getD sc slot 0
+  abbrev before : ℕ
+  before = getD sc cell 0
 
-  abbrev kept : List ℕ
-  kept = set sc (2 * u) m
+  abbrev first : List ℕ
+  first = set sc (4 * u) m
 
-  abbrev named : List ℕ
-  named = set kept (2 * u + 1) link
+  abbrev second : List ℕ
+  second = set first (4 * u + 1) before
 
-  named-length : length named ≡ length sc
-  named-length = length-set kept (2 * u + 1) link ∙ length-set sc (2 * u) m
+  abbrev third : List ℕ
+  third = set second (4 * u + 2) (suc u)
+
+  abbrev fourth : List ℕ
+  fourth = set third (4 * u + 3) cell
+
+  second-length : length second ≡ length sc
+  second-length = length-set first (4 * u + 1) before ∙ length-set sc (4 * u) m
+
+  third-length : length third ≡ length sc
+  third-length = length-set second (4 * u + 2) (suc u) ∙ second-length
+
+  fourth-length : length fourth ≡ length sc
+  fourth-length = length-set third (4 * u + 3) cell ∙ third-length
 
   pub opens-length : length (opens m u sc) ≡ length sc
   unfolding opens
-  opens-length = length-set named slot (suc u) ∙ named-length
+  opens-length = length-set fourth cell (suc u) ∙ fourth-length
 
-  slot-far : 2 * u + 1 < slot
-  slot-far = let s = slot-in (length sc) m (room .0) .1 in let r = room .1 in omega arith
+  level-room : 4 * u + 3 < length sc
+  level-room = let s = slot-in (length sc) m (sized .some) in let r = sized .room in omega arith
 
-  named-else : (i : ℕ) → (i ≡ 2 * u → ⊥) → (i ≡ 2 * u + 1 → ⊥) → getD named i 0 ≡ getD sc i 0
-  named-else i a b = getD-set-other kept (2 * u + 1) i link 0 b ∙ getD-set-other sc (2 * u) i m 0 a
+  cell-fits : cell < length sc
+  cell-fits = cell-low sc u m (suc u) (omega arith) sized
 
-  opens-low : (i : ℕ) → i < 2 * u + 2 → getD (opens m u sc) i 0 ≡ getD named i 0
+  -- the cell is none of these four words
+  cell-apart : (i : ℕ) → 4 * u ≤ i → i < 4 * u + 4 → i ≡ cell → ⊥
+  unfolding cellIn
+  cell-apart i h k e = go (firstIn (scopeOf sc u) m) refl e
+    where
+      go : (f : ℕ) → firstIn (scopeOf sc u) m ≡ f → i ≡ cellAt (slotOf (length sc) m) f → ⊥
+      go zero q z = let s = slot-in (length sc) m (sized .some) .1 in let r = sized .room in omega arith
+      go (suc l) q z = let j = first-is sc u m l q .inside in omega arith
+
+  fourth-else : (i : ℕ) → (4 * u ≤ i → i < 4 * u + 4 → ⊥) → getD fourth i 0 ≡ getD sc i 0
+  fourth-else i h =
+      let a : i ≡ 4 * u → ⊥ = λ e. h (omega arith) (omega arith) in
+      let b : i ≡ 4 * u + 1 → ⊥ = λ e. h (omega arith) (omega arith) in
+      let c : i ≡ 4 * u + 2 → ⊥ = λ e. h (omega arith) (omega arith) in
+      let d : i ≡ 4 * u + 3 → ⊥ = λ e. h (omega arith) (omega arith) in
+      getD-set-other third (4 * u + 3) i cell 0 d
+      ∙ (getD-set-other second (4 * u + 2) i (suc u) 0 c
+      ∙ (getD-set-other first (4 * u + 1) i before 0 b ∙ getD-set-other sc (4 * u) i m 0 a))
+
+  opens-own : (i : ℕ) → 4 * u ≤ i → i < 4 * u + 4 → getD (opens m u sc) i 0 ≡ getD fourth i 0
   unfolding opens
-  opens-low i h =
-      let f = slot-far in
-      let ne : i ≡ slot → ⊥ = λ e. omega arith in
-      getD-set-other named slot i (suc u) 0 ne
+  opens-own i h k = getD-set-other fourth cell i (suc u) 0 (cell-apart i h k)
 
-  pub opens-below : (i : ℕ) → i < 2 * u → getD (opens m u sc) i 0 ≡ getD sc i 0
-  opens-below i h =
-      let a : i ≡ 2 * u → ⊥ = λ e. omega arith in
-      let b : i ≡ 2 * u + 1 → ⊥ = λ e. omega arith in
-      opens-low i (omega arith) ∙ named-else i a b
-
-  pub opens-name : getD (opens m u sc) (2 * u) 0 ≡ m
+  pub opens-name : getD (opens m u sc) (4 * u) 0 ≡ m
   opens-name =
-      let r = room .1 in
-      let l : 2 * u < length sc = let s = slot-in (length sc) m (room .0) in omega arith in
-      let ne : 2 * u ≡ 2 * u + 1 → ⊥ = λ e. omega arith in
-      opens-low (2 * u) (omega arith) ∙ (getD-set-other kept (2 * u + 1) (2 * u) link 0 ne ∙ getD-set-same sc (2 * u) m 0 l)
+      let r = level-room in
+      let a : 4 * u ≡ 4 * u + 1 → ⊥ = λ e. omega arith in
+      let b : 4 * u ≡ 4 * u + 2 → ⊥ = λ e. omega arith in
+      let c : 4 * u ≡ 4 * u + 3 → ⊥ = λ e. omega arith in
+      opens-own (4 * u) (omega arith) (omega arith)
+      ∙ (getD-set-other third (4 * u + 3) (4 * u) cell 0 c
+      ∙ (getD-set-other second (4 * u + 2) (4 * u) (suc u) 0 b
+      ∙ (getD-set-other first (4 * u + 1) (4 * u) before 0 a ∙ getD-set-same sc (4 * u) m 0 (omega arith))))
 
-  opens-link : getD (opens m u sc) (2 * u + 1) 0 ≡ link
-  opens-link =
-      let r = room .1 in
-      let l : 2 * u + 1 < length kept = let k = length-set sc (2 * u) m in let s = slot-in (length sc) m (room .0) in omega arith in
-      opens-low (2 * u + 1) (omega arith) ∙ getD-set-same kept (2 * u + 1) link 0 l
+  opens-before : getD (opens m u sc) (4 * u + 1) 0 ≡ before
+  opens-before =
+      let r = level-room in
+      let l = length-set sc (4 * u) m in
+      let b : 4 * u + 1 ≡ 4 * u + 2 → ⊥ = λ e. omega arith in
+      let c : 4 * u + 1 ≡ 4 * u + 3 → ⊥ = λ e. omega arith in
+      opens-own (4 * u + 1) (omega arith) (omega arith)
+      ∙ (getD-set-other third (4 * u + 3) (4 * u + 1) cell 0 c
+      ∙ (getD-set-other second (4 * u + 2) (4 * u + 1) (suc u) 0 b ∙ getD-set-same first (4 * u + 1) before 0 (omega arith)))
 
-  named-slot : getD named slot 0 ≡ link
-  named-slot =
-      let f = slot-far in
-      let a : slot ≡ 2 * u → ⊥ = λ e. omega arith in
-      let b : slot ≡ 2 * u + 1 → ⊥ = λ e. omega arith in
-      named-else slot a b
+  opens-innermost : getD (opens m u sc) (4 * u + 2) 0 ≡ suc u
+  opens-innermost =
+      let r = level-room in
+      let l = second-length in
+      let c : 4 * u + 2 ≡ 4 * u + 3 → ⊥ = λ e. omega arith in
+      opens-own (4 * u + 2) (omega arith) (omega arith)
+      ∙ (getD-set-other third (4 * u + 3) (4 * u + 2) cell 0 c ∙ getD-set-same second (4 * u + 2) (suc u) 0 (omega arith))
 
-  back : set (opens m u sc) slot link ≡ named
+  opens-cell : getD (opens m u sc) (4 * u + 3) 0 ≡ cell
+  opens-cell =
+      let r = level-room in
+      let l = third-length in
+      opens-own (4 * u + 3) (omega arith) (omega arith) ∙ getD-set-same third (4 * u + 3) cell 0 (omega arith)
+
+  pub opens-below : (l : ℕ) → l < u → getD (opens m u sc) (4 * l) 0 ≡ getD sc (4 * l) 0
   unfolding opens
-  back = set-set named slot (suc u) link ∙ (ap (λ v. set named slot v) (sym named-slot) ∙ set-getD named slot 0)
+  opens-below l h =
+      let r = sized .room in
+      let a : 4 * u ≤ 4 * l → 4 * l < 4 * u + 4 → ⊥ = λ p q. omega arith in
+      let b : (k : ℕ) → 4 * l ≡ 4 * k + 2 → ⊥ = λ k e. omega arith in
+      getD-set-other fourth cell (4 * l) (suc u) 0 (cell-not sc u m (4 * l) (sized .some) (omega arith) b) ∙ fourth-else (4 * l) a
 
-  pop-opens : pop u (opens m u sc) ≡ named
+  opens-names : scopeOf (opens m u sc) u ≡ scopeOf sc u
+  opens-names = scope-same u (opens m u sc) sc opens-below
+
+  pub open-scope : scopeOf (opens m u sc) (suc u) ≡ m ∷ scopeOf sc u
+  unfolding scopeOf
+  open-scope = rw (opens-name, opens-names)
+
+  fourth-cell : getD fourth cell 0 ≡ before
+  fourth-cell = fourth-else cell (λ h k. cell-apart cell h k refl)
+
+  back : set (opens m u sc) cell before ≡ fourth
+  unfolding opens
+  back = set-set fourth cell (suc u) before ∙ (ap (λ v. set fourth cell v) (sym fourth-cell) ∙ set-getD fourth cell 0)
+
+  pop-opens : pop u (opens m u sc) ≡ fourth
   unfolding pop
-  pop-opens = rw (opens-length, opens-name, opens-link) back
+  pop-opens = rw (opens-cell, opens-before) back
 
-  in-slot : getD (opens m u sc) slot 0 ≡ suc u
+  in-cell : getD (opens m u sc) cell 0 ≡ suc u
   unfolding opens
-  in-slot = getD-set-same named slot (suc u) 0 (let l = named-length in let s = slot-in (length sc) m (room .0) in omega arith)
+  in-cell = getD-set-same fourth cell (suc u) 0 (let l = fourth-length in let h = cell-fits in omega arith)
 
   pub open-held : Held sc u → Held (opens m u sc) (suc u)
   unfolding Held
   open-held h =
-      let s = slot-in (length sc) m (room .0) in
-      let far : Agree u sc named =
+      let same = cell-same (opens m u sc) sc u m opens-length opens-names in
+      let far : Agree u sc fourth =
       record {
-        long = sym named-length;
-        low = λ i k. let a : i ≡ 2 * u → ⊥ = λ e. omega arith in let b : i ≡ 2 * u + 1 → ⊥ = λ e. omega arith in sym (named-else i a b);
-        high = λ i k. let r = room .1 in let a : i ≡ 2 * u → ⊥ = λ e. omega arith in let b : i ≡ 2 * u + 1 → ⊥ = λ e. omega arith in sym (named-else i a b);
-      } in
-      (rw (opens-length, opens-name) in-slot, rw pop-opens (held-agree u sc named (room .0) far h))
-
--- the names that are open stand below their number
-pub scope-same : (u : ℕ) (a b : List ℕ) → ((i : ℕ) → i < 2 * u → getD a i 0 ≡ getD b i 0) → scopeOf a u ≡ scopeOf b u
-unfolding scopeOf
-scope-same zero a b e = refl
-scope-same (suc u) a b e = rw (e (2 * u) (omega arith), scope-same u a b (λ i h. e i (omega arith)))
-
-pub scope-length : (sc : List ℕ) (u : ℕ) → length (scopeOf sc u) ≡ u
-unfolding scopeOf
-scope-length sc zero = refl
-scope-length sc (suc u) = ap suc (scope-length sc u)
-
-open-scope : (m u : ℕ) (sc : List ℕ) → Sized (suc u) (length sc) → scopeOf (opens m u sc) (suc u) ≡ m ∷ scopeOf sc u
-unfolding scopeOf
-open-scope m u sc room = rw (opens-name m u sc room, scope-same u (opens m u sc) sc (opens-below m u sc room))
+        long = sym fourth-length;
+        low = λ i k. sym (fourth-else i (λ p q. omega arith));
+        high = λ i k. let r = sized .room in sym (fourth-else i (λ p q. omega arith));
+      } in (
+        record { cell = rw (opens-cell, opens-name) (sym same); held = rw opens-cell in-cell; own = opens-innermost },
+        rw pop-opens (held-agree u sc fourth (sized .some) far h),
+      )
 
 -- all declarations of a quantifier
+module _ (u : ℕ) (sc : List ℕ) where
+  first-sized : (k : ℕ) → Sized (u + suc k) (length sc) → Sized (suc u) (length sc)
+  first-sized k r = sized-at (suc u) (u + suc k) (length sc) (length sc) refl (omega arith) r
+
+  next-sized : (m k : ℕ) → Sized (u + suc k) (length sc) → Sized (suc u + k) (length (opens m u sc))
+  next-sized m k r = sized-at (suc u + k) (u + suc k) (length (opens m u sc)) (length sc) (opens-length m u sc (first-sized k r)) (omega arith) r
+
 pub all-length : (ms : List ℕ) (u : ℕ) (sc : List ℕ) → Sized (u + length ms) (length sc) → length (openAll ms u sc) ≡ length sc
 unfolding openAll
-all-length [] u sc room = refl
-all-length (m ∷ ms) u sc room =
-    let r = room .1 in
-    let l = opens-length m u sc (room .0, omega arith) in
-    all-length ms (suc u) (opens m u sc) (rw l (room .0, omega arith)) ∙ l
+all-length [] u sc r = refl
+all-length (m ∷ ms) u sc r = all-length ms (suc u) (opens m u sc) (next-sized u sc m (length ms) r) ∙ opens-length m u sc (first-sized u sc (length ms) r)
 
 pub all-held : (ms : List ℕ) (u : ℕ) (sc : List ℕ) → Sized (u + length ms) (length sc) → Held sc u → Held (openAll ms u sc) (u + length ms)
 unfolding openAll
-all-held [] u sc room h = let e : u + 0 ≡ u = omega arith in rw e h
-all-held (m ∷ ms) u sc room h =
-    let r = room .1 in
-    let l = opens-length m u sc (room .0, omega arith) in
+all-held [] u sc r h = let e : u + 0 ≡ u = omega arith in rw e h
+all-held (m ∷ ms) u sc r h =
     let e : u + suc (length ms) ≡ suc u + length ms = omega arith in
-    rw e (all-held ms (suc u) (opens m u sc) (rw l (room .0, omega arith)) (open-held m u sc (room .0, omega arith) h))
+    rw e (all-held ms (suc u) (opens m u sc) (next-sized u sc m (length ms) r) (open-held m u sc (first-sized u sc (length ms) r) h))
 
 pub all-scope : (ms : List ℕ) (u : ℕ) (sc : List ℕ) → Sized (u + length ms) (length sc) → scopeOf (openAll ms u sc) (u + length ms) ≡ opened ms (scopeOf sc u)
 unfolding openAll
-all-scope [] u sc room = let e : u + 0 ≡ u = omega arith in rw e
-all-scope (m ∷ ms) u sc room =
-    let r = room .1 in
-    let l = opens-length m u sc (room .0, omega arith) in
+all-scope [] u sc r = let e : u + 0 ≡ u = omega arith in rw e
+all-scope (m ∷ ms) u sc r =
     let e : u + suc (length ms) ≡ suc u + length ms = omega arith in
-    rw (e, ← open-scope m u sc (room .0, omega arith)) (all-scope ms (suc u) (opens m u sc) (rw l (room .0, omega arith)))
+    rw (e, ← open-scope m u sc (first-sized u sc (length ms) r)) (all-scope ms (suc u) (opens m u sc) (next-sized u sc m (length ms) r))
 
--- what stands below a level stays when the row is opened from it on
-pub all-below : (ms : List ℕ) (u : ℕ) (sc : List ℕ) → Sized (u + length ms) (length sc) → (i : ℕ) → i < 2 * u → getD (openAll ms u sc) i 0 ≡ getD sc i 0
+-- the names below a level stay when the row is opened from it on
+all-below : (ms : List ℕ) (u : ℕ) (sc : List ℕ) → Sized (u + length ms) (length sc) → (l : ℕ) → l < u → getD (openAll ms u sc) (4 * l) 0 ≡ getD sc (4 * l) 0
 unfolding openAll
-all-below [] u sc room i h = refl
-all-below (m ∷ ms) u sc room i h =
-    let r = room .1 in
-    let l = opens-length m u sc (room .0, omega arith) in
-    all-below ms (suc u) (opens m u sc) (rw l (room .0, omega arith)) i (omega arith) ∙ opens-below m u sc (room .0, omega arith) i h
+all-below [] u sc r l h = refl
+all-below (m ∷ ms) u sc r l h =
+    all-below ms (suc u) (opens m u sc) (next-sized u sc m (length ms) r) l (omega arith) ∙ opens-below m u sc (first-sized u sc (length ms) r) l h
 
--- closed again
-pub pop-low : (u : ℕ) (sc : List ℕ) (v : ℕ) → Sized v (length sc) → (i : ℕ) → i < 2 * v → getD (pop u sc) i 0 ≡ getD sc i 0
-unfolding pop
-pop-low u sc v room i h =
-    let m = getD sc (2 * u) 0 in
-    let s = slot-in (length sc) m (room .0) .1 in
-    let r = room .1 in
-    let ne : i ≡ slotOf (length sc) m → ⊥ = λ e. omega arith in
-    getD-set-other sc (slotOf (length sc) m) i (getD sc (2 * u + 1) 0) 0 ne
+pub all-outer : (ms : List ℕ) (u : ℕ) (sc : List ℕ) → Sized (u + length ms) (length sc) → scopeOf (openAll ms u sc) u ≡ scopeOf sc u
+all-outer ms u sc r = scope-same u (openAll ms u sc) sc (all-below ms u sc r)
+
+-- closed again: only the cell of the innermost declaration changes
+module _ (u v : ℕ) (sc : List ℕ) (sized : Sized v (length sc)) (inside : u < v) (held : Held sc (suc u)) where
+  pub pop-else : (w : ℕ) → w < 4 * v → ((l : ℕ) → w ≡ 4 * l + 2 → ⊥) → getD (pop u sc) w 0 ≡ getD sc w 0
+  unfolding pop Held
+  pop-else w h ne =
+      let r = sized .room in
+      let c = held .0 .cell in
+      let apart : w ≡ getD sc (4 * u + 3) 0 → ⊥ = rw c (cell-not sc u (getD sc (4 * u) 0) w (sized .some) (omega arith) ne) in
+      getD-set-other sc (getD sc (4 * u + 3) 0) w (getD sc (4 * u + 1) 0) 0 apart
+
+  pub pop-names : (k : ℕ) → k ≤ v → scopeOf (pop u sc) k ≡ scopeOf sc k
+  pop-names k h = scope-same k (pop u sc) sc (λ l q. let ne : (r : ℕ) → 4 * l ≡ 4 * r + 2 → ⊥ = λ r e. omega arith in pop-else (4 * l) (omega arith) ne)
+
+  pub pop-cell : getD sc (4 * u + 3) 0 < length sc
+  unfolding Held
+  pop-cell = rw (held .0 .cell) (cell-low sc u (getD sc (4 * u) 0) v (omega arith) sized)
+
+last-held : (u n : ℕ) (sc : List ℕ) → Held sc (u + suc n) → Held sc (suc (u + n))
+last-held u n sc h = let e : u + suc n ≡ suc (u + n) = omega arith in rw e at h
 
 pub close-held : (u n : ℕ) (sc : List ℕ) → Held sc (u + n) → Held (closes u n sc) u
 unfolding closes Held
 close-held u zero sc h = let e : u + 0 ≡ u = omega arith in rw e at h
-close-held u (suc n) sc h =
-    let e : u + suc n ≡ suc (u + n) = omega arith in
-    let k = rw e at h in
-    close-held u n (pop (u + n) sc) (k .1)
+close-held u (suc n) sc h = close-held u n (pop (u + n) sc) (last-held u n sc h .1)
 
-pub close-length : (u n : ℕ) (sc : List ℕ) → length (closes u n sc) ≡ length sc
-unfolding closes
-close-length u zero sc = refl
-close-length u (suc n) sc = close-length u n (pop (u + n) sc) ∙ pop-length (u + n) sc
-
-close-low : (u n : ℕ) (sc : List ℕ) → Sized (u + n) (length sc) → (i : ℕ) → i < 2 * u → getD (closes u n sc) i 0 ≡ getD sc i 0
-unfolding closes
-close-low u zero sc room i h = refl
-close-low u (suc n) sc room i h =
-    let r = room .1 in
+pub close-scope : (u n : ℕ) (sc : List ℕ) → Sized (u + n) (length sc) → Held sc (u + n) → scopeOf (closes u n sc) u ≡ scopeOf sc u
+unfolding closes Held
+close-scope u zero sc r h = refl
+close-scope u (suc n) sc r h =
+    let k = last-held u n sc h in
     let l = pop-length (u + n) sc in
-    close-low u n (pop (u + n) sc) (rw l (room .0, omega arith)) i h ∙ pop-low (u + n) sc (u + suc n) room i (omega arith)
-
-pub close-scope : (u n : ℕ) (sc : List ℕ) → Sized (u + n) (length sc) → scopeOf (closes u n sc) u ≡ scopeOf sc u
-close-scope u n sc room = scope-same u (closes u n sc) sc (close-low u n sc room)
-
--- the same names are open below u where they are the same below u + n
-pub scope-less : (n u : ℕ) (a b : List ℕ) → scopeOf a (u + n) ≡ scopeOf b (u + n) → scopeOf a u ≡ scopeOf b u
-unfolding scopeOf
-scope-less zero u a b e = let z : u + 0 ≡ u = omega arith in rw z at e
-scope-less (suc n) u a b e =
-    let z : u + suc n ≡ suc (u + n) = omega arith in
-    let k : scopeOf a (u + n) ≡ scopeOf b (u + n) = cc (rw z at e) in
-    scope-less n u a b k
+    close-scope u n (pop (u + n) sc) (sized-at (u + n) (u + suc n) (length (pop (u + n) sc)) (length sc) l (omega arith) r) (k .1)
+    ∙ pop-names (u + n) (u + suc n) sc r (omega arith) k u (omega arith)
 
 -- how the loops go on
-pub opens-is : (m u : ℕ) (sc : List ℕ) → set (set (set sc (2 * u) m) (2 * u + 1) (getD sc (slotOf (length sc) m) 0)) (slotOf (length sc) m) (u + 1) ≡ opens m u sc
+pub opens-is : (m u c : ℕ) (sc : List ℕ) → c ≡ cellIn sc u m
+    → set (set (set (set (set sc (4 * u) m) (4 * u + 1) (getD sc c 0)) (4 * u + 2) (u + 1)) (4 * u + 3) c) c (u + 1) ≡ opens m u sc
 unfolding opens
-opens-is m u sc = rw (add-one u)
+opens-is m u c sc e = rw (add-one u, e)
 
 pub open-more : (declared : List ℕ) (i u : ℕ) (sc sc′ : List ℕ) → i < length declared → sc′ ≡ opens (getD declared i 0) u sc → openAll (drop i declared) u sc ≡ openAll (drop (i + 1) declared) (u + 1) sc′
 unfolding openAll
 open-more declared i u sc sc′ h e = rw (here declared i h, e, add-one u)
 
+pub held-next : (m u : ℕ) (sc sc′ : List ℕ) → Sized (u + 1) (length sc) → Held sc u → sc′ ≡ opens m u sc → Held sc′ (u + 1)
+held-next m u sc sc′ r h e = rw (e, add-one u) (open-held m u sc (rw (add-one u) at r) h)
+
 pub open-none : (declared : List ℕ) (i u : ℕ) (sc : List ℕ) → length declared ≤ i → openAll (drop i declared) u sc ≡ sc
 unfolding openAll
 open-none declared i u sc h = rw (gone declared i h)
 
-pub close-more : (u left slot : ℕ) (sc : List ℕ) → 0 < left → slot ≡ slotOf (length sc) (getD sc (2 * (u + (left - 1))) 0)
-    → closes u left sc ≡ closes u (left - 1) (set sc slot (getD sc (2 * (u + (left - 1)) + 1) 0))
+pub close-more : (u left : ℕ) (sc : List ℕ) → 0 < left
+    → closes u left sc ≡ closes u (left - 1) (set sc (getD sc (4 * (u + (left - 1)) + 3) 0) (getD sc (4 * (u + (left - 1)) + 1) 0))
 unfolding closes pop
-close-more u zero slot sc h e = absurd (omega arith)
-close-more u (suc left) slot sc h e = let k : suc left - 1 ≡ left = omega arith in rw (e, k)
+close-more u zero sc h = absurd (omega arith)
+close-more u (suc left) sc h = let k : suc left - 1 ≡ left = omega arith in rw k
 
 pub close-none : (u left : ℕ) (sc : List ℕ) → left ≤ 0 → closes u left sc ≡ sc
 unfolding closes
 close-none u zero sc h = refl
 close-none u (suc left) sc h = absurd (omega arith)
 
-pub sized-at : (u v n n′ : ℕ) → n ≡ n′ → u ≤ v → Sized v n′ → Sized u n
-sized-at u v n n′ e h r = let k = r .1 in rw e (r .0, omega arith)
+-- the innermost declaration is held, and after it is closed the others are
+pub held-last : (u left : ℕ) (sc : List ℕ) → 0 < left → Held sc (u + left) → Held sc (suc (u + (left - 1)))
+held-last u left sc h k = let e : u + left ≡ suc (u + (left - 1)) = omega arith in rw e at k
 
-pub sized-few : (m n : ℕ) → 2 * m + 256 ≤ n → n < 4096 → Sized m n
-sized-few m n h l = rw (few-slots n l) (omega arith, h)
-
-pub sized-more : (m n : ℕ) → 2 * m + 4096 ≤ n → n < 65536 → Sized m n
-sized-more m n h l = let k : 4096 ≤ n = omega arith in rw (more-slots n k l) (omega arith, h)
-
-pub sized-many : (m n : ℕ) → 2 * m + 65536 ≤ n → Sized m n
-sized-many m n h = let l : 65536 ≤ n = omega arith in rw (many-slots n l) (omega arith, h)
+pub held-closed : (u left : ℕ) (sc : List ℕ) → 0 < left → Held sc (u + left)
+    → Held (set sc (getD sc (4 * (u + (left - 1)) + 3) 0) (getD sc (4 * (u + (left - 1)) + 1) 0)) (u + (left - 1))
+unfolding Held pop
+held-closed u left sc h k = held-last u left sc h k .1

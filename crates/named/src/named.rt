@@ -33,16 +33,28 @@ fn named_in(row: &[u32], made: &mut [u32], scope: &mut [u32], out: &mut [u32]) -
     Answer::Done(end)
 }
 
-// Named, for rows over 2,048 words: there is a slot for each name, so that no name waits behind another.
-fn named_long(row: &[u32], out: &mut [u32]) -> Answer
+// Named for rows over 512 words, with room for `most` words, 2,048 or 8,192. A longer row is left to a call with room for any. The compiler puts
+// no function that calls itself into its caller, so the frame of short rows does not hold these rows.
+fn named_long(row: &[u32], out: &mut [u32], most: usize) -> Answer
     ensures { λ r. ⌜ r ≡ told (namedOutcome (now (row .entry)) (length (now (out .entry)))) ⌝ }
     ensures { λ _. ⌜ now (out .exit) ≡ written (namedOutcome (now (row .entry)) (length (now (out .entry)))) (now (out .entry)) ⌝ }
 {
     if Limit::WORDS < row.len() {
         return Answer::No(1, 0);
     }
+    if most < row.len() {
+        return match named_long(row, out, Limit::WORDS) {
+            Answer::Done(n) => Answer::Done(n),
+            Answer::No(k, p) => Answer::No(k, p),
+        };
+    }
+    if most <= 2048 {
+        let mut made = [0u32; 2048];
+        let mut scope = [0u32; 12288];
+        return named_in(row, &mut made, &mut scope, out);
+    }
     let mut made = [0u32; 8192];
-    let mut scope = [0u32; 81920];
+    let mut scope = [0u32; 36864];
     named_in(row, &mut made, &mut scope, out)
 }
 
@@ -54,18 +66,13 @@ pub fn to_indices(row: &[u32], out: &mut [u32]) -> Answer
 {
     if row.len() <= 64 {
         let mut made = [0u32; 64];
-        let mut scope = [0u32; 384];
+        let mut scope = [0u32; 512];
         return named_in(row, &mut made, &mut scope, out);
     }
     if row.len() <= 512 {
         let mut made = [0u32; 512];
-        let mut scope = [0u32; 1280];
+        let mut scope = [0u32; 4096];
         return named_in(row, &mut made, &mut scope, out);
     }
-    if row.len() <= 2048 {
-        let mut made = [0u32; 2048];
-        let mut scope = [0u32; 8192];
-        return named_in(row, &mut made, &mut scope, out);
-    }
-    named_long(row, out)
+    named_long(row, out, 2048)
 }

@@ -32,7 +32,7 @@ slice-aggregate-named-in-4 : tie.Need-slice-aggregate-named-in-4
 slice-aggregate-named-in-4 c = search needs
 
 named-in-requires-2 : tie.Need-named-in-requires-2
-named-in-requires-2 c κs = let at-if2 = c .before .before .before .if2 in let l = at-if2 .taken in record { sized = sized-few _ _ (omega arith) (omega arith); fits = omega arith; short = omega arith; zeros = refl }
+named-in-requires-2 c κs = let at-if2 = c .before .before .before .if2 in let l = at-if2 .taken in record { sized = sized-more _ _ (omega arith) (omega arith); fits = omega arith; short = omega arith; zeros = refl }
 
 same-length-2 : tie.Need-same-length-2
 same-length-2 c = search needs
@@ -40,29 +40,14 @@ same-length-2 c = search needs
 returns-2 : tie.Need-returns-2
 returns-2 c = let at-named-in2 = c .before .before .before .before .named-in2 in at-named-in2 .ensures
 
-slice-aggregate-named-in-5 : tie.Need-slice-aggregate-named-in-5
-slice-aggregate-named-in-5 c = search needs
-
-slice-aggregate-named-in-6 : tie.Need-slice-aggregate-named-in-6
-slice-aggregate-named-in-6 c = search needs
-
-named-in-requires-3 : tie.Need-named-in-requires-3
-named-in-requires-3 c κs = let at-if3 = c .before .before .before .if3 in let l = at-if3 .taken in record { sized = sized-more _ _ (omega arith) (omega arith); fits = omega arith; short = omega arith; zeros = refl }
+named-long-requires : tie.Need-named-long-requires
+named-long-requires c κs = search needs
 
 same-length-3 : tie.Need-same-length-3
 same-length-3 c = search needs
 
 returns-3 : tie.Need-returns-3
-returns-3 c = let at-named-in3 = c .before .before .before .before .named-in3 in at-named-in3 .ensures
-
-named-long-requires : tie.Need-named-long-requires
-named-long-requires c κs = search needs
-
-same-length-4 : tie.Need-same-length-4
-same-length-4 c = search needs
-
-returns-4 : tie.Need-returns-4
-returns-4 c = let at-named-long = c .before .before .named-long in at-named-long .ensures
+returns-3 c = let at-named-long = c .before .before .named-long in at-named-long .ensures
 
 pub to-indices-spec : {M : Type 1} → statement M
 to-indices-spec =
@@ -78,11 +63,6 @@ to-indices-spec =
     named-in-requires-2
     same-length-2
     returns-2
-    slice-aggregate-named-in-5
-    slice-aggregate-named-in-6
-    named-in-requires-3
-    same-length-3
-    returns-3
     named-long-requires
-    same-length-4
-    returns-4)
+    same-length-3
+    returns-3)

@@ -444,7 +444,7 @@ name-under-cast-binds : (t : ℕ) → name-under-lts.Need-cast-binds (name-under
 name-under-cast-binds t c = let at-pre = c .before .before .before .before .pre in let a = at-pre .1 .1 .2 in search needs
 
 name-under-open-names-requires : (t : ℕ) → name-under-lts.Need-open-names-requires (name-under-calls t) (name-under-at t) name-under.Post
-name-under-open-names-requires t c κs = let at-pre = c .before .before .before .before .before .pre in let at-args = c .before .before .before .before .before .args in let a = at-pre .1 .1 in ((sized-at ((at-args .under) + length (at-args .declared .now)) (length (at-args .row .now)) (length (at-args .scope .now)) (length (at-args .scope .now)) refl (omega arith) (at-pre .1 .0 .sized)), let s = at-pre .1 .0 .short in omega arith)
+name-under-open-names-requires t c κs = let at-pre = c .before .before .before .before .before .pre in let at-args = c .before .before .before .before .before .args in let a = at-pre .1 .1 in ((sized-at ((at-args .under) + length (at-args .declared .now)) (length (at-args .row .now)) (length (at-args .scope .now)) (length (at-args .scope .now)) refl (omega arith) (at-pre .1 .0 .sized)), at-pre .1 .0 .held)
 
 name-under-add-name-all : (t : ℕ) → name-under-lts.Need-add-name-all (name-under-calls t) (name-under-at t) name-under.Post
 name-under-add-name-all t c = let at-pre = c .before .before .before .before .before .before .before .before .before .before .pre in let a = at-pre .1 .1 in let s = at-pre .1 .0 .short in search needs
@@ -489,7 +489,7 @@ name-under-returns-2 : (t : ℕ) → name-under-lts.Need-returns-2 (name-under-c
 name-under-returns-2 t c = let at-pre = c .before .before .before .before .before .before .before .before .before .before .before .before .before .before .before .before .before .before .before .before .before .before .before .before .before .before .before .pre in let at-name-all = c .before .before .before .before .before .before .before .before .before .before .before .before .before .before .before .before .name-all in let at-q = c .before .before .before .before .before .before .before .before .before .before .q in let at-args = c .before .before .before .before .before .before .before .before .before .before .before .before .before .before .before .before .before .before .before .before .before .before .before .before .before .before .before .args in let at-open-names = c .before .before .before .before .before .before .before .before .before .before .before .before .before .before .before .before .before .before .before .before .before .open-names in let at-name-all2 = c .before .before .before .before .before .before .name-all2 in let at-enum-told2 = c .enum-told2 in let a = at-pre .1 .1 in let k = kept-end _ _ _ _ _ (at-name-all .ensures .1) (at-q .given .1) in let o = open-names (at-args .declared .now) (at-args .under) (at-args .scope .now) _ (sized-at ((at-args .under) + length (at-args .declared .now)) (length (at-args .row .now)) (length (at-args .scope .now)) (length (at-args .scope .now)) refl (omega arith) (at-pre .1 .0 .sized)) (at-pre .1 .0 .held) (at-open-names .ensures) in let f = rw o at (at-name-all .ensures .0) in let s = k .1 ∙ o in let g = rw s at (at-name-all2 .ensures .0) in (both-go (at-args .depth) (at-args .row .now) (opened (at-args .declared .now) (scopeOf (at-args .scope .now) (at-args .under))) (replicate (at-args .preds) pred) (replicate (at-args .exprs) expr) _ _ _ _ _ _ _ f (at-q .given .1) (rw (at-enum-told2 .given .1) at g), kept-bad _ _ _)
 
 name-under-close-names-requires : (t : ℕ) → name-under-lts.Need-close-names-requires (name-under-calls t) (name-under-at t) name-under.Post
-name-under-close-names-requires t c κs = let at-pre = c .before .before .before .before .before .before .before .before .before .before .before .before .before .before .before .before .before .before .before .before .before .before .before .before .before .before .before .before .before .pre in let at-name-all2 = c .before .before .before .before .before .before .before .before .name-all2 in let at-name-all = c .before .before .before .before .before .before .before .before .before .before .before .before .before .before .before .before .before .before .name-all in let at-args = c .before .before .before .before .before .before .before .before .before .before .before .before .before .before .before .before .before .before .before .before .before .before .before .before .before .before .before .before .before .args in let at-open-names = c .before .before .before .before .before .before .before .before .before .before .before .before .before .before .before .before .before .before .before .before .before .before .before .open-names in let a = at-pre .1 .1 in (sized-at _ _ _ _ (at-name-all2 .kept .1 .1 .0 ∙ (at-name-all .kept .1 .1 .0 ∙ open-long (at-args .declared .now) (at-args .under) (at-args .scope .now) _ (sized-at ((at-args .under) + length (at-args .declared .now)) (length (at-args .row .now)) (length (at-args .scope .now)) (length (at-args .scope .now)) refl (omega arith) (at-pre .1 .0 .sized)) (at-pre .1 .0 .held) (at-open-names .ensures))) (omega arith) (sized-at ((at-args .under) + length (at-args .declared .now)) (length (at-args .row .now)) (length (at-args .scope .now)) (length (at-args .scope .now)) refl (omega arith) (at-pre .1 .0 .sized)), let s = at-pre .1 .0 .short in omega arith)
+name-under-close-names-requires t c κs = let at-end = c .before .before .end in let at-pre = c .before .before .before .before .before .before .before .before .before .before .before .before .before .before .before .before .before .before .before .before .before .before .before .before .before .before .before .before .before .pre in let at-name-all2 = c .before .before .before .before .before .before .before .before .name-all2 in let at-name-all = c .before .before .before .before .before .before .before .before .before .before .before .before .before .before .before .before .before .before .name-all in let at-args = c .before .before .before .before .before .before .before .before .before .before .before .before .before .before .before .before .before .before .before .before .before .before .before .before .before .before .before .before .before .args in let at-open-names = c .before .before .before .before .before .before .before .before .before .before .before .before .before .before .before .before .before .before .before .before .before .before .before .open-names in let a = at-pre .1 .1 in (sized-at _ _ _ _ (at-name-all2 .kept .1 .1 .0 ∙ (at-name-all .kept .1 .1 .0 ∙ open-long (at-args .declared .now) (at-args .under) (at-args .scope .now) _ (sized-at ((at-args .under) + length (at-args .declared .now)) (length (at-args .row .now)) (length (at-args .scope .now)) (length (at-args .scope .now)) refl (omega arith) (at-pre .1 .0 .sized)) (at-pre .1 .0 .held) (at-open-names .ensures))) (omega arith) (sized-at ((at-args .under) + length (at-args .declared .now)) (length (at-args .row .now)) (length (at-args .scope .now)) (length (at-args .scope .now)) refl (omega arith) (at-pre .1 .0 .sized)), kept-end _ _ _ _ _ (at-name-all2 .ensures .1) (at-end .given .1) .0)
 
 name-under-same-length-5 : (t : ℕ) → name-under-lts.Need-same-length-5 (name-under-calls t) (name-under-at t) name-under.Post
 name-under-same-length-5 t c = let at-name-all2 = c .before .before .before .before .before .before .before .before .before .before .before .name-all2 in let at-name-all = c .before .before .before .before .before .before .before .before .before .before .before .before .before .before .before .before .before .before .before .before .before .name-all in at-name-all2 .kept .1 .0 ∙ at-name-all .kept .1 .0

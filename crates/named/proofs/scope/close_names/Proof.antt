@@ -1,74 +1,76 @@
--- `named::scope::close_names` meets its contract. Assumes nothing.
+-- `named::scope/close_names` meets its contract. Assumes nothing.
 use mathlib.Core.Path.{_≡_, refl, sym, _∙_}
-use Prim.Native.Nat.{_≤_}
+use Prim.Native.Nat.{_+_, _≤_}
 use native.Mathlib.Omega.{arith}
 use native.Mathlib.Nat.{le-refl}
 use borrow.Author.Needs.{needs}
 use lib.ListN.{length, length-set}
-use Rattle.named.specs.Internal.Scope.{closes}
-use Rattle.named.proofs.ScopeLaws.{close-more, close-none}
+use Rattle.named.specs.Internal.Scope.{closes, Held}
+use Rattle.named.proofs.ScopeLaws.{close-more, close-none, pop-cell, held-last, held-closed, sized-at}
 use Rattle.named.proofs.scope.close_names.Statement.{statement}
 use Rattle.named.proofs.scope.close_names.Tie as tie
 use Rattle.named.proofs.scope.close_names.Reads as reads
 use Rattle.named.proofs.scope.close_names.Lts as lts
-use Rattle.named.proofs.scope.slot_of.Reads as slot-of-reads
 
 abbrev Inv-loop : tie.InvT-loop
-Inv-loop scope₀ under n left₀ scope left = (closes under n scope₀ ≡ closes under left scope) × (length scope ≡ length scope₀) × (left ≤ n)
+Inv-loop scope₀ under n left₀ scope left = (closes under n scope₀ ≡ closes under left scope) × (length scope ≡ length scope₀) × (left ≤ n) × Held scope (under + left)
 
 abbrev μ-loop : tie.MeasureT-loop
 μ-loop scope₀ under n left₀ scope left = left
 
 loop-holds : tie.Need-loop-holds Inv-loop μ-loop
-loop-holds c = (refl, refl, le-refl _)
+loop-holds c = (refl, refl, le-refl _, c .pre .1)
 
 sub-left : tie.Need-sub-left Inv-loop μ-loop
 sub-left c = search needs
 
 add-at : tie.Need-add-at Inv-loop μ-loop
-add-at c = let at-pre = c .before .before .before .pre in let at-loop = c .before .loop in let p = at-pre .1 in let i = at-loop .inv .2 in omega arith
+add-at c = let i = c .before .loop .inv .2 in let k = c .before .loop .inv .1 in let t = c .loop-test .taken in let r = c .before .before .pre .0 .room in let z = c .before .before .pre .0 .most in record { fits = omega arith }
 
 cast-at : tie.Need-cast-at Inv-loop μ-loop
-cast-at c = search needs
+cast-at c = let i = c .before .loop .inv .2 in let k = c .before .loop .inv .1 in let t = c .loop-test .taken in let r = c .before .before .pre .0 .room in let z = c .before .before .pre .0 .most in search needs
 
 mul-at : tie.Need-mul-at Inv-loop μ-loop
-mul-at c = search needs
+mul-at c = let i = c .before .loop .inv .2 in let k = c .before .loop .inv .1 in let t = c .loop-test .taken in let r = c .before .before .pre .0 .room in let z = c .before .before .pre .0 .most in search needs
 
-mul-slot-of : tie.Need-mul-slot-of Inv-loop μ-loop
-mul-slot-of c = search needs
+add-cell : tie.Need-add-cell Inv-loop μ-loop
+add-cell c = let i = c .before .loop .inv .2 in let k = c .before .loop .inv .1 in let t = c .loop-test .taken in let r = c .before .before .pre .0 .room in let z = c .before .before .pre .0 .most in search needs
 
-slice-read-slot-of : tie.Need-slice-read-slot-of Inv-loop μ-loop
-slice-read-slot-of c = search needs
+mul-cell : tie.Need-mul-cell Inv-loop μ-loop
+mul-cell c = let i = c .before .loop .inv .2 in let k = c .before .loop .inv .1 in let t = c .loop-test .taken in let r = c .before .before .pre .0 .room in let z = c .before .before .pre .0 .most in search needs
 
-slot-of-requires : tie.Need-slot-of-requires Inv-loop μ-loop
-slot-of-requires c κs = let at-pre = c .before .before .before .before .pre in let at-loop = c .before .before .loop in let p = at-pre .0 .0 in let i = at-loop .inv .1 in omega arith
+slice-read-cell : tie.Need-slice-read-cell Inv-loop μ-loop
+slice-read-cell c = let i = c .before .before .loop .inv .2 in let k = c .before .before .loop .inv .1 in let t = c .before .loop-test .taken in let r = c .before .before .before .pre .0 .room in let z = c .before .before .before .pre .0 .most in omega arith
+
+cast-cell : tie.Need-cast-cell Inv-loop μ-loop
+cast-cell c = let i = c .before .before .loop .inv .2 in let k = c .before .before .loop .inv .1 in let t = c .before .loop-test .taken in let r = c .before .before .before .pre .0 .room in let z = c .before .before .before .pre .0 .most in let l = pop-cell _ _ _ (sized-at _ _ _ _ (c .before .before .loop .inv .1) (le-refl _) (c .before .before .before .pre .0)) (omega arith) (held-last _ _ _ (c .before .loop-test .taken) (c .before .before .loop .inv .3)) in search needs
 
 add-scope : tie.Need-add-scope Inv-loop μ-loop
-add-scope c = search needs
+add-scope c = let i = c .before .before .loop .inv .2 in let k = c .before .before .loop .inv .1 in let t = c .before .loop-test .taken in let r = c .before .before .before .pre .0 .room in let z = c .before .before .before .pre .0 .most in search needs
 
 mul-scope : tie.Need-mul-scope Inv-loop μ-loop
-mul-scope c = search needs
+mul-scope c = let i = c .before .before .loop .inv .2 in let k = c .before .before .loop .inv .1 in let t = c .before .loop-test .taken in let r = c .before .before .before .pre .0 .room in let z = c .before .before .before .pre .0 .most in search needs
 
 slice-read-scope : tie.Need-slice-read-scope Inv-loop μ-loop
-slice-read-scope c = search needs
+slice-read-scope c = let i = c .before .before .before .loop .inv .2 in let k = c .before .before .before .loop .inv .1 in let t = c .before .before .loop-test .taken in let r = c .before .before .before .before .pre .0 .room in let z = c .before .before .before .before .pre .0 .most in omega arith
 
 mul-scope-2 : tie.Need-mul-scope-2 Inv-loop μ-loop
-mul-scope-2 c = search needs
+mul-scope-2 c = let i = c .before .before .before .loop .inv .2 in let k = c .before .before .before .loop .inv .1 in let t = c .before .before .loop-test .taken in let r = c .before .before .before .before .pre .0 .room in let z = c .before .before .before .before .pre .0 .most in let l = pop-cell _ _ _ (sized-at _ _ _ _ (c .before .before .before .loop .inv .1) (le-refl _) (c .before .before .before .before .pre .0)) (omega arith) (held-last _ _ _ (c .before .before .loop-test .taken) (c .before .before .before .loop .inv .3)) in search needs
 
 slice-write-scope : tie.Need-slice-write-scope Inv-loop μ-loop
-slice-write-scope c = search needs
+slice-write-scope c = let i = c .before .before .before .loop .inv .2 in let k = c .before .before .before .loop .inv .1 in let t = c .before .before .loop-test .taken in let r = c .before .before .before .before .pre .0 .room in let z = c .before .before .before .before .pre .0 .most in let l = pop-cell _ _ _ (sized-at _ _ _ _ (c .before .before .before .loop .inv .1) (le-refl _) (c .before .before .before .before .pre .0)) (omega arith) (held-last _ _ _ (c .before .before .loop-test .taken) (c .before .before .before .loop .inv .3)) in omega arith
 
 loop-less : tie.Need-loop-less Inv-loop μ-loop
-loop-less c = let at-loop-test = c .before .before .before .loop-test in let t = at-loop-test .taken in omega arith
+loop-less c = let t = c .before .before .loop-test .taken in omega arith
 
 loop-again : tie.Need-loop-again Inv-loop μ-loop
-loop-again c = let at-loop = c .before .before .before .before .loop in let at-loop-test = c .before .before .before .loop-test in let at-slot-of = c .before .slot-of in (at-loop .inv .0 ∙ close-more _ _ _ _ (at-loop-test .taken) (at-slot-of .ensures .0), length-set (at-loop .scope) _ _ ∙ at-loop .inv .1, let i = at-loop .inv .2 in omega arith)
+loop-again c = (c .before .before .before .loop .inv .0 ∙ close-more _ _ _ (c .before .before .loop-test .taken), length-set (c .before .before .before .loop .scope) _ _ ∙ c .before .before .before .loop .inv .1, let i = c .before .before .before .loop .inv .2 in omega arith, held-closed _ _ _ (c .before .before .loop-test .taken) (c .before .before .before .loop .inv .3))
 
 same-length : tie.Need-same-length Inv-loop μ-loop
-same-length c = let at-loop = c .before .loop in at-loop .inv .1
+same-length c = c .before .loop .inv .1
 
 returns : tie.Need-returns Inv-loop μ-loop
-returns c = let at-loop = c .before .loop in let at-loop-test = c .loop-test in sym (at-loop .inv .0 ∙ close-none _ _ _ (at-loop-test .left))
+returns c = sym (c .before .loop .inv .0 ∙ close-none _ _ _ (c .loop-test .left))
 
 pub close-names-spec : {M : Type 1} → statement M
 close-names-spec =
@@ -81,9 +83,10 @@ close-names-spec =
     add-at
     cast-at
     mul-at
-    mul-slot-of
-    slice-read-slot-of
-    slot-of-requires
+    add-cell
+    mul-cell
+    slice-read-cell
+    cast-cell
     add-scope
     mul-scope
     slice-read-scope

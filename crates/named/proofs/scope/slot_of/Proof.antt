@@ -27,6 +27,9 @@ add-result-2 c = search needs
 returns-2 : tie.Need-returns-2
 returns-2 c = let if1 = c .before .if1 in let if2 = c .if2 in slot-more _ (if1 .left) (if2 .taken) _
 
+sub-result-2 : tie.Need-sub-result-2
+sub-result-2 c = search needs
+
 cast-result-3 : tie.Need-cast-result-3
 cast-result-3 c = search needs
 
@@ -39,4 +42,4 @@ returns-3 c = let if2 = c .if2 in slot-many _ (if2 .left) _
 pub slot-of-spec : {M : Type 1} → statement M
 slot-of-spec =
     tie.close
-    (tie.spec sub-result cast-result add-result returns cast-result-2 add-result-2 returns-2 cast-result-3 add-result-3 returns-3)
+    (tie.spec sub-result cast-result add-result returns cast-result-2 add-result-2 returns-2 sub-result-2 cast-result-3 add-result-3 returns-3)
