@@ -1,6 +1,6 @@
 -- A name or an index among the expressions that must come: the search passes it at once, or stops at the word after its tag. Assumes nothing.
 use mathlib.Core.Path.{_≡_, refl, sym}
-use mathlib.Core.Bool.{Bool, true, false, _&&_, not}
+use mathlib.Core.Bool.{Bool, true, false, _&&_}
 use mathlib.Core.List.{List, [], _∷_}
 use Prim.Native.Nat.{ℕ, zero, suc, _+_, _-_, _≤_, _<_}
 use native.Mathlib.Nat.{le-refl}
@@ -29,25 +29,26 @@ both true false e = absurd (clash cc)
 both false c e = absurd (clash cc)
 
 -- the test of its tag, by its parts
-pub name-tag : (named : Bool) (t : ℕ) → t ≡ 1 → true ≡ leafIn named t
-name-tag true t e = rw e refl
-name-tag false t e = rw e refl
+pub named-tag : (named : Bool) (t : ℕ) → named ≡ true → eqb t 1 ≡ leafIn named t
+named-tag named t e = rw e
 
-pub index-tag : (named : Bool) (t : ℕ) → t ≡ 2 → not named ≡ leafIn named t
-index-tag true t e = rw e refl
-index-tag false t e = rw e refl
+pub no-tag : (named : Bool) (t : ℕ) → named ≡ false → t ≡ 0 → false ≡ leafIn named t
+no-tag named t e z = rw (e, z)
 
-pub node-tag : (named : Bool) (t : ℕ) → (t ≡ 1 → ⊥) → (t ≡ 2 → ⊥) → false ≡ leafIn named t
-node-tag true t n m = rw (ne-eqb t 1 n)
-node-tag false t n m = rw (ne-eqb t 1 n, ne-eqb t 2 m)
+up-to-two : (t : ℕ) → (t ≡ 0 → ⊥) → leb t 2 ≡ isLeaf t
+up-to-two zero ne = absurd (ne refl)
+up-to-two (suc zero) ne = refl
+up-to-two (suc (suc zero)) ne = refl
+up-to-two (suc (suc (suc t))) ne =
+    let one : suc (suc (suc t)) ≡ 1 → ⊥ = λ e. omega arith in
+    let two : suc (suc (suc t)) ≡ 2 → ⊥ = λ e. omega arith in
+    rw (ne-eqb (suc (suc (suc t))) 1 one, ne-eqb (suc (suc (suc t))) 2 two, lt-leb (suc (suc (suc t))) 2 (omega arith))
 
-pub other-tag : (named : Bool) (t : ℕ) → (t ≡ 2 → ⊥) → false ≡ (named && eqb t 2)
-other-tag true t n = rw (ne-eqb t 2 n)
-other-tag false t n = refl
+pub low-tag : (named : Bool) (t : ℕ) → named ≡ false → (t ≡ 0 → ⊥) → leb t 2 ≡ leafIn named t
+low-tag named t e ne = rw e (up-to-two t ne)
 
-pub index-in : (named : Bool) (t : ℕ) → t ≡ 2 → named ≡ (named && eqb t 2)
-index-in true t e = rw e refl
-index-in false t e = refl
+pub index-in : (named : Bool) (t : ℕ) → named ≡ true → eqb t 2 ≡ (named && eqb t 2)
+index-in named t e = rw e
 
 module _ (named : Bool) (d p e need at t : ℕ) where
   pub preds-first : 0 < p → false ≡ leafNext named d p e need at t

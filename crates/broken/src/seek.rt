@@ -107,21 +107,21 @@ fn start_of(row: &[u32], at: usize, preds: u32, tag: u32, depth: u32, need: usiz
 fn is_leaf_tag(tag: u32, named: bool) -> bool
     ensures { λ r. ⌜ r ≡ leafIn named tag ⌝ }
 {
-    if tag == Tag::FREE_IDENT {
-        return true;
+    if named {
+        return tag == Tag::FREE_IDENT;
     }
-    if tag == Tag::BOUND_IDENT {
-        return !named;
+    if tag == 0 {
+        return false;
     }
-    false
+    tag <= Tag::BOUND_IDENT
 }
 
 // Whether the tag is that of an index, which no named row has.
 fn is_index(tag: u32, named: bool) -> bool
     ensures { λ r. ⌜ r ≡ (named && eqb tag 2) ⌝ }
 {
-    if tag == Tag::BOUND_IDENT {
-        return named;
+    if named {
+        return tag == Tag::BOUND_IDENT;
     }
     false
 }

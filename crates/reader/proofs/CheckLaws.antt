@@ -15,6 +15,9 @@ use Rattle.form.specs.Answer.{answer, told, ofFound, checkOutcome}
 use Rattle.reader.specs.Internal.Reads.{mark, Told, isFound, Marked, known, knownAt, asExpr, ofKind}
 use Rattle.form.specs.declared.answer.Kind.{Kind}
 use Rattle.form.specs.declared.answer.Kind.the-variants.{Expression, Predicate, Either, Named}
+use Rattle.form.proofs.answer.Kind.{the-type}
+use types.Run.{OneOf, miss}
+use denote.Enum.Declared.{tagOf}
 use Rattle.form.specs.declared.answer.Answer.the-variants.{Done, No}
 use Rattle.tree.specs.declared.tag.Shape.{Shape}
 use Rattle.tree.specs.declared.tag.Shape.the-variants.{Unknown, Plain, Name, Value, Exprs, Preds, Apply, Compr, Quant, NotedCompr, NotedQuant}
@@ -25,6 +28,14 @@ use Rattle.reader.proofs.ReaderLaws.{told-end, told-bad}
 use Rattle.form.proofs.RowLaws.{unknown-no, no-whole, found-either}
 use Rattle.form.proofs.ViableLaws.{row-unbroken, named-unbroken}
 use Rattle.tree.proofs.Ranges.{one-table}
+
+-- a kind of either sort, which is the third or the fourth, is read by the first tag
+pub either-sort : (k : Kind) (row : List ℕ) (b : Bool) → OneOf (2 ∷ 3 ∷ []) (tagOf the-type k) → b ≡ knownAt row → b ≡ asExpr k row
+unfolding asExpr
+either-sort Expression row b k e = absurd (miss (2 ∷ 3 ∷ []) 0 tt k)
+either-sort Predicate row b k e = absurd (miss (2 ∷ 3 ∷ []) 1 tt k)
+either-sort Either row b k e = e
+either-sort Named row b k e = e
 
 known-not : (x : Shape) → known x ≡ false → x ≡ Unknown
 known-not Unknown e = refl

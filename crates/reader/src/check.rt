@@ -50,8 +50,7 @@ pub fn is_expr(row: &[u32], kind: Kind) -> bool
     match kind {
         Kind::Expression => true,
         Kind::Predicate => false,
-        Kind::Either => begins_expr(row),
-        Kind::Named => begins_expr(row),
+        Kind::Either | Kind::Named => begins_expr(row),
     }
 }
 
