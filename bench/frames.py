@@ -3,14 +3,14 @@
 that the compiler moved into a caller is seen here.
 
   python3 bench/frames.py        in the repository's root, after rt staticlib sogbayile; exits with 1 where a function in the path of every row of
-                                 fill, prune or one point has a frame of a page or more, which only a buffer for long rows needs
+                                 fill, prune, one point or named has a frame of a page or more, which only a buffer for long rows needs
 """
 import re
 import subprocess
 import sys
 
 LIBRARY = "target/staticlib/libsogbayile.a"
-PLAIN = "listed::fill::fill_marked", "prune::prune::prune_in", "one_point::reduce::reduce_in", "sgb_fill", "sgb_point"
+PLAIN = "listed::fill::fill_marked", "prune::prune::prune_in", "one_point::reduce::reduce_in", "sogbayile::rewritings::sgb_fill", "sogbayile::rewritings::sgb_point"
 PAGE = 4096
 
 

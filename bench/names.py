@@ -1,7 +1,7 @@
 #!/usr/bin/env python3
 """Named forms beside bind, through the static library and in plain C (bench/names.c): rows of bench/rows.py, with names for named and with indices
-for bind, which have the same shape; then rows of 8,000 words under 1,920 open declarations, and of 2,000 words under 896, in which every
-occurrence names an outer one.
+for bind, which have the same shape; then rows of 8,000 words under 1,920 open declarations, of 2,000 words under 896 and of 500 words under 256,
+in which every occurrence names an outer one. Their time a word is held against that of ordinary rows, for 500 words those of 200.
 
   python3 bench/names.py [ROUNDS]        in the repository's root, after rt staticlib sogbayile; prints tables in Markdown: nanoseconds a word
 """
@@ -16,8 +16,9 @@ from refused import SIZES, parts
 LIBRARY = "target/staticlib/libsogbayile.a"
 BOUND = [3, 7, 1, 12]           # the names that bind is given
 EACH = 32                       # declarations of a quantifier
-LEVELS = {8000: 60, 2000: 28, 500: 8}   # quantifiers round one another, by the words of the row
-SLOTS = {8000: 4093, 2000: 4093, 500: 2039}   # names that are equal modulo this share a slot (crates/named/src/scope.rt)
+LEVELS = {8000: 60, 2000: 28, 500: 8}          # quantifiers round one another, by the words of the row
+SLOTS = {8000: 4093, 2000: 4093, 500: 2039}    # names that are equal modulo this share a slot (crates/named/src/scope.rt)
+ORDINARY = {"8000": "8000", "2000": "2000", "500": "200"}
 
 
 def rows_of(command, size, count, more):
@@ -40,7 +41,7 @@ def wide(size, names, used):
 
 def wide_rows(size, kind):
     """Names that are all different, an occurrence of any or of one of the outermost; names that are equal modulo 256, or but for the outermost all
-    equal, an occurrence of one of the outermost."""
+    equal, an occurrence of one of the outermost; names that share a slot, in turn, an occurrence of the two that were declared first."""
     most = LEVELS[size] * EACH
     different = random.sample(range(65536), most)
     if kind == "any":
@@ -84,7 +85,7 @@ def main():
     print("| named forms | words | library, ns a word | bind, library | named / bind | C | library / C | bind, C |")
     print("|---|---|---|---|---|---|---|---|")
     for name, (length, named, bind, plain, plain_bind) in got.items():
-        kind = "annotated" if "+" in name else "under many declarations, " + name[5:] if ":" in name else "ordinary"
+        kind = "annotated" if "+" in name else "under many declarations, " + name.split(":")[1] if ":" in name else "ordinary"
         print("| %s | %.0f | %.2f | %.2f | %.2f | %.2f | %.2f | %.2f |" % (kind, length, named, bind, named / bind, plain, named / plain, plain_bind))
     print("\n| growth from 2,000 to 8,000 words | named | bind |")
     print("|---|---|---|")
@@ -96,7 +97,8 @@ def main():
     for name, numbers in got.items():
         if ":" in name:
             size, kind = name.split(":")
-            print("| %s | %s | %d | %.2f | %.2f | %.2f |" % (kind, size, LEVELS[int(size)] * EACH, numbers[1], got[size][1], numbers[1] / got[size][1]))
+            ordinary = got[ORDINARY[size]][1]
+            print("| %s | %s | %d | %.2f | %.2f | %.2f |" % (kind, size, LEVELS[int(size)] * EACH, numbers[1], ordinary, numbers[1] / ordinary))
 
 
 if __name__ == "__main__":

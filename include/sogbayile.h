@@ -22,9 +22,9 @@
  * may be called from several threads with rows of their own. A work row may hold anything before and after.
  *
  * STACK. As measured on rows of some 8,000 words, up to 64 deep (bench/stack.py), a call takes up to 431 KB of the
- * caller's stack: sgb_point 431 KB, sgb_named 391, sgb_member 312, sgb_fill 165, sgb_free 141, sgb_dangling 110,
- * sgb_prune 77, the others less than 60; on rows without annotations sgb_named 391, sgb_point 291, sgb_member 242,
- * sgb_fill 135, sgb_prune 54.
+ * caller's stack: sgb_point 431 KB, sgb_member 312, sgb_named 289, sgb_fill 165, sgb_free 141, sgb_dangling 110,
+ * sgb_prune 77, the others less than 60; on rows without annotations sgb_point 291, sgb_named 289, sgb_member 242,
+ * sgb_fill 135, sgb_prune 54. sgb_run takes what the command's own call takes.
  *
  * REFUSALS, in the order in which they are tested: 15, then 1 and 2 for each row (the form first, then the
  * list), 3, 4, 5, 6, 9, 7, 14; for offers 1, 2, 5, 10, 11, 12, 13.
@@ -49,6 +49,7 @@ enum {
     SGB_BAD_COUNT = 5,        /* more places than declarations; over 32 declarations, for a set or a check of places */
     SGB_CAPTURE = 6,          /* a dangling index would come below its depth */
     SGB_OUTSIDE_LIMITS = 7,   /* a result outside the row limits */
+    SGB_NO_COMMAND = 8,       /* a number that is no command's, in sgb_run */
     SGB_NOTHING_TO_DO = 9,    /* nothing to rewrite */
     SGB_NO_EQUALITY = 10,     /* an offer that is not 101 with a bound side */
     SGB_NO_TARGET = 11,       /* a target not below the number of declarations */
@@ -123,8 +124,24 @@ uint64_t sgb_member(const uint32_t *row, size_t row_len, uint32_t *work, size_t 
 
 /* A form in which each occurrence is a name: those that an enclosing declaration bears become indices, the innermost
  * first and, within one quantifier, the last first; the others stay free. The names of an annotation are looked up outside
- * its quantifier. Any tag 2 in the row is refused by 2, at that tag. 1, 2, 14. */
+ * its quantifier. A row with a tag 2 is refused by 2, at the first such tag or where it breaks before it. 1, 2, 14. */
 uint64_t sgb_named(const uint32_t *row, size_t row_len, uint32_t *out, size_t out_len);
+
+/* Any of the commands by its number, as its own call answers; one that takes no offset, no list or no work row does not
+ * look at it. A number that is no command's is refused by 8. */
+enum {
+    SGB_SHIFT = 1,
+    SGB_FREE = 2,
+    SGB_BIND = 3,
+    SGB_FILL = 4,
+    SGB_PRUNE = 5,
+    SGB_POINT = 6,
+    SGB_MEMBER = 7,
+    SGB_NAMED = 8
+};
+uint64_t sgb_run(uint32_t number, int32_t offset, const uint32_t *list, size_t list_len,
+                 const uint32_t *row, size_t row_len, uint32_t *work, size_t work_len,
+                 uint32_t *out, size_t out_len);
 
 /* A set of places for n declarations: for each, the first declaration's first, where its replacement starts and
  * ends in the row that was offered. An end of 0 is a free place. n and the two arrays are the whole set.

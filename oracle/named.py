@@ -2,11 +2,12 @@
 """Named forms (document 02, Paper 1): random lines of the command named, and a program held against the model of crates/cases over them. The Rust
 has no reader of names (docs/DIFFERENCES.md).
 
-  named.py [--seed S] [--count N] [--back N] -- PROGRAM ARG..        sends N lines of each part and compares; exit 1 on any difference
-  named.py [--seed S] [--count N] --lines                            prints the lines
+  named.py [--seed S] [--count N] [--back N] [--shared] -- PROGRAM ARG..        sends N lines of each part and compares; exit 1 on any difference
+  named.py [--seed S] [--count N] [--shared] --lines                            prints the lines
 
-The same arguments give the same lines. There and back (--back): a random form in which nothing dangles, made with indices, is written with names
-that are all different; read by named it must be that form, with those names declared.
+The same arguments give the same lines. With --shared the names are such as share a slot of the program's row of open declarations. There and back
+(--back): a random form in which nothing dangles, made with indices, is written with names that are all different; read by named it must be that
+form, with those names declared.
 """
 import argparse
 import collections
@@ -23,6 +24,9 @@ EDGES = [0, 1, 2, 3, 63, 64, 65, 2047, 2048, 8192, 32767, 32768, 65534, 65535]
 BYTES = "[] 0123456789-+.anmed"
 # few names, so that they meet; the second are equal modulo 64, a part of them modulo each power of 2 up to 32,768
 FEW, ALIKE = (4, 5, 6, 7, 8, 9), (4, 68, 132, 260, 516, 1028, 2052, 4100, 8196, 16388, 32772)
+# names that share a slot in crates/named/src/scope.rt: equal modulo 251, 2,039 and 4,093, by the words of the row
+SHARED = [tuple(range(7, 65536, step))[:17] for step in (251, 2039, 4093)]
+vocabularies = [FEW] * 6 + [ALIKE]
 
 
 class Names:
@@ -308,7 +312,7 @@ KINDS = [("form", 330), ("large form", 60), ("equal names", 60), ("siblings", 80
 
 def line(r, kind):
     """A line of the kind."""
-    g = Names(r, r.choice([0, 0, 30, 60, 100]), (1, 2, 3) if kind == "the word 2" else r.choice([FEW] * 6 + [ALIKE]))
+    g = Names(r, r.choice([0, 0, 30, 60, 100]), (1, 2, 3) if kind == "the word 2" else r.choice(vocabularies))
     say = lambda tree: "[named %s]" % show(tree)
     if kind in ("form", "the word 2"):
         return say(g.form())
@@ -530,9 +534,12 @@ def main():
     a.add_argument("--seed", default="1")
     a.add_argument("--count", type=int, default=2000)
     a.add_argument("--back", type=int, default=1000)
+    a.add_argument("--shared", action="store_true")
     a.add_argument("--lines", action="store_true")
     a.add_argument("program", nargs="*")
     o = a.parse_args()
+    if o.shared:
+        vocabularies[:] = SHARED
     if o.lines:
         for _, text in lines(o.seed, o.count):
             print(text)

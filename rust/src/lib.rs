@@ -6,7 +6,10 @@
 
 use std::ops::Range;
 
+mod commands;
 pub mod text;
+
+pub use commands::Command;
 
 /// The limit of words of a row: an `out` of this length is never too short.
 pub const MAX_WORDS: usize = 8192;
@@ -34,7 +37,7 @@ pub enum Refusal {
     Capture,
     /// a result outside the row limits
     OutsideLimits,
-    /// a line that is not a command ([`text`] alone)
+    /// a line that is not a command ([`text`] alone); a number that is no command's, which [`run`] never asks for
     NotACommand,
     /// nothing to rewrite
     NothingToDo,
@@ -133,6 +136,18 @@ mod c {
         pub fn sgb_point(row: *const u32, n: usize, work: *mut u32, work_n: usize, out: *mut u32, room: usize) -> u64;
         pub fn sgb_member(row: *const u32, n: usize, work: *mut u32, work_n: usize, out: *mut u32, room: usize) -> u64;
         pub fn sgb_named(row: *const u32, n: usize, out: *mut u32, room: usize) -> u64;
+        pub fn sgb_run(
+            number: u32,
+            offset: i32,
+            list: *const u32,
+            list_n: usize,
+            row: *const u32,
+            n: usize,
+            work: *mut u32,
+            work_n: usize,
+            out: *mut u32,
+            room: usize,
+        ) -> u64;
         pub fn sgb_places(n: usize, starts: *mut usize, ends: *mut usize) -> u64;
         pub fn sgb_offer(n: usize, starts: *mut usize, ends: *mut usize, row: *const u32, row_n: usize) -> u64;
     }
@@ -265,19 +280,6 @@ pub fn named(row: &[u32], out: &mut [u32]) -> Result<usize, Refusal> {
     length(unsafe { c::sgb_named(row.as_ptr(), row.len(), out.as_mut_ptr(), out.len()) })
 }
 
-/// The commands.
-#[derive(Clone, Copy, Debug, PartialEq, Eq)]
-pub enum Command {
-    Shift,
-    Free,
-    Bind,
-    Fill,
-    Prune,
-    Point,
-    Member,
-    Named,
-}
-
 /// Runs any command. One that takes no offset, no list or no `work` does not look at it.
 pub fn run(
     command: Command,
@@ -287,16 +289,20 @@ pub fn run(
     work: &mut [u32],
     out: &mut [u32],
 ) -> Result<usize, Refusal> {
-    match command {
-        Command::Shift => shift(row, offset, out),
-        Command::Free => free(list, row, work, out),
-        Command::Bind => bind(list, row, out),
-        Command::Fill => fill(list, row, work, out),
-        Command::Prune => prune(row, out),
-        Command::Point => point(row, work, out),
-        Command::Member => member(row, work, out),
-        Command::Named => named(row, out),
-    }
+    length(unsafe {
+        c::sgb_run(
+            command as u32,
+            offset,
+            list.as_ptr(),
+            list.len(),
+            row.as_ptr(),
+            row.len(),
+            work.as_mut_ptr(),
+            work.len(),
+            out.as_mut_ptr(),
+            out.len(),
+        )
+    })
 }
 
 /// A set of places: for each declaration, where its replacement lies in the row that was offered.

@@ -1,34 +1,11 @@
 //! Bracket text: command lines read into rows, and rows written as text.
 
-use crate::{check, check_predicate, Command, Refusal};
-
-/// What stands before the form.
-#[derive(Clone, Copy)]
-enum Args {
-    Nothing,
-    Offset,
-    Names,
-    Pairs,
-    Places,
-}
-
-/// A command's head, what stands before its form, and the form's check.
-type Entry = (&'static str, Command, Args, fn(&[u32]) -> Result<(), Refusal>);
-
-const COMMANDS: [Entry; 8] = [
-    ("shift", Command::Shift, Args::Offset, check),
-    ("free", Command::Free, Args::Pairs, check),
-    ("bind", Command::Bind, Args::Names, check),
-    ("fill", Command::Fill, Args::Places, check_predicate),
-    ("prune", Command::Prune, Args::Nothing, check_predicate),
-    ("point", Command::Point, Args::Nothing, check_predicate),
-    ("member", Command::Member, Args::Nothing, check_predicate),
-    ("named", Command::Named, Args::Nothing, check_named),
-];
+use crate::commands::{Args, Entry, Kind, COMMANDS};
+use crate::{check, check_predicate, Refusal};
 
 /// A command, with the text and the row of its list and of its form.
 struct Line<'a> {
-    entry: Entry,
+    entry: &'static Entry,
     offset: i32,
     list: Group<'a>,
     form: Group<'a>,
@@ -109,11 +86,10 @@ fn command(line: &str) -> Option<Line<'_>> {
     if line.len() > 65535 {
         return None;
     }
-    let (head, rest) = line.strip_prefix('[')?.split_once(' ')?;
-    let entry = *COMMANDS.iter().find(|entry| entry.0 == head)?;
+    let (entry, rest) = COMMANDS.iter().find_map(|entry| Some((entry, line.strip_prefix(entry.head)?)))?;
     let mut z = 0;
     let mut list = Group::default();
-    let rest = match entry.2 {
+    let rest = match entry.args {
         Args::Nothing => rest,
         Args::Offset => {
             let (value, rest) = offset(rest)?;
@@ -121,7 +97,7 @@ fn command(line: &str) -> Option<Line<'_>> {
             rest.strip_prefix(' ')?
         }
         Args::Names | Args::Pairs | Args::Places => {
-            let (got, rest) = group(rest, matches!(entry.2, Args::Places))?;
+            let (got, rest) = group(rest, matches!(entry.args, Args::Places))?;
             list = got;
             rest.strip_prefix(' ')?
         }
@@ -193,9 +169,13 @@ fn spell_list(mut row: &[u32], places: bool) -> Option<String> {
     Some(format!("[{}]", items.join(" ")))
 }
 
-/// A named row's 1 and 2.
-fn check_named(row: &[u32]) -> Result<(), Refusal> {
-    early(crate::named(row, &mut []).map(|_| ()))
+/// A form's 1 and 2.
+fn check_form(row: &[u32], kind: Kind) -> Result<(), Refusal> {
+    match kind {
+        Kind::Either => check(row),
+        Kind::Predicate => check_predicate(row),
+        Kind::NamedRow => early(crate::named(row, &mut []).map(|_| ())),
+    }
 }
 
 /// 8 where the brackets of a group do not hold its nodes.
@@ -231,10 +211,9 @@ impl Runner {
     /// The row that a command line is answered.
     pub fn run(&mut self, line: &str) -> Result<&[u32], Refusal> {
         let Line { entry, offset, list, form } = command(line).ok_or(Refusal::NotACommand)?;
-        let (_, command, args, check) = entry;
-        check(&form.row)?;
+        check_form(&form.row, entry.kind)?;
         held(&form, spell(&form.row))?;
-        match args {
+        match entry.args {
             Args::Nothing | Args::Offset => {}
             Args::Names => {
                 early(crate::check_names(&list.row))?;
@@ -249,7 +228,7 @@ impl Runner {
                 held(&list, spell_list(&list.row, true))?;
             }
         }
-        let n = crate::run(command, offset, &list.row, &form.row, &mut self.work, &mut self.out)?;
+        let n = crate::run(entry.command, offset, &list.row, &form.row, &mut self.work, &mut self.out)?;
         Ok(&self.out[..n])
     }
 

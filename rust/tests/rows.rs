@@ -38,8 +38,22 @@ fn work_rows() {
     assert_eq!(out[..5], [101, 1, 7, 2, 1]);
 }
 
+/// What the call of the command's own answers.
+fn own(command: Command, list: &[u32], row: &[u32], work: &mut [u32], out: &mut [u32]) -> Result<usize, Refusal> {
+    match command {
+        Command::Shift => sogbayile::shift(row, -1, out),
+        Command::Free => sogbayile::free(list, row, work, out),
+        Command::Bind => sogbayile::bind(list, row, out),
+        Command::Fill => sogbayile::fill(list, row, work, out),
+        Command::Prune => sogbayile::prune(row, out),
+        Command::Point => sogbayile::point(row, work, out),
+        Command::Member => sogbayile::member(row, work, out),
+        Command::Named => sogbayile::named(row, out),
+    }
+}
+
 #[test]
-fn commands() {
+fn commands_by_number() {
     let cases: [(Command, &[u32], &[u32], &[u32]); 8] = [
         (Command::Shift, &[], &EXISTS, &[852, 1, 9, 101, 2, 0, 2, 1]),
         (Command::Free, &[4, 2, 0], &[9, 1, 4], &[9, 2, 0]),
@@ -53,10 +67,12 @@ fn commands() {
     let mut work = vec![OLD; WORK_WORDS];
     for (command, list, row, answer) in cases {
         for room in [answer.len() - 1, answer.len(), answer.len() + 1] {
-            let mut out = vec![OLD; room];
-            let got = sogbayile::run(command, -1, list, row, &mut work, &mut out);
+            let (mut out, mut by_number) = (vec![OLD; room], vec![OLD; room]);
+            let got = own(command, list, row, &mut work, &mut out);
             assert_eq!(got, if room < answer.len() { Err(Refusal::OutShort) } else { Ok(answer.len()) });
-            assert!(if got.is_err() { out.iter().all(|&w| w == OLD) } else { out[..answer.len()] == *answer });
+            assert!(got.is_err() || out[..answer.len()] == *answer);
+            assert_eq!(sogbayile::run(command, -1, list, row, &mut work, &mut by_number), got);
+            assert_eq!(by_number, out);
         }
     }
 }

@@ -33,7 +33,7 @@ fn named_in(row: &[u32], made: &mut [u32], scope: &mut [u32], out: &mut [u32]) -
     Answer::Done(end)
 }
 
-// Named for rows over 512 words, with room for `most` words, 2,048 or 8,192. A longer row is left to a call with room for any. The compiler puts
+// Named for rows over 512 words, with room for `most` words, 2,048 or 8,192; a longer row is left to a call with room for any. The compiler puts
 // no function that calls itself into its caller, so the frame of short rows does not hold these rows.
 fn named_long(row: &[u32], out: &mut [u32], most: usize) -> Answer
     ensures { λ r. ⌜ r ≡ told (namedOutcome (now (row .entry)) (length (now (out .entry)))) ⌝ }
@@ -74,5 +74,8 @@ pub fn to_indices(row: &[u32], out: &mut [u32]) -> Answer
         let mut scope = [0u32; 4096];
         return named_in(row, &mut made, &mut scope, out);
     }
-    named_long(row, out, 2048)
+    if row.len() <= 2048 {
+        return named_long(row, out, 2048);
+    }
+    named_long(row, out, Limit::WORDS)
 }

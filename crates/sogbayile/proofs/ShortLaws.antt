@@ -17,7 +17,7 @@ use Rattle.form.specs.Break.{Next, Open, leastAll, after, breakFrom, breakSort,
 use Rattle.form.specs.Lists.{Entry, wordOf, listOf, goodNames}
 use Rattle.form.specs.Answer.{Outcome, answer, stop, refusal, told, number, lengthOf, position, ofFound, ofList, withForm, withList, needs, isOne, finish, checkOutcome, namesOutcome, pairsOutcome, placesOutcome}
 use Rattle.form.specs.declared.answer.Kind.{Kind}
-use Rattle.form.specs.declared.answer.Kind.the-variants.{Either, Expression, Predicate, Named}
+use Rattle.form.specs.declared.answer.Kind.the-variants.{Either, Expression, Predicate, Named as NamedRow}
 use Rattle.form.specs.declared.answer.ListKind.{ListKind}
 use Rattle.form.specs.declared.answer.ListKind.the-variants.{Pairs, Places}
 use Rattle.form.proofs.RowLaws.{found-exact, row-exact}
@@ -31,6 +31,11 @@ use Rattle.rules.specs.Prune.{usedPlaces, prune, pruneOutcome}
 use Rattle.rules.specs.Point.{ofResult, onePoint, pointOutcome}
 use Rattle.rules.specs.Member.{membership, memberOutcome}
 use Rattle.rules.specs.Named.{nameless, namedOutcome}
+use Rattle.rules.specs.Command.{outcomeOf, numbered, ofNumbered, numberOutcome}
+use Rattle.rules.specs.declared.command.Command.{Command}
+use Rattle.rules.specs.declared.command.Command.the-variants.{Shift, Free, Bind, Fill, Prune, Point, Member, Named}
+use Rattle.rules.specs.declared.command.Numbered.{Numbered}
+use Rattle.rules.specs.declared.command.Numbered.the-variants.{Is, Unknown}
 use Rattle.sogbayile.specs.Code.{codeOf}
 use Rattle.sogbayile.proofs.CodeLaws.{finish-short}
 
@@ -74,7 +79,7 @@ unfolding breakAt
 break-low Expression row = sort-low false expr row
 break-low Predicate row = sort-low false pred row
 break-low Either row = either-low false row
-break-low Named row = either-low true row
+break-low NamedRow row = either-low true row
 
 break-list-low : (kind : ListKind) (row : List ℕ) → breakList kind row ≤ 8192
 unfolding breakList
@@ -177,7 +182,25 @@ member-short row work room = tested 15 (leb 16384 work) _ (form-short Predicate 
 
 pub named-short : (row : List ℕ) (room : ℕ) → Short (namedOutcome row room)
 unfolding namedOutcome
-named-short row room = form-short Named row _ (λ s f. finished s room (nameless [] f))
+named-short row room = form-short NamedRow row _ (λ s f. finished s room (nameless [] f))
+
+outcome-short : (c : Command) (z : ℤ) (list row : List ℕ) (work room : ℕ) → Short (outcomeOf c z list row work room)
+outcome-short Shift z list row work room = shift-short row z room
+outcome-short Free z list row work room = free-short list row work room
+outcome-short Bind z list row work room = bind-short list row room
+outcome-short Fill z list row work room = fill-short list row work room
+outcome-short Prune z list row work room = prune-short row room
+outcome-short Point z list row work room = point-short row work room
+outcome-short Member z list row work room = member-short row work room
+outcome-short Named z list row work room = named-short row room
+
+pub number-short : (n : ℕ) (z : ℤ) (list row : List ℕ) (work room : ℕ) → Short (numberOutcome n z list row work room)
+unfolding numberOutcome
+number-short n z list row work room = by (numbered n)
+  where
+    by : (x : Numbered) → Short (ofNumbered x z list row work room)
+    by (Is c) = outcome-short c z list row work room
+    by Unknown = refused 8
 
 -- the dangling set: an index of it stands in the row
 insert-length : (i : ℕ) (js : List ℕ) → length (insert i js) ≤ 1 + length js

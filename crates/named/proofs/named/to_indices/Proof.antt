@@ -49,6 +49,15 @@ same-length-3 c = search needs
 returns-3 : tie.Need-returns-3
 returns-3 c = let at-named-long = c .before .before .named-long in at-named-long .ensures
 
+named-long-requires-2 : tie.Need-named-long-requires-2
+named-long-requires-2 c κs = search needs
+
+same-length-4 : tie.Need-same-length-4
+same-length-4 c = search needs
+
+returns-4 : tie.Need-returns-4
+returns-4 c = let at-named-long2 = c .before .before .named-long2 in at-named-long2 .ensures
+
 pub to-indices-spec : {M : Type 1} → statement M
 to-indices-spec =
     tie.close
@@ -65,4 +74,7 @@ to-indices-spec =
     returns-2
     named-long-requires
     same-length-3
-    returns-3)
+    returns-3
+    named-long-requires-2
+    same-length-4
+    returns-4)
