@@ -1,4 +1,4 @@
--- `named::scope/cell_of` meets its contract. Assumes nothing.
+-- `named::scope::cell_of` meets its contract. Assumes nothing.
 use Rattle.named.proofs.LevelLaws.{none-cell, some-cell}
 use borrow.Author.Needs.{needs}
 use Rattle.named.proofs.scope.cell_of.Statement.{statement}
@@ -15,7 +15,7 @@ slot-of-requires : tie.Need-slot-of-requires
 slot-of-requires c κs = search needs
 
 returns : tie.Need-returns
-returns c = none-cell _ _ _ _ (c .before .before .first-of .ensures) (c .before .if1 .taken) _ (c .slot-of .ensures .0)
+returns c = let at-first-of = c .before .before .first-of in let at-if1 = c .before .if1 in let at-slot-of = c .slot-of in none-cell _ _ _ _ (at-first-of .ensures) (at-if1 .taken) _ (at-slot-of .ensures .0)
 
 sub-result : tie.Need-sub-result
 sub-result c = search needs
@@ -30,7 +30,7 @@ add-result : tie.Need-add-result
 add-result c = search needs
 
 returns-2 : tie.Need-returns-2
-returns-2 c = some-cell _ _ _ _ (c .before .first-of .ensures) (c .if1 .left)
+returns-2 c = let at-first-of = c .before .first-of in let at-if1 = c .if1 in some-cell _ _ _ _ (at-first-of .ensures) (at-if1 .left)
 
 pub cell-of-spec : {M : Type 1} → statement M
 cell-of-spec =

@@ -1,4 +1,4 @@
--- `named::scope/close_names` meets its contract. Assumes nothing.
+-- `named::scope::close_names` meets its contract. Assumes nothing.
 use mathlib.Core.Path.{_≡_, refl, sym, _∙_}
 use Prim.Native.Nat.{_+_, _≤_}
 use native.Mathlib.Omega.{arith}
@@ -19,58 +19,58 @@ abbrev μ-loop : tie.MeasureT-loop
 μ-loop scope₀ under n left₀ scope left = left
 
 loop-holds : tie.Need-loop-holds Inv-loop μ-loop
-loop-holds c = (refl, refl, le-refl _, c .pre .1)
+loop-holds c = let at-pre = c .pre in (refl, refl, le-refl _, at-pre .1)
 
 sub-left : tie.Need-sub-left Inv-loop μ-loop
 sub-left c = search needs
 
 add-at : tie.Need-add-at Inv-loop μ-loop
-add-at c = let i = c .before .loop .inv .2 in let k = c .before .loop .inv .1 in let t = c .loop-test .taken in let r = c .before .before .pre .0 .room in let z = c .before .before .pre .0 .most in record { fits = omega arith }
+add-at c = let at-loop = c .before .loop in let at-loop-test = c .loop-test in let at-pre = c .before .before .pre in let i = at-loop .inv .2 in let k = at-loop .inv .1 in let t = at-loop-test .taken in let r = at-pre .0 .room in let z = at-pre .0 .most in record { fits = omega arith }
 
 cast-at : tie.Need-cast-at Inv-loop μ-loop
-cast-at c = let i = c .before .loop .inv .2 in let k = c .before .loop .inv .1 in let t = c .loop-test .taken in let r = c .before .before .pre .0 .room in let z = c .before .before .pre .0 .most in search needs
+cast-at c = let at-loop = c .before .loop in let at-loop-test = c .loop-test in let at-pre = c .before .before .pre in let i = at-loop .inv .2 in let k = at-loop .inv .1 in let t = at-loop-test .taken in let r = at-pre .0 .room in let z = at-pre .0 .most in search needs
 
 mul-at : tie.Need-mul-at Inv-loop μ-loop
-mul-at c = let i = c .before .loop .inv .2 in let k = c .before .loop .inv .1 in let t = c .loop-test .taken in let r = c .before .before .pre .0 .room in let z = c .before .before .pre .0 .most in search needs
+mul-at c = let at-loop = c .before .loop in let at-loop-test = c .loop-test in let at-pre = c .before .before .pre in let i = at-loop .inv .2 in let k = at-loop .inv .1 in let t = at-loop-test .taken in let r = at-pre .0 .room in let z = at-pre .0 .most in search needs
 
 add-cell : tie.Need-add-cell Inv-loop μ-loop
-add-cell c = let i = c .before .loop .inv .2 in let k = c .before .loop .inv .1 in let t = c .loop-test .taken in let r = c .before .before .pre .0 .room in let z = c .before .before .pre .0 .most in search needs
+add-cell c = let at-loop = c .before .loop in let at-loop-test = c .loop-test in let at-pre = c .before .before .pre in let i = at-loop .inv .2 in let k = at-loop .inv .1 in let t = at-loop-test .taken in let r = at-pre .0 .room in let z = at-pre .0 .most in search needs
 
 mul-cell : tie.Need-mul-cell Inv-loop μ-loop
-mul-cell c = let i = c .before .loop .inv .2 in let k = c .before .loop .inv .1 in let t = c .loop-test .taken in let r = c .before .before .pre .0 .room in let z = c .before .before .pre .0 .most in search needs
+mul-cell c = let at-loop = c .before .loop in let at-loop-test = c .loop-test in let at-pre = c .before .before .pre in let i = at-loop .inv .2 in let k = at-loop .inv .1 in let t = at-loop-test .taken in let r = at-pre .0 .room in let z = at-pre .0 .most in search needs
 
 slice-read-cell : tie.Need-slice-read-cell Inv-loop μ-loop
-slice-read-cell c = let i = c .before .before .loop .inv .2 in let k = c .before .before .loop .inv .1 in let t = c .before .loop-test .taken in let r = c .before .before .before .pre .0 .room in let z = c .before .before .before .pre .0 .most in omega arith
+slice-read-cell c = let at-loop = c .before .before .loop in let at-loop-test = c .before .loop-test in let at-pre = c .before .before .before .pre in let i = at-loop .inv .2 in let k = at-loop .inv .1 in let t = at-loop-test .taken in let r = at-pre .0 .room in let z = at-pre .0 .most in omega arith
 
 cast-cell : tie.Need-cast-cell Inv-loop μ-loop
-cast-cell c = let i = c .before .before .loop .inv .2 in let k = c .before .before .loop .inv .1 in let t = c .before .loop-test .taken in let r = c .before .before .before .pre .0 .room in let z = c .before .before .before .pre .0 .most in let l = pop-cell _ _ _ (sized-at _ _ _ _ (c .before .before .loop .inv .1) (le-refl _) (c .before .before .before .pre .0)) (omega arith) (held-last _ _ _ (c .before .loop-test .taken) (c .before .before .loop .inv .3)) in search needs
+cast-cell c = let at-loop = c .before .before .loop in let at-loop-test = c .before .loop-test in let at-pre = c .before .before .before .pre in let i = at-loop .inv .2 in let k = at-loop .inv .1 in let t = at-loop-test .taken in let r = at-pre .0 .room in let z = at-pre .0 .most in let l = pop-cell _ _ _ (sized-at _ _ _ _ (at-loop .inv .1) (le-refl _) (at-pre .0)) (omega arith) (held-last _ _ _ (at-loop-test .taken) (at-loop .inv .3)) in search needs
 
 add-scope : tie.Need-add-scope Inv-loop μ-loop
-add-scope c = let i = c .before .before .loop .inv .2 in let k = c .before .before .loop .inv .1 in let t = c .before .loop-test .taken in let r = c .before .before .before .pre .0 .room in let z = c .before .before .before .pre .0 .most in search needs
+add-scope c = let at-loop = c .before .before .loop in let at-loop-test = c .before .loop-test in let at-pre = c .before .before .before .pre in let i = at-loop .inv .2 in let k = at-loop .inv .1 in let t = at-loop-test .taken in let r = at-pre .0 .room in let z = at-pre .0 .most in search needs
 
 mul-scope : tie.Need-mul-scope Inv-loop μ-loop
-mul-scope c = let i = c .before .before .loop .inv .2 in let k = c .before .before .loop .inv .1 in let t = c .before .loop-test .taken in let r = c .before .before .before .pre .0 .room in let z = c .before .before .before .pre .0 .most in search needs
+mul-scope c = let at-loop = c .before .before .loop in let at-loop-test = c .before .loop-test in let at-pre = c .before .before .before .pre in let i = at-loop .inv .2 in let k = at-loop .inv .1 in let t = at-loop-test .taken in let r = at-pre .0 .room in let z = at-pre .0 .most in search needs
 
 slice-read-scope : tie.Need-slice-read-scope Inv-loop μ-loop
-slice-read-scope c = let i = c .before .before .before .loop .inv .2 in let k = c .before .before .before .loop .inv .1 in let t = c .before .before .loop-test .taken in let r = c .before .before .before .before .pre .0 .room in let z = c .before .before .before .before .pre .0 .most in omega arith
+slice-read-scope c = let at-loop = c .before .before .before .loop in let at-loop-test = c .before .before .loop-test in let at-pre = c .before .before .before .before .pre in let i = at-loop .inv .2 in let k = at-loop .inv .1 in let t = at-loop-test .taken in let r = at-pre .0 .room in let z = at-pre .0 .most in omega arith
 
 mul-scope-2 : tie.Need-mul-scope-2 Inv-loop μ-loop
-mul-scope-2 c = let i = c .before .before .before .loop .inv .2 in let k = c .before .before .before .loop .inv .1 in let t = c .before .before .loop-test .taken in let r = c .before .before .before .before .pre .0 .room in let z = c .before .before .before .before .pre .0 .most in let l = pop-cell _ _ _ (sized-at _ _ _ _ (c .before .before .before .loop .inv .1) (le-refl _) (c .before .before .before .before .pre .0)) (omega arith) (held-last _ _ _ (c .before .before .loop-test .taken) (c .before .before .before .loop .inv .3)) in search needs
+mul-scope-2 c = let at-loop = c .before .before .before .loop in let at-loop-test = c .before .before .loop-test in let at-pre = c .before .before .before .before .pre in let i = at-loop .inv .2 in let k = at-loop .inv .1 in let t = at-loop-test .taken in let r = at-pre .0 .room in let z = at-pre .0 .most in let l = pop-cell _ _ _ (sized-at _ _ _ _ (at-loop .inv .1) (le-refl _) (at-pre .0)) (omega arith) (held-last _ _ _ (at-loop-test .taken) (at-loop .inv .3)) in search needs
 
 slice-write-scope : tie.Need-slice-write-scope Inv-loop μ-loop
-slice-write-scope c = let i = c .before .before .before .loop .inv .2 in let k = c .before .before .before .loop .inv .1 in let t = c .before .before .loop-test .taken in let r = c .before .before .before .before .pre .0 .room in let z = c .before .before .before .before .pre .0 .most in let l = pop-cell _ _ _ (sized-at _ _ _ _ (c .before .before .before .loop .inv .1) (le-refl _) (c .before .before .before .before .pre .0)) (omega arith) (held-last _ _ _ (c .before .before .loop-test .taken) (c .before .before .before .loop .inv .3)) in omega arith
+slice-write-scope c = let at-loop = c .before .before .before .loop in let at-loop-test = c .before .before .loop-test in let at-pre = c .before .before .before .before .pre in let i = at-loop .inv .2 in let k = at-loop .inv .1 in let t = at-loop-test .taken in let r = at-pre .0 .room in let z = at-pre .0 .most in let l = pop-cell _ _ _ (sized-at _ _ _ _ (at-loop .inv .1) (le-refl _) (at-pre .0)) (omega arith) (held-last _ _ _ (at-loop-test .taken) (at-loop .inv .3)) in omega arith
 
 loop-less : tie.Need-loop-less Inv-loop μ-loop
-loop-less c = let t = c .before .before .loop-test .taken in omega arith
+loop-less c = let at-loop-test = c .before .before .loop-test in let t = at-loop-test .taken in omega arith
 
 loop-again : tie.Need-loop-again Inv-loop μ-loop
-loop-again c = (c .before .before .before .loop .inv .0 ∙ close-more _ _ _ (c .before .before .loop-test .taken), length-set (c .before .before .before .loop .scope) _ _ ∙ c .before .before .before .loop .inv .1, let i = c .before .before .before .loop .inv .2 in omega arith, held-closed _ _ _ (c .before .before .loop-test .taken) (c .before .before .before .loop .inv .3))
+loop-again c = let at-loop = c .before .before .before .loop in let at-loop-test = c .before .before .loop-test in (at-loop .inv .0 ∙ close-more _ _ _ (at-loop-test .taken), length-set (at-loop .scope) _ _ ∙ at-loop .inv .1, let i = at-loop .inv .2 in omega arith, held-closed _ _ _ (at-loop-test .taken) (at-loop .inv .3))
 
 same-length : tie.Need-same-length Inv-loop μ-loop
-same-length c = c .before .loop .inv .1
+same-length c = let at-loop = c .before .loop in at-loop .inv .1
 
 returns : tie.Need-returns Inv-loop μ-loop
-returns c = sym (c .before .loop .inv .0 ∙ close-none _ _ _ (c .loop-test .left))
+returns c = let at-loop = c .before .loop in let at-loop-test = c .loop-test in sym (at-loop .inv .0 ∙ close-none _ _ _ (at-loop-test .left))
 
 pub close-names-spec : {M : Type 1} → statement M
 close-names-spec =

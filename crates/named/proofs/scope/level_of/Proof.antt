@@ -1,4 +1,4 @@
--- `named::scope/level_of` meets its contract. Assumes nothing.
+-- `named::scope::level_of` meets its contract. Assumes nothing.
 use native.Mathlib.Omega.{arith}
 use Rattle.named.proofs.LevelLaws.{none-level, some-low, some-level}
 use borrow.Author.Needs.{needs}
@@ -12,7 +12,7 @@ first-of-requires : tie.Need-first-of-requires
 first-of-requires c κs = search needs
 
 returns : tie.Need-returns
-returns c = none-level _ _ _ _ (c .before .first-of .ensures) (c .if1 .taken)
+returns c = let at-first-of = c .before .first-of in let at-if1 = c .if1 in none-level _ _ _ _ (at-first-of .ensures) (at-if1 .taken)
 
 sub-result : tie.Need-sub-result
 sub-result c = search needs
@@ -30,10 +30,10 @@ mul-result-2 : tie.Need-mul-result-2
 mul-result-2 c = search needs
 
 shared-slice-read-result : tie.Need-shared-slice-read-result
-shared-slice-read-result c = let l = some-low _ _ _ _ (c .before .before .first-of .ensures) (c .before .if1 .left) in let r = c .before .before .before .before .pre .0 .room in omega arith
+shared-slice-read-result c = let at-first-of = c .before .before .first-of in let at-if1 = c .before .if1 in let at-pre = c .before .before .before .before .pre in let l = some-low _ _ _ _ (at-first-of .ensures) (at-if1 .left) in let r = at-pre .0 .room in omega arith
 
 returns-2 : tie.Need-returns-2
-returns-2 c = some-level _ _ _ _ (c .before .before .first-of .ensures) (c .before .before .before .before .pre .0) (c .before .before .before .before .pre .1) (c .before .if1 .left)
+returns-2 c = let at-first-of = c .before .before .first-of in let at-pre = c .before .before .before .before .pre in let at-if1 = c .before .if1 in some-level _ _ _ _ (at-first-of .ensures) (at-pre .0) (at-pre .1) (at-if1 .left)
 
 pub level-of-spec : {M : Type 1} → statement M
 level-of-spec =

@@ -1,4 +1,4 @@
--- `named::scope/open_name` meets its contract. Assumes nothing.
+-- `named::scope::open_name` meets its contract. Assumes nothing.
 use native.Mathlib.Omega.{arith}
 use Prim.Native.Nat.{_+_}
 use lib.ListN.{length-set}
@@ -17,10 +17,10 @@ mul-at : tie.Need-mul-at
 mul-at c = search needs
 
 mul-before : tie.Need-mul-before
-mul-before c = let l = cell-inside (c .before .before .before .args .scope .now) (c .before .before .before .args .under) (c .before .before .before .args .under + 1) (c .before .before .before .args .m) _ (c .cell-of .ensures) (omega arith) (c .before .before .before .pre .0) in search needs
+mul-before c = let at-args = c .before .before .before .args in let at-cell-of = c .cell-of in let at-pre = c .before .before .before .pre in let l = cell-inside (at-args .scope .now) (at-args .under) (at-args .under + 1) (at-args .m) _ (at-cell-of .ensures) (omega arith) (at-pre .0) in search needs
 
 slice-read-before : tie.Need-slice-read-before
-slice-read-before c = let l = cell-inside (c .before .before .before .before .args .scope .now) (c .before .before .before .before .args .under) (c .before .before .before .before .args .under + 1) (c .before .before .before .before .args .m) _ (c .before .cell-of .ensures) (omega arith) (c .before .before .before .before .pre .0) in omega arith
+slice-read-before c = let at-args = c .before .before .before .before .args in let at-cell-of = c .before .cell-of in let at-pre = c .before .before .before .before .pre in let l = cell-inside (at-args .scope .now) (at-args .under) (at-args .under + 1) (at-args .m) _ (at-cell-of .ensures) (omega arith) (at-pre .0) in omega arith
 
 mul-scope : tie.Need-mul-scope
 mul-scope c = search needs
@@ -35,7 +35,7 @@ mul-scope-2 : tie.Need-mul-scope-2
 mul-scope-2 c = search needs
 
 slice-write-scope-2 : tie.Need-slice-write-scope-2
-slice-write-scope-2 c = let r = c .before .before .before .before .pre .0 .room in simp length-set (omega arith)
+slice-write-scope-2 c = let at-pre = c .before .before .before .before .pre in let r = at-pre .0 .room in simp length-set (omega arith)
 
 add-scope-2 : tie.Need-add-scope-2
 add-scope-2 c = search needs
@@ -47,10 +47,10 @@ mul-scope-3 : tie.Need-mul-scope-3
 mul-scope-3 c = search needs
 
 slice-write-scope-3 : tie.Need-slice-write-scope-3
-slice-write-scope-3 c = let r = c .before .before .before .before .pre .0 .room in simp length-set (omega arith)
+slice-write-scope-3 c = let at-pre = c .before .before .before .before .pre in let r = at-pre .0 .room in simp length-set (omega arith)
 
 cast-scope : tie.Need-cast-scope
-cast-scope c = let l = cell-inside (c .before .before .before .before .args .scope .now) (c .before .before .before .before .args .under) (c .before .before .before .before .args .under + 1) (c .before .before .before .before .args .m) _ (c .before .cell-of .ensures) (omega arith) (c .before .before .before .before .pre .0) in let k = c .before .before .before .before .pre .0 .most in search needs
+cast-scope c = let at-args = c .before .before .before .before .args in let at-cell-of = c .before .cell-of in let at-pre = c .before .before .before .before .pre in let l = cell-inside (at-args .scope .now) (at-args .under) (at-args .under + 1) (at-args .m) _ (at-cell-of .ensures) (omega arith) (at-pre .0) in let k = at-pre .0 .most in search needs
 
 add-scope-4 : tie.Need-add-scope-4
 add-scope-4 c = search needs
@@ -59,22 +59,22 @@ mul-scope-4 : tie.Need-mul-scope-4
 mul-scope-4 c = search needs
 
 slice-write-scope-4 : tie.Need-slice-write-scope-4
-slice-write-scope-4 c = let r = c .before .before .before .before .pre .0 .room in simp length-set (omega arith)
+slice-write-scope-4 c = let at-pre = c .before .before .before .before .pre in let r = at-pre .0 .room in simp length-set (omega arith)
 
 add-scope-5 : tie.Need-add-scope-5
 add-scope-5 c = search needs
 
 mul-scope-5 : tie.Need-mul-scope-5
-mul-scope-5 c = let l = cell-inside (c .before .before .before .before .args .scope .now) (c .before .before .before .before .args .under) (c .before .before .before .before .args .under + 1) (c .before .before .before .before .args .m) _ (c .before .cell-of .ensures) (omega arith) (c .before .before .before .before .pre .0) in search needs
+mul-scope-5 c = let at-args = c .before .before .before .before .args in let at-cell-of = c .before .cell-of in let at-pre = c .before .before .before .before .pre in let l = cell-inside (at-args .scope .now) (at-args .under) (at-args .under + 1) (at-args .m) _ (at-cell-of .ensures) (omega arith) (at-pre .0) in search needs
 
 slice-write-scope-5 : tie.Need-slice-write-scope-5
-slice-write-scope-5 c = let l = cell-inside (c .before .before .before .before .args .scope .now) (c .before .before .before .before .args .under) (c .before .before .before .before .args .under + 1) (c .before .before .before .before .args .m) _ (c .before .cell-of .ensures) (omega arith) (c .before .before .before .before .pre .0) in simp length-set (omega arith)
+slice-write-scope-5 c = let at-args = c .before .before .before .before .args in let at-cell-of = c .before .cell-of in let at-pre = c .before .before .before .before .pre in let l = cell-inside (at-args .scope .now) (at-args .under) (at-args .under + 1) (at-args .m) _ (at-cell-of .ensures) (omega arith) (at-pre .0) in simp length-set (omega arith)
 
 same-length : tie.Need-same-length
 same-length c = search needs
 
 returns : tie.Need-returns
-returns c = opens-is (c .before .before .before .before .args .m) (c .before .before .before .before .args .under) _ (c .before .before .before .before .args .scope .now) (c .before .cell-of .ensures)
+returns c = let at-args = c .before .before .before .before .args in let at-cell-of = c .before .cell-of in opens-is (at-args .m) (at-args .under) _ (at-args .scope .now) (at-cell-of .ensures)
 
 pub open-name-spec : {M : Type 1} → statement M
 open-name-spec =

@@ -1,4 +1,4 @@
--- `named::scope/open_names` meets its contract. Assumes nothing.
+-- `named::scope::open_names` meets its contract. Assumes nothing.
 use mathlib.Core.Path.{_≡_, refl, sym, _∙_}
 use Prim.Native.Nat.{_+_, _-_}
 use native.Mathlib.Omega.{arith}
@@ -19,7 +19,7 @@ abbrev μ-loop : tie.MeasureT-loop
 μ-loop scope₀ declared under i₀ level₀ scope i level = length declared - i
 
 loop-holds : tie.Need-loop-holds Inv-loop μ-loop
-loop-holds c = (refl, refl, omega arith, c .before .before .pre .1)
+loop-holds c = let at-pre = c .before .before .pre in (refl, refl, omega arith, at-pre .1)
 
 mul-open-name : tie.Need-mul-open-name Inv-loop μ-loop
 mul-open-name c = search needs
@@ -28,25 +28,25 @@ shared-slice-read-open-name : tie.Need-shared-slice-read-open-name Inv-loop μ-l
 shared-slice-read-open-name c = search needs
 
 open-name-requires : tie.Need-open-name-requires Inv-loop μ-loop
-open-name-requires c κs = let i = c .before .before .before .loop .inv .2 in let t = c .before .before .loop-test .taken in (sized-at _ _ _ _ (c .before .before .before .loop .inv .1) (omega arith) (c .before .before .before .before .before .before .pre .0), c .before .before .before .loop .inv .3)
+open-name-requires c κs = let at-loop = c .before .before .before .loop in let at-loop-test = c .before .before .loop-test in let at-pre = c .before .before .before .before .before .before .pre in let i = at-loop .inv .2 in let t = at-loop-test .taken in (sized-at _ _ _ _ (at-loop .inv .1) (omega arith) (at-pre .0), at-loop .inv .3)
 
 add-i : tie.Need-add-i Inv-loop μ-loop
 add-i c = search needs
 
 add-level : tie.Need-add-level Inv-loop μ-loop
-add-level c = let i = c .before .before .before .before .before .before .loop .inv .2 in let t = c .before .before .before .before .before .loop-test .taken in let r = c .before .before .before .before .before .before .before .before .before .pre .0 .room in let k = c .before .before .before .before .before .before .before .before .before .pre .0 .most in record { fits = omega arith }
+add-level c = let at-loop = c .before .before .before .before .before .before .loop in let at-loop-test = c .before .before .before .before .before .loop-test in let at-pre = c .before .before .before .before .before .before .before .before .before .pre in let i = at-loop .inv .2 in let t = at-loop-test .taken in let r = at-pre .0 .room in let k = at-pre .0 .most in record { fits = omega arith }
 
 loop-less : tie.Need-loop-less Inv-loop μ-loop
-loop-less c = let t = c .before .before .before .before .before .loop-test .taken in omega arith
+loop-less c = let at-loop-test = c .before .before .before .before .before .loop-test in let t = at-loop-test .taken in omega arith
 
 loop-again : tie.Need-loop-again Inv-loop μ-loop
-loop-again c = let i = c .before .before .before .before .before .before .loop .inv .2 in let t = c .before .before .before .before .before .loop-test .taken in (c .before .before .before .before .before .before .loop .inv .0 ∙ open-more _ _ _ _ _ (c .before .before .before .before .before .loop-test .taken) (c .before .before .open-name .ensures), c .before .before .open-name .kept .0 ∙ c .before .before .before .before .before .before .loop .inv .1, omega arith, held-next _ _ _ _ (sized-at _ _ _ _ (c .before .before .before .before .before .before .loop .inv .1) (omega arith) (c .before .before .before .before .before .before .before .before .before .pre .0)) (c .before .before .before .before .before .before .loop .inv .3) (c .before .before .open-name .ensures))
+loop-again c = let at-loop = c .before .before .before .before .before .before .loop in let at-loop-test = c .before .before .before .before .before .loop-test in let at-open-name = c .before .before .open-name in let at-pre = c .before .before .before .before .before .before .before .before .before .pre in let i = at-loop .inv .2 in let t = at-loop-test .taken in (at-loop .inv .0 ∙ open-more _ _ _ _ _ (at-loop-test .taken) (at-open-name .ensures), at-open-name .kept .0 ∙ at-loop .inv .1, omega arith, held-next _ _ _ _ (sized-at _ _ _ _ (at-loop .inv .1) (omega arith) (at-pre .0)) (at-loop .inv .3) (at-open-name .ensures))
 
 same-length : tie.Need-same-length Inv-loop μ-loop
-same-length c = c .before .loop .inv .1
+same-length c = let at-loop = c .before .loop in at-loop .inv .1
 
 returns : tie.Need-returns Inv-loop μ-loop
-returns c = sym (c .before .loop .inv .0 ∙ open-none _ _ _ _ (c .loop-test .left))
+returns c = let at-loop = c .before .loop in let at-loop-test = c .loop-test in sym (at-loop .inv .0 ∙ open-none _ _ _ _ (at-loop-test .left))
 
 pub open-names-spec : {M : Type 1} → statement M
 open-names-spec =

@@ -59,10 +59,7 @@ same-length : tie.Need-same-length
 same-length c = search needs
 
 returns : tie.Need-returns
-returns c =
-    let b4 = c .before .before .before .before in
-    let b10 = b4 .before .before .before .before .before .before in
-    run-coded _ Shift (b4 .enum-told .given .1) _ (b10 .args .list .now) (b10 .args .row .now) (length (b10 .args .work .now)) (length (b10 .args .out .now)) _ _ _ (rw (back (b10 .args .offset) (b10 .fits .offset)) at (c .before .before .sgb-shift .ensures))
+returns c = let at-enum-told = c .before .before .before .before .enum-told in let at-args = c .before .before .before .before .before .before .before .before .before .before .args in let at-fits = c .before .before .before .before .before .before .before .before .before .before .fits in let at-sgb-shift = c .before .before .sgb-shift in run-coded _ Shift (at-enum-told .given .1) _ (at-args .list .now) (at-args .row .now) (length (at-args .work .now)) (length (at-args .out .now)) _ _ _ (rw (back (at-args .offset) (at-fits .offset)) at (at-sgb-shift .ensures))
 
 same-length-2 : tie.Need-same-length-2
 same-length-2 c = search needs
@@ -71,20 +68,13 @@ same-length-3 : tie.Need-same-length-3
 same-length-3 c = search needs
 
 returns-2 : tie.Need-returns-2
-returns-2 c =
-    let b4 = c .before .before .before .before in
-    let b7 = b4 .before .before .before in
-    let b13 = b7 .before .before .before .before .before .before in
-    run-coded _ Free (b7 .enum-told2 .given .1) _ (b13 .args .list .now) (b13 .args .row .now) (length (b13 .args .work .now)) (length (b13 .args .out .now)) _ _ _ (b4 .sgb-free .ensures)
+returns-2 c = let at-enum-told2 = c .before .before .before .before .before .before .before .enum-told2 in let at-args = c .before .before .before .before .before .before .before .before .before .before .before .before .before .args in let at-sgb-free = c .before .before .before .before .sgb-free in run-coded _ Free (at-enum-told2 .given .1) _ (at-args .list .now) (at-args .row .now) (length (at-args .work .now)) (length (at-args .out .now)) _ _ _ (at-sgb-free .ensures)
 
 same-length-4 : tie.Need-same-length-4
 same-length-4 c = search needs
 
 returns-3 : tie.Need-returns-3
-returns-3 c =
-    let b4 = c .before .before .before .before in
-    let b10 = b4 .before .before .before .before .before .before in
-    run-coded _ Bind (b4 .enum-told3 .given .1) _ (b10 .args .list .now) (b10 .args .row .now) (length (b10 .args .work .now)) (length (b10 .args .out .now)) _ _ _ (c .before .before .sgb-bind .ensures)
+returns-3 c = let at-enum-told3 = c .before .before .before .before .enum-told3 in let at-args = c .before .before .before .before .before .before .before .before .before .before .args in let at-sgb-bind = c .before .before .sgb-bind in run-coded _ Bind (at-enum-told3 .given .1) _ (at-args .list .now) (at-args .row .now) (length (at-args .work .now)) (length (at-args .out .now)) _ _ _ (at-sgb-bind .ensures)
 
 same-length-5 : tie.Need-same-length-5
 same-length-5 c = search needs
@@ -93,20 +83,13 @@ same-length-6 : tie.Need-same-length-6
 same-length-6 c = search needs
 
 returns-4 : tie.Need-returns-4
-returns-4 c =
-    let b4 = c .before .before .before .before in
-    let b7 = b4 .before .before .before in
-    let b13 = b7 .before .before .before .before .before .before in
-    run-coded _ Fill (b7 .enum-told4 .given .1) _ (b13 .args .list .now) (b13 .args .row .now) (length (b13 .args .work .now)) (length (b13 .args .out .now)) _ _ _ (b4 .sgb-fill .ensures)
+returns-4 c = let at-enum-told4 = c .before .before .before .before .before .before .before .enum-told4 in let at-args = c .before .before .before .before .before .before .before .before .before .before .before .before .before .args in let at-sgb-fill = c .before .before .before .before .sgb-fill in run-coded _ Fill (at-enum-told4 .given .1) _ (at-args .list .now) (at-args .row .now) (length (at-args .work .now)) (length (at-args .out .now)) _ _ _ (at-sgb-fill .ensures)
 
 same-length-7 : tie.Need-same-length-7
 same-length-7 c = search needs
 
 returns-5 : tie.Need-returns-5
-returns-5 c =
-    let b4 = c .before .before .before .before in
-    let b10 = b4 .before .before .before .before .before .before in
-    run-coded _ Prune (b4 .enum-told5 .given .1) _ (b10 .args .list .now) (b10 .args .row .now) (length (b10 .args .work .now)) (length (b10 .args .out .now)) _ _ _ (c .before .before .sgb-prune .ensures)
+returns-5 c = let at-enum-told5 = c .before .before .before .before .enum-told5 in let at-args = c .before .before .before .before .before .before .before .before .before .before .args in let at-sgb-prune = c .before .before .sgb-prune in run-coded _ Prune (at-enum-told5 .given .1) _ (at-args .list .now) (at-args .row .now) (length (at-args .work .now)) (length (at-args .out .now)) _ _ _ (at-sgb-prune .ensures)
 
 same-length-8 : tie.Need-same-length-8
 same-length-8 c = search needs
@@ -115,11 +98,7 @@ same-length-9 : tie.Need-same-length-9
 same-length-9 c = search needs
 
 returns-6 : tie.Need-returns-6
-returns-6 c =
-    let b4 = c .before .before .before .before in
-    let b7 = b4 .before .before .before in
-    let b13 = b7 .before .before .before .before .before .before in
-    run-coded _ Point (b7 .enum-told6 .given .1) _ (b13 .args .list .now) (b13 .args .row .now) (length (b13 .args .work .now)) (length (b13 .args .out .now)) _ _ _ (b4 .sgb-point .ensures)
+returns-6 c = let at-enum-told6 = c .before .before .before .before .before .before .before .enum-told6 in let at-args = c .before .before .before .before .before .before .before .before .before .before .before .before .before .args in let at-sgb-point = c .before .before .before .before .sgb-point in run-coded _ Point (at-enum-told6 .given .1) _ (at-args .list .now) (at-args .row .now) (length (at-args .work .now)) (length (at-args .out .now)) _ _ _ (at-sgb-point .ensures)
 
 same-length-10 : tie.Need-same-length-10
 same-length-10 c = search needs
@@ -128,20 +107,13 @@ same-length-11 : tie.Need-same-length-11
 same-length-11 c = search needs
 
 returns-7 : tie.Need-returns-7
-returns-7 c =
-    let b4 = c .before .before .before .before in
-    let b7 = b4 .before .before .before in
-    let b13 = b7 .before .before .before .before .before .before in
-    run-coded _ Member (b7 .enum-told7 .given .1) _ (b13 .args .list .now) (b13 .args .row .now) (length (b13 .args .work .now)) (length (b13 .args .out .now)) _ _ _ (b4 .sgb-member .ensures)
+returns-7 c = let at-enum-told7 = c .before .before .before .before .before .before .before .enum-told7 in let at-args = c .before .before .before .before .before .before .before .before .before .before .before .before .before .args in let at-sgb-member = c .before .before .before .before .sgb-member in run-coded _ Member (at-enum-told7 .given .1) _ (at-args .list .now) (at-args .row .now) (length (at-args .work .now)) (length (at-args .out .now)) _ _ _ (at-sgb-member .ensures)
 
 same-length-12 : tie.Need-same-length-12
 same-length-12 c = search needs
 
 returns-8 : tie.Need-returns-8
-returns-8 c =
-    let b4 = c .before .before .before .before in
-    let b10 = b4 .before .before .before .before .before .before in
-    run-coded _ Named (b4 .enum-told8 .given .1) _ (b10 .args .list .now) (b10 .args .row .now) (length (b10 .args .work .now)) (length (b10 .args .out .now)) _ _ _ (c .before .before .sgb-named .ensures)
+returns-8 c = let at-enum-told8 = c .before .before .before .before .enum-told8 in let at-args = c .before .before .before .before .before .before .before .before .before .before .args in let at-sgb-named = c .before .before .sgb-named in run-coded _ Named (at-enum-told8 .given .1) _ (at-args .list .now) (at-args .row .now) (length (at-args .work .now)) (length (at-args .out .now)) _ _ _ (at-sgb-named .ensures)
 
 pub run-command-spec : {M : Type 1} → statement M
 run-command-spec =

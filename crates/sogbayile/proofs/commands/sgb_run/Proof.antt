@@ -19,9 +19,7 @@ refusal-code-requires : tie.Need-refusal-code-requires
 refusal-code-requires c κs = search needs
 
 returns : tie.Need-returns
-returns c =
-    let b8 = c .before .before .before .before .before .before .before .before in
-    none-coded _ (c .before .before .before .of-number .ensures) (b8 .args .offset) (b8 .args .list .now) (b8 .args .row .now) (length (b8 .args .work .now)) (length (b8 .args .out .now)) _ _ (c .before .enum-told .given .1) (c .refusal-code .ensures)
+returns c = let at-of-number = c .before .before .before .of-number in let at-args = c .before .before .before .before .before .before .before .before .args in let at-enum-told = c .before .enum-told in let at-refusal-code = c .refusal-code in none-coded _ (at-of-number .ensures) (at-args .offset) (at-args .list .now) (at-args .row .now) (length (at-args .work .now)) (length (at-args .out .now)) _ _ (at-enum-told .given .1) (at-refusal-code .ensures)
 
 run-command-requires : tie.Need-run-command-requires
 run-command-requires c κs = search needs
@@ -33,12 +31,7 @@ same-length-2 : tie.Need-same-length-2
 same-length-2 c = search needs
 
 returns-2 : tie.Need-returns-2
-returns-2 c =
-    let b4 = c .before .before .before .before in
-    let b8 = b4 .before .before .before .before in
-    let b10 = b8 .before .before in
-    let b15 = b10 .before .before .before .before .before in
-    number-coded _ (b10 .of-number .ensures) (b15 .args .offset) (b15 .args .list .now) (b15 .args .row .now) (length (b15 .args .work .now)) (length (b15 .args .out .now)) _ _ _ (b8 .command .given .1) _ (rw (back (b15 .args .offset) (b15 .fits .offset)) at (b4 .run-command .ensures))
+returns-2 c = let at-of-number = c .before .before .before .before .before .before .before .before .before .before .of-number in let at-args = c .before .before .before .before .before .before .before .before .before .before .before .before .before .before .before .args in let at-command = c .before .before .before .before .before .before .before .before .command in let at-fits = c .before .before .before .before .before .before .before .before .before .before .before .before .before .before .before .fits in let at-run-command = c .before .before .before .before .run-command in number-coded _ (at-of-number .ensures) (at-args .offset) (at-args .list .now) (at-args .row .now) (length (at-args .work .now)) (length (at-args .out .now)) _ _ _ (at-command .given .1) _ (rw (back (at-args .offset) (at-fits .offset)) at (at-run-command .ensures))
 
 pub sgb-run-spec : {M : Type 1} → statement M
 sgb-run-spec =
