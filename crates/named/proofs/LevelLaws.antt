@@ -13,7 +13,8 @@ use Rattle.tree.specs.Form.{free, bound, pick}
 use Rattle.form.proofs.DecodeLaws.{clash}
 use Rattle.rules.specs.Named.{further, occurrence}
 use Rattle.named.specs.Internal.Scope.{slotOf, Sized, scopeOf, levelIn, orElse, firstIn, cellAt, cellIn, pop, Held}
-use Rattle.named.proofs.ScopeLaws.{slot-in, scope-same, scope-length, first-is, cell-same, pop-length, pop-else, pop-names, sized-at}
+use Rattle.named.proofs.SlotLaws.{slot-in, scope-same, scope-length, first-is, cell-same, sized-at}
+use Rattle.named.proofs.ScopeLaws.{pop-length, pop-else, pop-names}
 
 -- an occurrence by the level of its declaration
 pub level-none : (ns : List ℕ) (m : ℕ) → levelIn ns m ≡ 0 → occurrence ns m ≡ free m

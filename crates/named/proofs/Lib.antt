@@ -1,3 +1,4 @@
+pub mod SlotLaws
 pub mod ScopeLaws
 pub mod LevelLaws
 pub mod WordLaws

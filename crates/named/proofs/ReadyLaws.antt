@@ -12,7 +12,8 @@ use Rattle.rules.specs.Named.{opened}
 use Rattle.named.specs.Internal.Scope.{Sized, scopeOf, openAll, closes, Held}
 use Rattle.named.specs.Internal.Reads.{readNames, Ready, Wrote, WroteLeaf, Kept}
 use Rattle.form.proofs.DecodeLaws.{clash}
-use Rattle.named.proofs.ScopeLaws.{all-length, all-held, all-scope, all-outer, close-held, close-scope, scope-less, sized-at}
+use Rattle.named.proofs.SlotLaws.{scope-less, sized-at}
+use Rattle.named.proofs.ScopeLaws.{all-length, all-held, all-scope, all-outer, close-held, close-scope}
 
 -- the next call finds what this one found
 pub ready-next : (row made made′ sc sc′ : List ℕ) (at p u v : ℕ) → Ready row made sc at u → length made′ ≡ length made → length sc′ ≡ length sc → v ≤ p → Held sc′ v → Ready row made′ sc′ p v

@@ -2,7 +2,7 @@
 -- values differ. Each is computed. Assumes nothing.
 use mathlib.Core.Path.{_≡_, refl, ap, _∙_}
 use mathlib.Core.Bool.{Bool, true, false}
-use mathlib.Core.List.{List, [], _∷_, map, flatMap}
+use mathlib.Core.List.{[], _∷_, map, flatMap}
 use Prim.Native.Nat.{ℕ}
 use lib.IntN.{pos}
 use Rattle.tree.specs.Form.{free, Form, leaf, node, none, more}

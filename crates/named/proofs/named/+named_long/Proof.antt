@@ -6,7 +6,7 @@ use borrow.Author.Needs.{needs}
 use borrow.Fn.Kinds.{In}
 use borrow.Fn.PlainCycle.{Measures, is, falls, and}
 use Rattle.shift.proofs.CheckedLaws.{refused}
-use Rattle.named.proofs.ScopeLaws.{sized-many}
+use Rattle.named.proofs.SlotLaws.{sized-many}
 use Rattle.named.proofs.CallLaws.{named-long}
 use Rattle.named.proofs.named.named_long.Reads as reads
 use Rattle.named.proofs.named.named_long.Kinds as kinds

@@ -1,7 +1,7 @@
 -- `named::named::to_indices` meets its contract. Assumes nothing.
 use mathlib.Core.Path.{refl}
 use native.Mathlib.Omega.{arith}
-use Rattle.named.proofs.ScopeLaws.{sized-few, sized-more}
+use Rattle.named.proofs.SlotLaws.{sized-few, sized-more}
 use borrow.Author.Needs.{needs}
 use Rattle.named.proofs.named.to_indices.Statement.{statement}
 use Rattle.named.proofs.named.to_indices.Tie as tie

@@ -15,7 +15,7 @@ use Rattle.rules.specs.Named.{opened}
 use Rattle.named.specs.Internal.Scope.{scopeOf, Held}
 use Rattle.named.specs.Internal.Reads.{readNames, sortOf, WroteAll, WroteDecls}
 use Rattle.form.proofs.HeadLaws.{asked-in}
-use Rattle.named.proofs.ScopeLaws.{sized-at}
+use Rattle.named.proofs.SlotLaws.{sized-at}
 use Rattle.named.proofs.WroteLaws.{rises, rises-all, all-more, all-stop, all-none, both-go, both-stop}
 use Rattle.named.proofs.NodeLaws.{too-deep, past-end, a-node, a-noted, no-node, kids-after, flags-after}
 use Rattle.named.proofs.DeclLaws.{decl-no-name, decl-no-flag, decl-bare, decl-typed, decl-rises, decls-none, decls-stop, decls-more, decls-rise, noted-stop, noted-bare, noted-go}

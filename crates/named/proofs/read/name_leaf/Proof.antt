@@ -5,7 +5,7 @@ use native.Mathlib.Omega.{arith}
 use Rattle.named.specs.Internal.Scope.{scopeOf}
 use borrow.Author.Tests.{not-true, not-false}
 use Rattle.form.proofs.HeadLaws.{asked-in}
-use Rattle.named.proofs.ScopeLaws.{sized-at}
+use Rattle.named.proofs.SlotLaws.{sized-at}
 use Rattle.named.proofs.LeafLaws.{leaf-pred, leaf-index, leaf-none, leaf-name}
 use borrow.Author.Needs.{needs}
 use Rattle.named.proofs.read.name_leaf.Statement.{statement}

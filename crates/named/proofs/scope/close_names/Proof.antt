@@ -6,7 +6,8 @@ use native.Mathlib.Nat.{le-refl}
 use borrow.Author.Needs.{needs}
 use lib.ListN.{length, length-set}
 use Rattle.named.specs.Internal.Scope.{closes, Held}
-use Rattle.named.proofs.ScopeLaws.{close-more, close-none, pop-cell, held-last, held-closed, sized-at}
+use Rattle.named.proofs.SlotLaws.{sized-at}
+use Rattle.named.proofs.ScopeLaws.{close-more, close-none, pop-cell, held-last, held-closed}
 use Rattle.named.proofs.scope.close_names.Statement.{statement}
 use Rattle.named.proofs.scope.close_names.Tie as tie
 use Rattle.named.proofs.scope.close_names.Reads as reads

@@ -1,7 +1,6 @@
 -- `named::scope::first_of` meets its contract. Assumes nothing.
 use native.Mathlib.Omega.{arith}
 use borrow.Author.Needs.{needs}
-use lib.ListN.{length}
 use Rattle.named.proofs.LevelLaws.{Seeking, seek-first, seek-low, seek-hit, seek-on, seek-less, seek-none}
 use Rattle.named.proofs.scope.first_of.Statement.{statement}
 use Rattle.named.proofs.scope.first_of.Tie as tie

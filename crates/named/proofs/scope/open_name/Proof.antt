@@ -2,7 +2,8 @@
 use native.Mathlib.Omega.{arith}
 use Prim.Native.Nat.{_+_}
 use lib.ListN.{length-set}
-use Rattle.named.proofs.ScopeLaws.{cell-inside, opens-is}
+use Rattle.named.proofs.SlotLaws.{cell-inside}
+use Rattle.named.proofs.ScopeLaws.{opens-is}
 use borrow.Author.Needs.{needs}
 use Rattle.named.proofs.scope.open_name.Statement.{statement}
 use Rattle.named.proofs.scope.open_name.Tie as tie

@@ -5,7 +5,8 @@ use native.Mathlib.Omega.{arith}
 use borrow.Author.Needs.{needs}
 use lib.ListN.{length, drop}
 use Rattle.named.specs.Internal.Scope.{openAll, Held}
-use Rattle.named.proofs.ScopeLaws.{open-more, open-none, held-next, sized-at}
+use Rattle.named.proofs.SlotLaws.{sized-at}
+use Rattle.named.proofs.ScopeLaws.{open-more, open-none, held-next}
 use Rattle.named.proofs.scope.open_names.Statement.{statement}
 use Rattle.named.proofs.scope.open_names.Tie as tie
 use Rattle.named.proofs.scope.open_names.Reads as reads

@@ -1,5 +1,5 @@
 -- `named::scope::slot_of` meets its contract. Assumes nothing.
-use Rattle.named.proofs.ScopeLaws.{slot-few, slot-more, slot-many}
+use Rattle.named.proofs.SlotLaws.{slot-few, slot-more, slot-many}
 use borrow.Author.Needs.{needs}
 use Rattle.named.proofs.scope.slot_of.Statement.{statement}
 use Rattle.named.proofs.scope.slot_of.Tie as tie

@@ -1,6 +1,6 @@
 -- `named::words::put_name` meets its contract. Assumes nothing.
 use native.Mathlib.Omega.{arith}
-use Rattle.named.proofs.ScopeLaws.{scope-length}
+use Rattle.named.proofs.SlotLaws.{scope-length}
 use Rattle.named.proofs.LeafLaws.{put-free, put-bound}
 use borrow.Author.Needs.{needs}
 use Rattle.named.proofs.words.put_name.Statement.{statement}
