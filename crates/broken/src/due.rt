@@ -11,7 +11,7 @@ use tree::tag::{Shape, expr_shape, pred_shape};
 // expression; so many names, a predicate and expressions. With annotations: declarations, a predicate and an expression; declarations, a
 // predicate and expressions; the flag of a declared name, and what the flag is followed by, with so many declarations and expressions after
 // it, where an annotation came and where none did.
-#[derive(Drop)]
+#[derive(Clone, Copy)]
 pub enum Then {
     Nothing,
     Exprs,
@@ -29,7 +29,7 @@ pub enum Then {
 
 // The rest of a node: names, predicates and expressions, so many of each; a word between limits and what follows it; an annotation and so
 // many declarations, a predicate and expressions; what cannot come.
-#[derive(Drop)]
+#[derive(Clone, Copy)]
 pub enum Due {
     Kids(u32, u32, u32),
     Ask(u32, u32, Then),

@@ -13,14 +13,14 @@ use form::head::{Head, Word, asked};
 use tree::tag::Tag;
 
 // Whether the rest of a node was there, and where it ended; or else where the row breaks.
-#[derive(Drop)]
+#[derive(Clone, Copy)]
 pub struct Sought {
     pub ok: bool,
     pub at: usize,
 }
 
 // Whether the own words of a node were there, where they ended, and what must come after them; or else where the row breaks.
-#[derive(Drop)]
+#[derive(Clone, Copy)]
 pub struct OwnSought {
     pub ok: bool,
     pub at: usize,
@@ -28,7 +28,7 @@ pub struct OwnSought {
 }
 
 // Where the children of a node begin, and how many predicates and expressions they are; or another case.
-#[derive(Drop)]
+#[derive(Clone, Copy)]
 pub enum Start {
     At(usize, u32, u32),
     Other,

@@ -8,6 +8,8 @@
 // and -2147483648. The output row holds 88 everywhere before the call and the work row 77. What is printed: the name, document 01's number,
 // the length of an answer or the position of a refusal, and every word of the output row. For lift it is the part that it answers; for a set
 // of places its number and position, those of the offers, the number of declarations, and place, start and end of each filled place.
+#![tactic(auto)]
+
 mod place_sets;
 mod print;
 mod text;

@@ -2,7 +2,7 @@
 ghost use Rattle.std.specs.Prelude.{◌<◌};
 
 // A word that is being read: its value so far, and how often it is to be written.
-#[derive(Drop)]
+#[derive(Clone, Copy)]
 struct Word {
     value: u32,
     times: usize,

@@ -1,5 +1,7 @@
 // The cell program: reads commands from standard input, one a line, and prints one answer a line. What it does with the bytes is decided by
 // the functions of `turns`.
+#![tactic(auto)]
+
 mod explain;
 
 use explain::answer_arguments;
@@ -7,7 +9,7 @@ use libc::{STDIN_FILENO, STDOUT_FILENO};
 use turns::state::State;
 use turns::turn::Turn;
 
-#[derive(Drop)]
+#[derive(Clone, Copy)]
 enum Next {
     Go(State),
     Done,

@@ -1,5 +1,7 @@
 // A reading place: a lent row kept with a position in it. Its functions take it apart and leave the work to functions of the row and the
 // position.
+#![tactic(auto)]
+
 ghost use Rattle.std.specs.Prelude.{◌≡◌, leb, length, get_or};
 ghost use Rattle.form.specs.Answer.{told};
 ghost use Rattle.decls.specs.Internal.Noted.{count_in};

@@ -1,14 +1,14 @@
 // What every public function takes and answers.
 
 // The length of the answer, or the number of a refusal and the position where the row breaks, 0 unless the number is 2.
-#[derive(Drop)]
+#[derive(Clone, Copy)]
 pub enum Answer {
     Done(usize),
     No(u32, u32),
 }
 
 // Which kind of form is asked for. A named one is a form of either sort in which no index stands.
-#[derive(Drop)]
+#[derive(Clone, Copy)]
 pub enum Kind {
     Expression,
     Predicate,
@@ -17,14 +17,14 @@ pub enum Kind {
 }
 
 // Which list of entries: name and expression in turn, or one place for each declaration.
-#[derive(Drop)]
+#[derive(Clone, Copy)]
 pub enum ListKind {
     Pairs,
     Places,
 }
 
 // The limits of a row: words, depth, a name or index, declarations of one quantifier.
-#[derive(Drop)]
+#[derive(Clone, Copy)]
 pub struct Limit {
     pub value: usize,
 }

@@ -9,14 +9,14 @@ use crate::answer::Limit;
 use tree::tag::{Shape, Tag, expr_shape, pred_shape};
 
 // Where a part of a row ends, or that it is no such part.
-#[derive(Drop)]
+#[derive(Clone, Copy)]
 pub enum Step {
     End(usize),
     Bad,
 }
 
 // A word within its limits, or none.
-#[derive(Drop)]
+#[derive(Clone, Copy)]
 pub enum Word {
     Is(u32),
     Not,
@@ -24,7 +24,7 @@ pub enum Word {
 
 // Where the children begin, the number of predicates and, after them, of expressions, and the
 // number of declarations that are open in them.
-#[derive(Drop)]
+#[derive(Clone, Copy)]
 pub enum Head {
     Kids(usize, u32, u32, u32),
     // The same where declarations have flags: where they begin.

@@ -6,7 +6,7 @@ ghost use Rattle.line.specs.Internal.Places.{Grouped};
 use crate::turn::{State, Turn, depth_after, next, noted, put_mark};
 
 // Where a group ends, and the number of its words.
-#[derive(Drop)]
+#[derive(Clone, Copy)]
 pub enum Group {
     End(usize, usize),
     Misspelled,

@@ -6,7 +6,7 @@ ghost use Rattle.rules.specs.Command.{commands, head_of};
 use rules::command::{Command, Numbered, head_of, of_number};
 
 // The command, and where its arguments begin.
-#[derive(Drop)]
+#[derive(Clone, Copy)]
 pub enum Start {
     At(Command, usize),
     Unknown,

@@ -11,7 +11,7 @@ use crate::number::{Offset, read_offset};
 use rules::command::{Args, Command, args_of};
 
 // A group of the line: where it starts and ends, and the number of its words.
-#[derive(Drop)]
+#[derive(Clone, Copy)]
 pub struct Part {
     pub start: usize,
     pub end: usize,
@@ -19,7 +19,7 @@ pub struct Part {
 }
 
 // The offset is 0 where the command has none, and the list starts and ends at 0.
-#[derive(Drop)]
+#[derive(Clone, Copy)]
 pub struct Parts {
     pub command: Command,
     pub offset: i32,
@@ -27,7 +27,7 @@ pub struct Parts {
     pub form: Part,
 }
 
-#[derive(Drop)]
+#[derive(Clone, Copy)]
 pub enum Line {
     Read(Parts),
     Misspelled,

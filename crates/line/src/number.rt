@@ -5,13 +5,13 @@ ghost use Rattle.line.specs.Internal.Places.{number_at, offset_at};
 
 use crate::turn::{State, Turn, after_digit};
 
-#[derive(Drop)]
+#[derive(Clone, Copy)]
 pub enum Number {
     Is(u32, usize),
     Bad,
 }
 
-#[derive(Drop)]
+#[derive(Clone, Copy)]
 pub enum Offset {
     Is(i32, usize),
     Bad,

@@ -4,7 +4,7 @@ ghost use Rattle.line.specs.Scan.{on_open, on_close, on_space, on_digit, turn, n
 ghost use Rattle.spell.specs.Internal.Writes.{Wrote};
 
 // What stands before: '[', ' ', ']', or the digits of a word with this value.
-#[derive(Drop)]
+#[derive(Clone, Copy)]
 pub enum State {
     Opened,
     Spaced,
@@ -12,13 +12,13 @@ pub enum State {
     Digits(u32),
 }
 
-#[derive(Drop)]
+#[derive(Clone, Copy)]
 pub enum Turn {
     To(State),
     Bad,
 }
 
-#[derive(Drop)]
+#[derive(Clone, Copy)]
 pub enum Mark {
     Word(u32),
     Nothing,

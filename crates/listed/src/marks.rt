@@ -19,7 +19,7 @@ use reader::lists::Listed;
 use reader::reader::{expr_at, pred_at};
 
 // A row that is a form, and whether it is at most as deep as was asked first; or one that is none.
-#[derive(Drop)]
+#[derive(Clone, Copy)]
 pub enum Reading {
     Taken(bool),
     Refused,

@@ -1,4 +1,6 @@
 // Membership: an element in a comprehension becomes an existence.
+#![tactic(auto)]
+
 mod filling;
 mod member;
 mod noted;

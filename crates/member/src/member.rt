@@ -11,7 +11,7 @@ use places::positions::{expr_end, skip_pred};
 use tree::tag::Tag;
 
 // Where the comprehension stands, how many declarations it has, and where its guard and its value start.
-#[derive(Drop)]
+#[derive(Clone, Copy)]
 pub struct Comprehension {
     pub at: usize,
     pub n: u32,
@@ -19,7 +19,7 @@ pub struct Comprehension {
     pub value: usize,
 }
 
-#[derive(Drop)]
+#[derive(Clone, Copy)]
 pub enum Membership {
     In(Comprehension),
     Not,

@@ -15,7 +15,7 @@ use replace::tables::{put_lifted, put_words};
 use tree::tag::Tag;
 
 // The places, where the written equalities end, and how many there are.
-#[derive(Drop)]
+#[derive(Clone, Copy)]
 pub struct Offers {
     pub table: Table,
     pub end: usize,
@@ -23,7 +23,7 @@ pub struct Offers {
 }
 
 // The places, and where the body ends.
-#[derive(Drop)]
+#[derive(Clone, Copy)]
 pub struct Body {
     pub table: Table,
     pub end: usize,

@@ -1,4 +1,6 @@
 // Forms written with names: each occurrence that a declaration binds becomes an index.
+#![tactic(auto)]
+
 pub mod named;
 mod read;
 mod scope;

@@ -1,4 +1,6 @@
 // The set of places lent to the offers that alter it.
+#![tactic(auto)]
+
 ghost use Rattle.std.specs.Prelude.{◌≡◌};
 ghost use Rattle.places.specs.Places.{offer_answer};
 ghost use Rattle.offers.specs.Offers.{offer_two};
@@ -6,7 +8,7 @@ ghost use Rattle.offers.specs.Offers.{offer_two};
 use places::replacements::{Offered, Replacements};
 
 // Document 01's number of an offer, and the position where that is 2.
-#[derive(Drop)]
+#[derive(Clone, Copy)]
 pub struct Verdict {
     pub number: u32,
     pub position: u32,

@@ -8,7 +8,7 @@ use form::head::Step;
 use places::sides::Replacement;
 
 // What a search took, where it stopped in the row and how many children are left there, and what was written.
-#[derive(Drop)]
+#[derive(Clone, Copy)]
 pub struct Stopped {
     pub found: Replacement,
     pub next: usize,

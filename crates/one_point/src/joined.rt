@@ -17,7 +17,7 @@ use places::sides::is_above;
 use replace::tables::{fill_places, put_words};
 
 // How the annotations of the body's own quantifier join the declarations in front: not, without the replaced declaration, or with what replaces it.
-#[derive(Drop)]
+#[derive(Clone, Copy)]
 pub enum Joining {
     Apart,
     Unused,

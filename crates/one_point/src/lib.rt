@@ -1,4 +1,6 @@
 // The one-point rule: a quantified predicate is reduced by the first equality that its body offers.
+#![tactic(auto)]
+
 mod children;
 mod equality;
 mod heads;

@@ -13,7 +13,7 @@ use form::answer::{Answer, Kind, Limit};
 use form::head::{Head, Step, pred_head};
 
 // Where the body of a quantified predicate begins.
-#[derive(Drop)]
+#[derive(Clone, Copy)]
 pub enum Quantifier {
     Of(usize),
     None,

@@ -10,14 +10,14 @@ use places::sides::{Replacement, Sides, is_above, match_replacement};
 use tree::tag::Tag;
 
 // Where the written parts end, and how many there are.
-#[derive(Drop)]
+#[derive(Clone, Copy)]
 pub struct Written {
     pub end: usize,
     pub count: u32,
 }
 
 // Where the search of the parts stopped: what it took, the positions and the number of the parts that are left, and what was written.
-#[derive(Drop)]
+#[derive(Clone, Copy)]
 pub struct Search {
     pub found: Replacement,
     pub left: usize,

@@ -18,7 +18,7 @@ use replace::small::depth_left;
 use tree::tag::Tag;
 
 // How deep a body is read first, so that what is left of it is sure to stay within the limits with a replacement up to 3 deep.
-#[derive(Drop)]
+#[derive(Clone, Copy)]
 pub struct Depth {
     pub value: usize,
 }

@@ -13,7 +13,7 @@ use places::sides::Replacement;
 
 // Whether a predicate was read; where it ends in the row, the equality taken, whether the node is gone, and where what is left of it ends in
 // the output.
-#[derive(Drop)]
+#[derive(Clone, Copy)]
 pub struct Scanned {
     pub ok: bool,
     pub next: usize,

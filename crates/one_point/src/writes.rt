@@ -11,7 +11,7 @@ use replace::tables::put_words;
 use tree::tag::Tag;
 
 // Where what is left of a node ends, and whether nothing is.
-#[derive(Drop)]
+#[derive(Clone, Copy)]
 pub struct Left {
     pub end: usize,
     pub gone: bool,

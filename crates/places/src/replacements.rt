@@ -8,7 +8,7 @@ use broken::position::broken_at;
 use form::answer::{Kind, Limit};
 
 // Places for n declarations, the first declaration's first; an end of 0 is a free place.
-#[derive(Drop)]
+#[derive(Clone, Copy)]
 pub struct Replacements {
     pub starts: [usize; Replacements::LIMIT],
     pub ends: [usize; Replacements::LIMIT],
@@ -16,7 +16,7 @@ pub struct Replacements {
 }
 
 // A set, and document 01's number beside it.
-#[derive(Drop)]
+#[derive(Clone, Copy)]
 pub struct Offered {
     pub places: Replacements,
     pub number: u32,

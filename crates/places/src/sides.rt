@@ -10,7 +10,7 @@ use form::head::Step;
 use shift::items::all_in;
 
 // The left side stands from `left` to `middle`, the right one from `right` to `end`.
-#[derive(Drop)]
+#[derive(Clone, Copy)]
 pub struct Sides {
     pub left: usize,
     pub middle: usize,
@@ -18,21 +18,21 @@ pub struct Sides {
     pub end: usize,
 }
 
-#[derive(Drop)]
+#[derive(Clone, Copy)]
 pub enum Equality {
     Of(Sides),
     None,
 }
 
 // A side that is a bound index, or one that is not.
-#[derive(Drop)]
+#[derive(Clone, Copy)]
 pub enum Index {
     Bound(u32),
     Unbound,
 }
 
 // The target, and where its replacement starts and ends.
-#[derive(Drop)]
+#[derive(Clone, Copy)]
 pub enum Replacement {
     Is(u32, usize, usize),
     Not,

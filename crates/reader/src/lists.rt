@@ -11,7 +11,7 @@ use form::head::Step;
 
 // The entries of a list: of the first 32 the word, and where its expression starts and ends in the row (at one place where it has
 // none); and the number of all.
-#[derive(Drop)]
+#[derive(Clone, Copy)]
 pub struct Table {
     pub words: [u32; 32],
     pub starts: [usize; 32],
@@ -20,7 +20,7 @@ pub struct Table {
 }
 
 // Whether the row is a list, and how many entries were read.
-#[derive(Drop)]
+#[derive(Clone, Copy)]
 pub struct Listed {
     pub ok: bool,
     pub n: usize,

@@ -1,1 +1,2 @@
 // Readings, and the truth that one point keeps: definitions and theorems, no code.
+#![tactic(auto)]

@@ -1,4 +1,6 @@
 // Replacements that change a form's length: what a plan puts for its words, and the places of a table filled under a head.
+#![tactic(auto)]
+
 mod build;
 mod emit;
 pub mod heads;

@@ -8,7 +8,7 @@ use shift::items::{Item, item_at, put_item, size_of};
 use shift::shift::move_item;
 
 // The item itself; an index; or the list row's words from a start to an end, their dangling indices moved up and down.
-#[derive(Drop)]
+#[derive(Clone, Copy)]
 pub enum Piece {
     Same,
     Index(u32),
@@ -17,7 +17,7 @@ pub enum Piece {
 
 // What is replaced: indices by the places of the table, of which so many are filled, or names by its entries. The parts of the list
 // row are moved down by `down`.
-#[derive(Drop)]
+#[derive(Clone, Copy)]
 pub struct Plan {
     pub table: Table,
     pub fills: bool,
@@ -26,7 +26,7 @@ pub struct Plan {
 }
 
 // A plan without the rows of its table, which are lent beside it.
-#[derive(Drop)]
+#[derive(Clone, Copy)]
 pub struct Rule {
     pub n: usize,
     pub fills: bool,

@@ -10,7 +10,7 @@ use shift::items::all_below;
 
 // What leaves room for a replacement: the depths of the form and of the expression are together at most 65, and no word is over
 // 63,487 = 65,535 - 2,048.
-#[derive(Drop)]
+#[derive(Clone, Copy)]
 pub struct Margin {
     pub value: usize,
 }

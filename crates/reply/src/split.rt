@@ -3,7 +3,7 @@ ghost use Rattle.std.specs.Prelude.{◌≡◌};
 ghost use Rattle.reply.specs.Split.{newline_in, next_of};
 
 // A whole line of so many bytes; the end of a line that was too long, after so many; a line that is too long already; or nothing yet.
-#[derive(Drop)]
+#[derive(Clone, Copy)]
 pub enum Next {
     Line(usize),
     Skipped(usize),

@@ -9,7 +9,7 @@ use decls::heads::{flag_names, write_flagged, write_noted};
 use replace::tables::put_words;
 
 // Whether a head had room, its length, and from which word on the body follows it.
-#[derive(Drop)]
+#[derive(Clone, Copy)]
 pub struct Round {
     pub ok: bool,
     pub words: usize,

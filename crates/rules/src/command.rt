@@ -4,7 +4,7 @@ ghost use Rattle.rules.specs.Command.{numbered, entry_of, args_of, kind_of};
 
 use form::answer::Kind;
 
-#[derive(Drop)]
+#[derive(Clone, Copy)]
 pub enum Command {
     Shift,
     Free,
@@ -16,14 +16,14 @@ pub enum Command {
     Named,
 }
 
-#[derive(Drop)]
+#[derive(Clone, Copy)]
 pub enum Numbered {
     Is(Command),
     Unknown,
 }
 
 // What stands before the form: an offset, or a list of names, of pairs or of places.
-#[derive(Drop)]
+#[derive(Clone, Copy)]
 pub enum Args {
     Nothing,
     Offset,

@@ -4,7 +4,7 @@ ghost use Rattle.tree.specs.Form.{pick};
 ghost use Rattle.shift.specs.Internal.Items.{item_at, items, size_of, words_of, all_items, item_in, all_below, store};
 
 // A word that stays, or a name or index: its depth, tag and number.
-#[derive(Drop)]
+#[derive(Clone, Copy)]
 pub enum Item {
     Plain(u32),
     Ident(u32, u32, u32),

@@ -1,4 +1,6 @@
 // Shift, over a row and its marks read item by item.
+#![tactic(auto)]
+
 pub mod items;
 pub mod shift;
 pub mod slots;

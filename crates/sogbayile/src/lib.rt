@@ -1,4 +1,6 @@
 // The static library for C and Rust: each call takes rows of words and numbers, and answers one number. The program runs its commands here too.
+#![tactic(auto)]
+
 pub mod checks;
 pub mod code;
 pub mod commands;

@@ -10,7 +10,7 @@ use form::answer::Limit;
 use form::head::{Head, Word, asked, expr_head, is_leaf, pred_head};
 
 // Where a part ends, in the row and in the output, or that it is no such part.
-#[derive(Drop)]
+#[derive(Clone, Copy)]
 pub enum Ends {
     End(usize, usize),
     Bad,

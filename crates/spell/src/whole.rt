@@ -10,7 +10,7 @@ use crate::print::{Ends, print_expr, print_pred};
 use form::answer::Kind;
 
 // The number of bytes of a row's spelling, or that it is not one form of the sort.
-#[derive(Drop)]
+#[derive(Clone, Copy)]
 pub enum Spelled {
     Bytes(usize),
     NotOne,

@@ -10,7 +10,7 @@ use shift::items::{Item, all_in, item_at, put_item, size_of};
 use shift::shift::{move_word, top_of};
 
 // How many names follow the one that is sought, or that it is not there.
-#[derive(Drop)]
+#[derive(Clone, Copy)]
 pub enum Spot {
     At(u32),
     Nowhere,

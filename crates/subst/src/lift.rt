@@ -9,7 +9,7 @@ use shift::items::all_in;
 use shift::shift::shift_marked;
 
 // Which part is the answer: all of the base, the first words of the work row, or none.
-#[derive(Drop)]
+#[derive(Clone, Copy)]
 pub enum Made {
     Base,
     Copy(usize),

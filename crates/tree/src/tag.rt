@@ -3,7 +3,7 @@ ghost use Rattle.std.specs.Prelude.{◌≡◌};
 ghost use Rattle.tree.specs.Tag.{expr, pred, shape_of};
 
 // What follows a tag: its own words, then its children.
-#[derive(Drop)]
+#[derive(Clone, Copy)]
 pub enum Shape {
     Unknown,
     // So many predicates, then so many expressions.
@@ -28,7 +28,7 @@ pub enum Shape {
 }
 
 // The tags that have a name of their own, and the ends of their ranges.
-#[derive(Drop)]
+#[derive(Clone, Copy)]
 pub struct Tag {
     pub number: u32,
 }

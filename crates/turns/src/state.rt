@@ -5,7 +5,7 @@ ghost use Rattle.turns.specs.Turn.{written_state, movable, moved_state, moved_by
 
 // The bytes of the input from start to end are not passed yet, the first `used` bytes of the output not written yet; whether a line that is
 // too long is being skipped, and whether the input has ended.
-#[derive(Drop)]
+#[derive(Clone, Copy)]
 pub struct State {
     pub start: usize,
     pub end: usize,

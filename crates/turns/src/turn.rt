@@ -10,7 +10,7 @@ use form::answer::Answer;
 use reply::split::Next;
 
 // On with another state; or the bytes of the output are to be written, more of the input to be read, or all is done.
-#[derive(Drop)]
+#[derive(Clone, Copy)]
 pub enum Turn {
     On(State),
     Write,
@@ -20,7 +20,7 @@ pub enum Turn {
 
 // What is done in a turn: the bytes up to a place are a line, which is answered, and the state is this one then, but for what is not
 // written yet; or nothing is answered.
-#[derive(Drop)]
+#[derive(Clone, Copy)]
 enum Step {
     Reply(usize, State),
     Plain(Turn),

@@ -1,0 +1,12 @@
+use Rattle.broken.specs.Internal.Seeks.{next_due}
+use Rattle.broken.proofs.DueLaws.{flag-none, flag-some}
+use mathlib.Core.Bool.{false}
+use borrow.Author.Rules.{rules}
+use Rattle.broken.proofs.due.after_first_flag.Goals as goal
+
+pub returns-then-flag-eq0 : goal.returns-then-flag-eq0
+returns-then-flag-eq0 c = flag-none false _ _ _ _ c.first_decls.ensures c.if-flag-eq0.true
+
+pub returns : goal.returns
+unfolding next_due
+returns c = flag-some false _ _ _ c.if-flag-eq0.false

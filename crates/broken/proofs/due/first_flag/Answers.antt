@@ -1,0 +1,11 @@
+use Rattle.broken.specs.Internal.Seeks.{next_then, next_due}
+use Rattle.broken.proofs.DueLaws.{last-flag, next-flag}
+use Rattle.broken.proofs.due.first_flag.Goals as goal
+
+pub returns-then-decls-eq0 : goal.returns-then-decls-eq0
+unfolding next_then next_due
+returns-then-decls-eq0 c = last-flag _ _ c.if-decls-eq0.true
+
+pub returns : goal.returns
+unfolding next_then next_due
+returns c = next-flag _ _ c.if-decls-eq0.false

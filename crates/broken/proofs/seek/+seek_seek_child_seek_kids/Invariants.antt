@@ -1,0 +1,34 @@
+use Prim.Native.Nat.{ℕ, ◌+◌, ◌-◌, ◌*◌, ◌<◌}
+use mathlib.Core.Bool.{true}
+use mathlib.Core.Path.{sym, ◌∙◌}
+use native.Mathlib.Nat.{le_refl}
+use native.Mathlib.Omega.{arith}
+use borrow.Author.Rules.{rules}
+use borrow.Author.Tests.{leb-true, not-true, not-false}
+use lib.ListN.{length}
+use Rattle.form.specs.Break.{parts}
+use Rattle.broken.specs.Internal.Seeks.{next_due, Reaches}
+use Rattle.broken.proofs.SeekLaws.{is_true, told-true, told-false, start, out-of-words, kids-there, child-found, child-broken, child-index, no_index, kids-room, kids-stop, kids-go, note-room, note-stop, note-go, passed-less, past_two, joined, reached-on, kids-next, note-next, no_word, not-never, begun}
+use Rattle.broken.proofs.LeafLaws.{leaf-go, leaf-stop}
+use Rattle.broken.proofs.seek.+seek_seek_child_seek_kids.Given as goal
+
+abbrev pub decreases-seek : goal.decreases-seek
+decreases-seek l = 3 * l.depth + 1
+
+abbrev pub decreases-seek_child : goal.decreases-seek_child
+decreases-seek_child l = 3 * l.depth + 2
+
+abbrev pub decreases-seek_kids : goal.decreases-seek_kids
+decreases-seek_kids l = 3 * l.depth
+
+abbrev pub invariant-seek-loop-own : goal.invariant-seek-loop-own
+invariant-seek-loop-own l = Reaches l.named l.row l.at l.depth (next_due l.initial.rest) l.need l.p (next_due l.rest)
+
+abbrev pub decreases-seek-loop-own : goal.decreases-seek-loop-own
+decreases-seek-loop-own l = length l.row - l.p
+
+abbrev pub invariant-seek_kids-loop-at : goal.invariant-seek_kids-loop-at
+invariant-seek_kids-loop-at l = Reaches l.named l.row l.at l.depth (parts 0 l.initial.more_preds l.initial.more_exprs) l.need l.p (parts 0 l.more_preds l.more_exprs)
+
+abbrev pub decreases-seek_kids-loop-at : goal.decreases-seek_kids-loop-at
+decreases-seek_kids-loop-at l = length l.row - l.p

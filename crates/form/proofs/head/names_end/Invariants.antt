@@ -1,0 +1,15 @@
+use mathlib.Core.Path.{sym, ◌∙◌}
+use mathlib.Core.Path.{◌≡◌, refl}
+use native.Mathlib.Omega.{arith}
+use borrow.Author.Rules.{rules}
+use lib.ListN.{drop}
+use Rattle.form.specs.Decode.{names}
+use Rattle.form.specs.Internal.Heads.{names_at}
+use Rattle.form.proofs.HeadLaws.{asked_in, names_more, names-stop, names-none}
+use Rattle.form.proofs.head.names_end.Given as goal
+
+abbrev pub invariant-loop-left : goal.invariant-loop-left
+invariant-loop-left l = names_at l.at (names l.n 0 0 (drop l.at l.row)) ≡ names_at l.p (names l.left 0 0 (drop l.p l.row))
+
+abbrev pub decreases-loop-left : goal.decreases-loop-left
+decreases-loop-left l = l.left
