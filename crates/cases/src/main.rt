@@ -18,7 +18,6 @@ use crate::text::{find, part, read_words, size_at, word_at, words_part};
 use form::answer::Answer;
 use libc::STDIN_FILENO;
 use places::replacements::Replacements;
-use sogbayile::{code, run};
 
 fn offset(param: u32, sign: u32) -> i32 {
     match sign {
@@ -45,7 +44,7 @@ fn answer_of(
 ) -> Answer {
     match call {
         101 => subst::dangling::dangling_bound_indices(row, out),
-        _ => code::answer_of(run::sgb_run(call, by, list, row, work, out)),
+        _ => calls::run_number(call, by, list, row, work, out),
     }
 }
 

@@ -1,5 +1,5 @@
 -- The arguments of a line, from lists to positions. Assumes nothing.
-use mathlib.Core.Path.{◌≡◌, refl, ap, sym, ◌∙◌}
+use mathlib.Core.Path.{◌≡◌, refl, sym, ◌∙◌}
 use mathlib.Core.Bool.{Bool, true, false}
 use mathlib.Core.List.{List, [], ◌∷◌}
 use Prim.Native.Nat.{ℕ, suc, ◌+◌, ◌≤◌, ◌<◌}
@@ -19,7 +19,7 @@ use Rattle.line.specs.declared.group.Group.{Group}
 use Rattle.line.specs.declared.group.Group.TheVariants as grp
 use Rattle.line.specs.declared.number.Offset as off
 use Rattle.line.specs.declared.number.Offset.TheVariants.{Is, Bad}
-use Rattle.rules.specs.Command.{commands, entry_of, up_to_space, head_of, args_of, numbered}
+use Rattle.rules.specs.Command.{commands, head_of, args_of, numbered}
 use Rattle.rules.proofs.CommandLaws.{number-here, number_past}
 use Rattle.rules.specs.declared.command.Command.{Command}
 use Rattle.rules.specs.declared.command.Args.{Args}
@@ -31,43 +31,34 @@ use Rattle.line.specs.declared.line.Part.{Part}
 use Rattle.line.specs.declared.line.Line.{Line}
 use Rattle.line.specs.declared.line.Line.TheVariants.{Read, Misspelled}
 
--- the head: its bytes from i on, none of those before which is a space
-abbrev pub Begun : List ℕ → List ℕ → ℕ → Type 0
-Begun word line i = (prefix (up_to_space word) line ≡ prefix (up_to_space (drop i word)) (drop i line)) × (length (up_to_space word) ≡ i + length (up_to_space (drop i word)))
-
-pub begun-none : (word line : List ℕ) → Begun word line 0
-begun-none word line = (refl, omega arith)
-
-module _ (c : Command) {word : List ℕ} (is : word ≡ (entry_of c).0) (line : List ℕ) (i : ℕ) (b : Begun word line i) where
-  by-head : (r : Start) → r ≡ start_at (up_to_space word) c line → r ≡ start_at (head_of c) c line
-  by-head r e = e ∙ ap (λ w. start_at (up_to_space w) c line) is
-
-  pub begun_all : length word ≤ i → At c i ≡ start_at (head_of c) c line
-  unfolding up_to_space prefix
-  begun_all h =
-      let l : length (up_to_space word) ≡ i = b.1 ∙ rw (gone word i h) (omega arith) in
-      by-head _ (rw (b.0, l, gone word i h) refl)
+-- the head
+module _ (line word : List ℕ) (i : ℕ) where
+  pub prefix-all : length word ≤ i → prefix (drop i word) (drop i line) ≡ true
+  unfolding prefix
+  prefix-all h = rw (gone word i h)
 
   module _ (h : i < length word) where
-    pub begun-short : length line ≤ i → Unknown ≡ start_at (head_of c) c line
-    unfolding up_to_space prefix
-    begun-short l = by-head _ (rw (b.0, here word i h, gone line i l) refl)
+    pub prefix-short : length line ≤ i → prefix (drop i word) (drop i line) ≡ false
+    unfolding prefix
+    prefix-short l = rw (here word i h, gone line i l)
 
-    pub begun-other : i < length line → (get_or line i 0 ≡ get_or word i 0 → ⊥) → Unknown ≡ start_at (head_of c) c line
-    unfolding up_to_space prefix
-    begun-other l n = by-head _ (rw (b.0, here word i h, here line i l, ne_eqb (get_or line i 0) (get_or word i 0) n) refl)
+    pub prefix-other : i < length line → (get_or line i 0 ≡ get_or word i 0 → ⊥) → prefix (drop i word) (drop i line) ≡ false
+    unfolding prefix
+    prefix-other l n = rw (here word i h, here line i l, ne_eqb (get_or line i 0) (get_or word i 0) n)
 
-    module _ (l : i < length line) (e : get_or line i 0 ≡ get_or word i 0) where
-      pub begun-space : get_or word i 0 ≡ 32 → At c (i + 1) ≡ start_at (head_of c) c line
-      unfolding up_to_space prefix
-      begun-space z = by-head _ (rw (b.0, b.1, here word i h, here line i l, eq-eqb (get_or line i 0) (get_or word i 0) e, eq-eqb (get_or word i 0) 32 z) refl)
+    pub prefix-more : i < length line → get_or line i 0 ≡ get_or word i 0 → prefix (drop i word) (drop i line) ≡ prefix (drop (i + 1) word) (drop (i + 1) line)
+    unfolding prefix
+    prefix-more l e = rw (here word i h, here line i l, eq-eqb (get_or line i 0) (get_or word i 0) e)
 
-      pub begun_more : (get_or word i 0 ≡ 32 → ⊥) → Begun word line (i + 1)
-      unfolding up_to_space prefix
-      begun_more n =
-          let p = rw (here word i h, here line i l, eq-eqb (get_or line i 0) (get_or word i 0) e, ne_eqb (get_or word i 0) 32 n) at b.0 in
-          let m = rw (here word i h, ne_eqb (get_or word i 0) 32 n) at b.1 in
-          (p, omega arith)
+module _ (word : List ℕ) (c : Command) (line : List ℕ) where
+  pub not-begun : prefix word line ≡ false → Unknown ≡ start_at word c line
+  not-begun e = rw e
+
+  pub begun : prefix word line ≡ true → At c (length word) ≡ start_at word c line
+  begun e = rw e
+
+pub headed : (c d : Command) → c ≡ d → (line : List ℕ) (r : Start) → r ≡ start_at (head_of d) c line → r ≡ start_at (head_of c) c line
+headed c d e line r h = h ∙ rw e
 
 -- the commands from number n on, where no command before it is the line's
 abbrev pub From : ℕ → List ℕ → Type 0

@@ -3,7 +3,7 @@ ghost use Rattle.std.specs.Prelude.{◌≡◌};
 ghost use Rattle.line.specs.Line.{start_at, start_of};
 ghost use Rattle.rules.specs.Command.{commands, head_of};
 
-use rules::command::{Command, Numbered, head_of, of_number};
+use rules::command::{Command, Numbered, of_number};
 
 // The command, and where its arguments begin.
 #[derive(Clone, Copy)]
@@ -12,26 +12,37 @@ pub enum Start {
     Unknown,
 }
 
-// Whether the line begins with the command's head.
-fn begins(line: &[u8], command: Command) -> Start
-    ensures { result ≡ start_at (head_of command) command line.now }
+// Whether the line begins with the word, as the head of the command.
+fn begins(line: &[u8], word: &[u8], command: Command) -> Start
+    ensures { result ≡ start_at word.now command line.now }
 {
-    let head = head_of(command);
     let mut i: usize = 0;
-    while i < 8 {
+    while i < word.len() {
         if line.len() <= i {
             return Start::Unknown;
         }
-        let byte = head[i];
-        if line[i] != byte {
+        if line[i] != word[i] {
             return Start::Unknown;
         }
         i += 1;
-        if byte == b' ' {
-            return Start::At(command, i);
-        }
     }
-    Start::At(command, i)
+    Start::At(command, word.len())
+}
+
+// Whether the line begins with the command's head.
+fn begins_with(line: &[u8], command: Command) -> Start
+    ensures { result ≡ start_at (head_of command) command line.now }
+{
+    match command {
+        Command::Shift => begins(line, b"[shift ", command),
+        Command::Free => begins(line, b"[free ", command),
+        Command::Bind => begins(line, b"[bind ", command),
+        Command::Fill => begins(line, b"[fill ", command),
+        Command::Prune => begins(line, b"[prune ", command),
+        Command::Point => begins(line, b"[point ", command),
+        Command::Member => begins(line, b"[member ", command),
+        Command::Named => begins(line, b"[named ", command),
+    }
 }
 
 pub fn read_head(line: &[u8]) -> Start
@@ -42,7 +53,7 @@ pub fn read_head(line: &[u8]) -> Start
         let Numbered::Is(command) = of_number(n) else {
             return Start::Unknown;
         };
-        let start = begins(line, command);
+        let start = begins_with(line, command);
         if let Start::At(found, at) = start {
             return Start::At(found, at);
         }

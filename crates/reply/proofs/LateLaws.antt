@@ -32,7 +32,7 @@ use Rattle.tree.proofs.Ranges.{split}
 use Rattle.reader.proofs.TableLaws.{listing-no, listing-yes}
 use Rattle.spell.specs.Spell.{spells, fits_form, fits_list, fits_names}
 use Rattle.line.specs.Line.{list_row}
-use Rattle.sogbayile.proofs.RunLaws.{Said, said-no, said_same}
+use Rattle.calls.proofs.CallLaws.{Said, said-no, said_same}
 use Rattle.rules.specs.Command.{args_of, kind_of, outcome_of}
 use Rattle.rules.specs.declared.command.Args.{Args}
 use Rattle.rules.specs.declared.command.Args.TheVariants.{Nothing, Offset, Names, Pairs, Places}

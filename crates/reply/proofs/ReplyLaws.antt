@@ -15,7 +15,7 @@ use Rattle.form.proofs.DecodeLaws.{clash}
 use Rattle.spell.specs.Put.{put}
 use Rattle.line.specs.Line.{Formed, formed, read_line, list_row, line_of, form_row}
 use Rattle.spell.proofs.AnswerLaws.{put_front}
-use Rattle.sogbayile.proofs.RunLaws.{Said, said-no, said_same}
+use Rattle.calls.proofs.CallLaws.{Said, said-no, said_same}
 use Rattle.rules.specs.Command.{outcome_of}
 use Rattle.line.specs.declared.line.Part.{Part}
 use Rattle.line.specs.declared.line.Parts.{Parts}

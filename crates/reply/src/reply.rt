@@ -6,7 +6,6 @@ ghost use Rattle.reply.specs.Reply.{enough_rows, line_outcome, reply_outcome};
 use crate::commands::{check_parts, words_of};
 use form::answer::{Answer, Limit};
 use line::line::Line;
-use sogbayile::run::run;
 use spell::answer::{print_form, print_no};
 
 // Whether rows of these lengths are long enough for every line.
@@ -46,7 +45,7 @@ pub fn answer_line(
     let command = parts.command;
     let n = words_of(parts.list);
     let m = words_of(parts.form);
-    run(command, parts.offset, &list[..n], &form[..m], work, res)
+    calls::run(command, parts.offset, &list[..n], &form[..m], work, res)
 }
 
 // The bytes that answer the line, at the front of the buffer. All other rows are work rows.

@@ -1,6 +1,5 @@
 -- The commands over rows: what each is called, what it takes and what it answers.
-use Rattle.std.specs.Prelude.{List, [], ◌∷◌, ℕ, zero, suc, eqb, ℤ}
-use Rattle.tree.specs.Form.{pick}
+use Rattle.std.specs.Prelude.{List, [], ◌∷◌, ℕ, zero, suc, ℤ}
 use Rattle.form.specs.Answer.{Outcome, refusal}
 use Rattle.form.specs.declared.answer.Kind.{Kind}
 use Rattle.form.specs.declared.answer.Kind.TheVariants.{Predicate, Either, Named as NamedRow}
@@ -23,24 +22,19 @@ use Rattle.rules.specs.declared.command.Args.TheVariants.{Nothing, Offset, Names
 abbrev pub commands : List Command
 commands = Shift ∷ Free ∷ Bind ∷ Fill ∷ Prune ∷ Point ∷ Member ∷ Named ∷ []
 
--- the head of a line in 8 bytes, a shorter one with spaces behind it; what stands between it and the form; which kind of form is taken
+-- the head of a line in bytes, with its bracket and its space; what stands between it and the form; which kind of form is taken
 abbrev pub entry_of : Command → List ℕ × Args × Kind
-entry_of Shift = (91 ∷ 115 ∷ 104 ∷ 105 ∷ 102 ∷ 116 ∷ 32 ∷ 32 ∷ [], Offset, Either)
-entry_of Free = (91 ∷ 102 ∷ 114 ∷ 101 ∷ 101 ∷ 32 ∷ 32 ∷ 32 ∷ [], Pairs, Either)
-entry_of Bind = (91 ∷ 98 ∷ 105 ∷ 110 ∷ 100 ∷ 32 ∷ 32 ∷ 32 ∷ [], Names, Either)
-entry_of Fill = (91 ∷ 102 ∷ 105 ∷ 108 ∷ 108 ∷ 32 ∷ 32 ∷ 32 ∷ [], Places, Predicate)
-entry_of Prune = (91 ∷ 112 ∷ 114 ∷ 117 ∷ 110 ∷ 101 ∷ 32 ∷ 32 ∷ [], Nothing, Predicate)
-entry_of Point = (91 ∷ 112 ∷ 111 ∷ 105 ∷ 110 ∷ 116 ∷ 32 ∷ 32 ∷ [], Nothing, Predicate)
+entry_of Shift = (91 ∷ 115 ∷ 104 ∷ 105 ∷ 102 ∷ 116 ∷ 32 ∷ [], Offset, Either)
+entry_of Free = (91 ∷ 102 ∷ 114 ∷ 101 ∷ 101 ∷ 32 ∷ [], Pairs, Either)
+entry_of Bind = (91 ∷ 98 ∷ 105 ∷ 110 ∷ 100 ∷ 32 ∷ [], Names, Either)
+entry_of Fill = (91 ∷ 102 ∷ 105 ∷ 108 ∷ 108 ∷ 32 ∷ [], Places, Predicate)
+entry_of Prune = (91 ∷ 112 ∷ 114 ∷ 117 ∷ 110 ∷ 101 ∷ 32 ∷ [], Nothing, Predicate)
+entry_of Point = (91 ∷ 112 ∷ 111 ∷ 105 ∷ 110 ∷ 116 ∷ 32 ∷ [], Nothing, Predicate)
 entry_of Member = (91 ∷ 109 ∷ 101 ∷ 109 ∷ 98 ∷ 101 ∷ 114 ∷ 32 ∷ [], Nothing, Predicate)
-entry_of Named = (91 ∷ 110 ∷ 97 ∷ 109 ∷ 101 ∷ 100 ∷ 32 ∷ 32 ∷ [], Nothing, NamedRow)
-
--- a head ends with its first space
-unfoldable pub up_to_space : List ℕ → List ℕ
-up_to_space [] = []
-up_to_space (b ∷ bs) = b ∷ pick (eqb b 32) [] (up_to_space bs)
+entry_of Named = (91 ∷ 110 ∷ 97 ∷ 109 ∷ 101 ∷ 100 ∷ 32 ∷ [], Nothing, NamedRow)
 
 abbrev pub head_of : Command → List ℕ
-head_of c = up_to_space (entry_of c).0
+head_of c = (entry_of c).0
 
 abbrev pub args_of : Command → Args
 args_of c = (entry_of c).1

@@ -1,6 +1,6 @@
 // The commands, by number, and what each takes: the code's side of the table of commands.
 ghost use Rattle.std.specs.Prelude.{◌≡◌};
-ghost use Rattle.rules.specs.Command.{numbered, entry_of, args_of, kind_of};
+ghost use Rattle.rules.specs.Command.{numbered, args_of, kind_of};
 
 use form::answer::Kind;
 
@@ -55,22 +55,6 @@ pub fn of_number(number: u32) -> Numbered
     }
     let command = all[at - 1];
     Numbered::Is(command)
-}
-
-// The head of a command's line in 8 bytes, a shorter one with spaces behind it.
-pub fn head_of(command: Command) -> [u8; 8]
-    ensures { result ≡ (entry_of command).0 }
-{
-    match command {
-        Command::Shift => *b"[shift  ",
-        Command::Free => *b"[free   ",
-        Command::Bind => *b"[bind   ",
-        Command::Fill => *b"[fill   ",
-        Command::Prune => *b"[prune  ",
-        Command::Point => *b"[point  ",
-        Command::Member => *b"[member ",
-        Command::Named => *b"[named  ",
-    }
 }
 
 // What stands before a command's form.

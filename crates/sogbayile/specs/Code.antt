@@ -1,9 +1,7 @@
 -- The one number that a call of the static library answers.
-use Rattle.std.specs.Prelude.{List, ℕ, ◌+◌, ◌*◌, ◌/◌, ◌%◌, ◌^◌, ltb, length}
-use Rattle.tree.specs.Form.{pick}
+use Rattle.std.specs.Prelude.{List, ℕ, ◌+◌, ◌*◌, ◌^◌, length}
 use Rattle.form.specs.Answer.{number, length_of, position}
 use Rattle.form.specs.declared.answer.Answer.{Answer}
-use Rattle.form.specs.declared.answer.Answer.TheVariants.{Done, No}
 use Rattle.rules.specs.Lift.{Part, base, copy, empty}
 use Rattle.places.specs.declared.replacements.Replacements.{Replacements}
 
@@ -14,10 +12,6 @@ packed k n = k * 2 ^ 32 + n
 -- document 01's number (0 for an answer) and its length, or for a refusal the position; one of these is 0
 abbrev pub code_of : Answer → ℕ
 code_of a = packed (number a) (length_of a + position a)
-
--- and back: the answer that a code is of
-unfoldable pub answer_of : ℕ → Answer
-answer_of n = pick (ltb n (2 ^ 32)) (Done n) (No (n / 2 ^ 32) (n % 2 ^ 32))
 
 -- lift: 1 and the length of the base, 2 and the length of the copy, or 0
 abbrev pub part_code : List ℕ → Part → ℕ

@@ -1,6 +1,6 @@
 // An answer as one number.
 ghost use Rattle.std.specs.Prelude.{◌≡◌};
-ghost use Rattle.sogbayile.specs.Code.{packed, code_of, answer_of};
+ghost use Rattle.sogbayile.specs.Code.{packed, code_of};
 ghost use Rattle.sogbayile.specs.Internal.{ShortPart, made_code};
 
 use form::answer::Answer;
@@ -21,16 +21,6 @@ pub fn code_of(answer: Answer) -> u64
         Answer::Done(length) => length as u64,
         Answer::No(number, position) => refusal_code(number, position),
     }
-}
-
-// The answer that a code is of.
-pub fn answer_of(code: u64) -> Answer
-    ensures { result ≡ answer_of code }
-{
-    if code < 4294967296 {
-        return Answer::Done(code as usize);
-    }
-    Answer::No((code / 4294967296) as u32, (code % 4294967296) as u32)
 }
 
 // The row that holds what lift answers in the upper 32 bits, and its length.

@@ -29,8 +29,8 @@ enum_told c = search rules
 returns : tie.Need-returns invariant-loop decreases-loop
 returns c = head-none _ _ c.before.before.before.loop.invariant c.before.before.of_number.ensures c.enum_told.given.1
 
-begins-requires : tie.Need-begins-requires invariant-loop decreases-loop
-begins-requires c κs = search rules
+begins-with-requires : tie.Need-begins-with-requires invariant-loop decreases-loop
+begins-with-requires c κs = search rules
 
 enum-known-start : tie.Need-enum-known-start invariant-loop decreases-loop
 enum-known-start c = search rules
@@ -40,7 +40,7 @@ returns-2 c =
     let b5 = c.before.before.before.before.before in
     let b7 = b5.before.before in
     let b8 = b7.before in
-    head-here _ _ b8.loop.invariant b7.of_number.ensures _ b5.command.given.1 c.before.before.before.begins.ensures _ _ c.before.start.given.1
+    head-here _ _ b8.loop.invariant b7.of_number.ensures _ b5.command.given.1 c.before.before.before.begins-with.ensures _ _ c.before.start.given.1
 
 enum-told-2 : tie.Need-enum-told-2 invariant-loop decreases-loop
 enum-told-2 c = search rules
@@ -64,7 +64,7 @@ loop-again c =
     let b4 = c.before.before.before.before in
     let b6 = b4.before.before in
     let b7 = b6.before in
-    head-later _ _ b7.loop.invariant b6.of_number.ensures _ b4.command.given.1 c.before.before.begins.ensures c.enum-told2.given.1
+    head-later _ _ b7.loop.invariant b6.of_number.ensures _ b4.command.given.1 c.before.before.begins-with.ensures c.enum-told2.given.1
 
 pub read-head-spec : {M : Type 1} → statement M
 read-head-spec =
@@ -77,7 +77,7 @@ read-head-spec =
     enum-known-command
     enum_told
     returns
-    begins-requires
+    begins-with-requires
     enum-known-start
     returns-2
     enum-told-2

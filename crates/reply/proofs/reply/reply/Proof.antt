@@ -3,7 +3,7 @@ use mathlib.Core.Path.{sym}
 use lib.Seq.{length-take-le}
 use lib.ListN.{length}
 use Rattle.reply.specs.Reply.{line_outcome, reply_outcome}
-use Rattle.sogbayile.proofs.RunLaws.{said_same}
+use Rattle.calls.proofs.CallLaws.{said_same}
 use Rattle.reply.proofs.ReplyLaws.{too_short, row-there, no-there}
 use borrow.Author.Rules.{rules}
 use Rattle.reply.proofs.reply.reply.Statement.{statement}

@@ -1,0 +1,19 @@
+use mathlib.Core.Path.{◌≡◌, refl, ◌∙◌}
+use mathlib.Core.Bool.{Bool}
+use mathlib.Core.List.{List}
+use mathlib.Core.Logic.{⊎_elim}
+use Prim.Native.Nat.{ℕ, ◌+◌, ◌-◌, ◌≤◌}
+use native.Mathlib.Omega.{arith}
+use lib.ListN.{length, get_or, drop}
+use Rattle.form.specs.Lists.{list_of}
+use Rattle.reader.specs.Internal.Reads.{table_of, add_row, ListingFrom}
+use Rattle.reader.specs.declared.lists.Table.{Table}
+use Rattle.reader.proofs.TableLaws.{entry-rises, list-more, list-stop, list-end, row-stored, row-counted}
+use borrow.Author.Rules.{rules}
+use Rattle.reader.proofs.lists.mark_list.Given as goal
+
+abbrev pub invariant-loop-p : goal.invariant-loop-p
+invariant-loop-p l = ((u : Table) (b : List ℕ) (ok : Bool) → ListingFrom l.p (list_of l.kind (drop l.p l.row)) (table_of l.n l.words l.starts l.ends) u l.marks b ok → ListingFrom 0 (list_of l.kind l.row) (table_of 0 l.initial.words l.initial.starts l.initial.ends) u l.initial.marks b ok) × (l.n ≤ l.p) × (length l.marks ≡ length l.initial.marks)
+
+abbrev pub decreases-loop-p : goal.decreases-loop-p
+decreases-loop-p l = length l.row - l.p

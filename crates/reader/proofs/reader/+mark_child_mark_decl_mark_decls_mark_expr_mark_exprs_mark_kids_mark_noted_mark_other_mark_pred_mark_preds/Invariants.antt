@@ -1,0 +1,64 @@
+use mathlib.Core.Path.{◌≡◌, refl, sym, ◌∙◌}
+use mathlib.Core.List.{List}
+use Prim.Native.Nat.{◌+◌, ◌-◌, ◌*◌, ◌≤◌}
+use native.Mathlib.Nat.{le_refl, le_trans}
+use native.Mathlib.Omega.{arith}
+use borrow.Author.Rules.{rules}
+use lib.ListN.{length, drop, replicate}
+use Rattle.form.specs.declared.head.Step.{Step}
+use Rattle.tree.specs.Tag.{expr, pred}
+use Rattle.form.specs.Decode.{decode, decode_all, decls}
+use Rattle.reader.specs.Internal.Reads.{ToldAll, ToldDecls, words_after}
+use Rattle.form.proofs.HeadLaws.{few, asked_in}
+use Rattle.reader.proofs.ReaderLaws.{leaf-else, leaf-taken, too-deep, past_end, an-other, other_fits, other-left, a-form, kids-after, all-stop, all_more, all_none, rises, rises-all, both_go, both-stop}
+use Rattle.reader.proofs.DeclReads.{fits-noted, words-noted, other-noted, other-bad, decl-no-name, decl-no-flag, decl-bare, decl-typed, decls-more, decls-stop, decls-none, decl-rises, decls-rise, noted-stop, noted-bare, noted_go}
+use Prim.Native.Nat.{ℕ, ◌<◌}
+use Rattle.reader.proofs.reader.+mark_child_mark_decl_mark_decls_mark_expr_mark_exprs_mark_kids_mark_noted_mark_other_mark_pred_mark_preds.Given as goal
+
+abbrev pub decreases-mark_child : goal.decreases-mark_child
+decreases-mark_child l = 8 * (length l.row.now - l.at) + 1
+
+abbrev pub decreases-mark_decl : goal.decreases-mark_decl
+decreases-mark_decl l = 8 * (length l.row.now - l.at) + 2
+
+abbrev pub decreases-mark_decls : goal.decreases-mark_decls
+decreases-mark_decls l = 8 * (length l.row.now - l.at) + 3
+
+abbrev pub decreases-mark_expr : goal.decreases-mark_expr
+decreases-mark_expr l = 8 * (length l.row.now - l.at)
+
+abbrev pub decreases-mark_exprs : goal.decreases-mark_exprs
+decreases-mark_exprs l = 8 * (length l.row.now - l.at) + 2
+
+abbrev pub decreases-mark_kids : goal.decreases-mark_kids
+decreases-mark_kids l = 8 * (length l.row.now - l.at) + 3
+
+abbrev pub decreases-mark_noted : goal.decreases-mark_noted
+decreases-mark_noted l = 8 * (length l.row.now - l.at) + 4
+
+abbrev pub decreases-mark_other : goal.decreases-mark_other
+decreases-mark_other l = 8 * words_after l.head (length l.row.now) + 5
+
+abbrev pub decreases-mark_pred : goal.decreases-mark_pred
+decreases-mark_pred l = 8 * (length l.row.now - l.at)
+
+abbrev pub decreases-mark_preds : goal.decreases-mark_preds
+decreases-mark_preds l = 8 * (length l.row.now - l.at) + 2
+
+abbrev pub invariant-mark_decls-loop-left : goal.invariant-mark_decls-loop-left
+invariant-mark_decls-loop-left l = ((b : List ℕ) (r : Step) → ToldDecls l.p l.under (decls (λ s ws. decode l.depth s ws) l.left (drop l.p l.row)) l.marks b r → ToldDecls l.at l.under (decls (λ s ws. decode l.depth s ws) l.n (drop l.at l.row)) l.initial.marks b r) × (l.at ≤ l.p) × (length l.marks ≡ length l.initial.marks)
+
+abbrev pub decreases-mark_decls-loop-left : goal.decreases-mark_decls-loop-left
+decreases-mark_decls-loop-left l = l.left
+
+abbrev pub invariant-mark_exprs-loop-left : goal.invariant-mark_exprs-loop-left
+invariant-mark_exprs-loop-left l = ((b : List ℕ) (r : Step) → ToldAll l.p l.under (decode_all (λ s ws. decode l.depth s ws) (replicate l.left expr) (drop l.p l.row)) l.marks b r → ToldAll l.at l.under (decode_all (λ s ws. decode l.depth s ws) (replicate l.n expr) (drop l.at l.row)) l.initial.marks b r) × (l.at ≤ l.p) × (length l.marks ≡ length l.initial.marks)
+
+abbrev pub decreases-mark_exprs-loop-left : goal.decreases-mark_exprs-loop-left
+decreases-mark_exprs-loop-left l = l.left
+
+abbrev pub invariant-mark_preds-loop-left : goal.invariant-mark_preds-loop-left
+invariant-mark_preds-loop-left l = ((b : List ℕ) (r : Step) → ToldAll l.p l.under (decode_all (λ s ws. decode l.depth s ws) (replicate l.left pred) (drop l.p l.row)) l.marks b r → ToldAll l.at l.under (decode_all (λ s ws. decode l.depth s ws) (replicate l.n pred) (drop l.at l.row)) l.initial.marks b r) × (l.at ≤ l.p) × (length l.marks ≡ length l.initial.marks)
+
+abbrev pub decreases-mark_preds-loop-left : goal.decreases-mark_preds-loop-left
+decreases-mark_preds-loop-left l = l.left
