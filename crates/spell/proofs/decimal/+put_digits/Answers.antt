@@ -9,20 +9,20 @@ use Prim.Native.Nat.{ℕ}
 use Prim.Native.Nat.{◌<◌}
 use Rattle.spell.proofs.decimal.+put_digits.Goals as goal
 
-pub put_digits-returns-then-places-eq0 : goal.put_digits-returns-then-places-eq0
-put_digits-returns-then-places-eq0 t c = no-digits _ _ _ _ c.if-places-eq0.true
+pub returns-then-places-eq0 : goal.returns-then-places-eq0
+returns-then-places-eq0 t c = no-digits _ _ _ _ c.if-places-eq0.true
 
-pub put_digits-put_byte-requires : goal.put_digits-put_byte-requires
-put_digits-put_byte-requires t c = omega arith
+pub put_byte-requires : goal.put_byte-requires
+put_byte-requires t c = omega arith
 
-pub put_digits-returns-then-n-lt10 : goal.put_digits-returns-then-n-lt10
-put_digits-returns-then-n-lt10 t c = last-digit _ _ _ _ _ _ c.if-places-eq0.false c.if-n-lt10.true c.put_byte.ensures
+pub returns-then-n-lt10 : goal.returns-then-n-lt10
+returns-then-n-lt10 t c = last-digit _ _ _ _ _ _ c.if-places-eq0.false c.if-n-lt10.true c.put_byte.ensures
 
-pub put_digits-put_digits-p-requires : goal.put_digits-put_digits-p-requires
-put_digits-put_digits-p-requires t c = omega arith
+pub put_digits-p-requires : goal.put_digits-p-requires
+put_digits-p-requires t c = omega arith
 
-pub put_digits-put_byte-requires-2 : goal.put_digits-put_byte-requires-2
-put_digits-put_byte-requires-2 t c = let e = wrote-end _ _ _ _ _ c.put_digits-p.ensures in let h = digits-few (c.args.places - 1) (c.args.n / 10) in omega arith
+pub put_byte-requires-2 : goal.put_byte-requires-2
+put_byte-requires-2 t c = let e = wrote-end _ _ _ _ _ c.put_digits-p.ensures in let h = digits-few (c.args.places - 1) (c.args.n / 10) in omega arith
 
-pub put_digits-returns : goal.put_digits-returns
-put_digits-returns t c = more-digits _ _ _ _ _ _ _ _ c.if-places-eq0.false c.if-n-lt10.false c.put_digits-p.ensures c.put_byte-2.ensures
+pub returns : goal.returns
+returns t c = more-digits _ _ _ _ _ _ _ _ c.if-places-eq0.false c.if-n-lt10.false c.put_digits-p.ensures c.put_byte-2.ensures

@@ -1,0 +1,19 @@
+use Rattle.line.specs.Scan.{on_digit}
+use borrow.Author.Rules.{rules}
+use Rattle.line.proofs.turn.after_digit.Goals as goal
+
+pub returns-in-Opened : goal.returns-in-Opened
+unfolding on_digit
+returns-in-Opened c = rw c.in-Opened.is
+
+pub returns-in-Spaced : goal.returns-in-Spaced
+unfolding on_digit
+returns-in-Spaced c = rw c.in-Spaced.is
+
+pub returns-in-Closed : goal.returns-in-Closed
+unfolding on_digit
+returns-in-Closed c = rw c.in-Closed.is
+
+pub returns-in-Digits : goal.returns-in-Digits
+unfolding on_digit
+returns-in-Digits c = rw c.in-Digits.is c.longer.ensures

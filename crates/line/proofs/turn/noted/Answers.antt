@@ -1,0 +1,19 @@
+use Rattle.line.specs.Scan.{note}
+use borrow.Author.Rules.{rules}
+use Rattle.line.proofs.turn.noted.Goals as goal
+
+pub returns-in-Opened : goal.returns-in-Opened
+unfolding note
+returns-in-Opened c = rw c.in-Opened.is c.place_mark.ensures
+
+pub returns-in-Spaced : goal.returns-in-Spaced
+unfolding note
+returns-in-Spaced c = rw c.in-Spaced.is
+
+pub returns-in-Closed : goal.returns-in-Closed
+unfolding note
+returns-in-Closed c = rw c.in-Closed.is
+
+pub returns-in-Digits : goal.returns-in-Digits
+unfolding note
+returns-in-Digits c = rw c.in-Digits.is c.word_mark.ensures

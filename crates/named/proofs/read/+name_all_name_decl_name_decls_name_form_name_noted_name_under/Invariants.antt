@@ -1,0 +1,52 @@
+use mathlib.Core.Path.{◌≡◌, refl, sym, ◌∙◌}
+use mathlib.Core.List.{List}
+use Prim.Native.Nat.{◌+◌, ◌-◌, ◌*◌, ◌≤◌}
+use native.Mathlib.Nat.{le_refl}
+use native.Mathlib.Omega.{arith}
+use borrow.Author.Rules.{rules}
+use lib.ListN.{length, get_or, drop, replicate, length-set}
+use lib.Seq.{length-take-le}
+use Rattle.tree.specs.Tag.{expr, pred}
+use Rattle.form.specs.Decode.{decode_all, decls}
+use Rattle.form.specs.declared.head.Step.{Step}
+use Rattle.rules.specs.Named.{opened}
+use Rattle.named.specs.Internal.Scope.{scope_of, Held}
+use Rattle.named.specs.Internal.Reads.{read_names, sort_of, WroteAll, WroteDecls}
+use Rattle.form.proofs.HeadLaws.{asked_in}
+use Rattle.named.proofs.SlotLaws.{sized-at}
+use Rattle.named.proofs.WroteLaws.{rises, rises-all, all_more, all-stop, all_none, both_go, both-stop}
+use Rattle.named.proofs.NodeLaws.{too-deep, past_end, a-node, a-noted, no_node, kids-after, flags-after}
+use Rattle.named.proofs.DeclLaws.{decl-no-name, decl-no-flag, decl-bare, decl-typed, decl-rises, decls-none, decls-stop, decls-more, decls-rise, noted-stop, noted-bare, noted_go}
+use Rattle.named.proofs.ReadyLaws.{ready-next, kept-bad, kept_same, kept-end, end_kept, kept_then, leaf-at, open-long, open-holds, open-names, close-kept, name-next}
+use Prim.Native.Nat.{ℕ, ◌<◌}
+use Rattle.named.proofs.read.+name_all_name_decl_name_decls_name_form_name_noted_name_under.Given as goal
+
+abbrev pub decreases-name_all : goal.decreases-name_all
+decreases-name_all l = 4 * l.depth + 1
+
+abbrev pub decreases-name_decl : goal.decreases-name_decl
+decreases-name_decl l = 4 * l.depth + 1
+
+abbrev pub decreases-name_decls : goal.decreases-name_decls
+decreases-name_decls l = 4 * l.depth + 2
+
+abbrev pub decreases-name_form : goal.decreases-name_form
+decreases-name_form l = 4 * l.depth
+
+abbrev pub decreases-name_noted : goal.decreases-name_noted
+decreases-name_noted l = 4 * l.depth + 3
+
+abbrev pub decreases-name_under : goal.decreases-name_under
+decreases-name_under l = 4 * l.depth + 2
+
+abbrev pub invariant-name_all-loop-left : goal.invariant-name_all-loop-left
+invariant-name_all-loop-left l = ((b : List ℕ) (r : Step) → WroteAll l.p (scope_of l.initial.scope l.under) (decode_all (λ s ws. read_names l.depth s ws) (replicate l.left (sort_of l.expression)) (drop l.p l.row)) l.made b r → WroteAll l.at (scope_of l.initial.scope l.under) (decode_all (λ s ws. read_names l.depth s ws) (replicate l.n (sort_of l.expression)) (drop l.at l.row)) l.initial.made b r) × (l.at ≤ l.p) × (length l.made ≡ length l.initial.made) × (length l.scope ≡ length l.initial.scope) × Held l.scope l.under × (scope_of l.scope l.under ≡ scope_of l.initial.scope l.under)
+
+abbrev pub decreases-name_all-loop-left : goal.decreases-name_all-loop-left
+decreases-name_all-loop-left l = l.left
+
+abbrev pub invariant-name_decls-loop-i : goal.invariant-name_decls-loop-i
+invariant-name_decls-loop-i l = ((b c : List ℕ) (r : Step) → length c ≡ length l.initial.names → ((j : ℕ) → j < l.i → get_or c j 0 ≡ get_or l.names j 0) → WroteDecls l.p (scope_of l.initial.scope l.under) (decls (λ s ws. read_names l.depth s ws) (l.n - l.i) (drop l.p l.row)) l.made b (drop l.i c) r → WroteDecls l.at (scope_of l.initial.scope l.under) (decls (λ s ws. read_names l.depth s ws) l.n (drop l.at l.row)) l.initial.made b c r) × (l.at ≤ l.p) × (length l.made ≡ length l.initial.made) × (length l.scope ≡ length l.initial.scope) × Held l.scope l.under × (scope_of l.scope l.under ≡ scope_of l.initial.scope l.under) × (l.i ≤ l.n) × (length l.names ≡ length l.initial.names)
+
+abbrev pub decreases-name_decls-loop-i : goal.decreases-name_decls-loop-i
+decreases-name_decls-loop-i l = l.n - l.i

@@ -1,0 +1,7 @@
+use Rattle.places.specs.Internal.Positions.{part_words}
+use borrow.Author.Rules.{rules}
+use Rattle.places.proofs.positions.part_at.Goals as goal
+
+pub returns : goal.returns
+unfolding part_words
+returns c = rw (c.expr_end.ensures, c.expr_end-2.ensures)

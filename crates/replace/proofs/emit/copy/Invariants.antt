@@ -1,0 +1,14 @@
+use mathlib.Core.Path.{◌≡◌, refl, sym, ◌∙◌}
+use native.Mathlib.Nat.{add-zero}
+use native.Mathlib.Omega.{arith}
+use Prim.Native.Nat.{◌+◌, ◌-◌}
+use lib.ListN.{length, drop, length-set}
+use Rattle.shift.specs.Internal.Items.{store}
+use Rattle.replace.proofs.MarkLaws.{copy_more, copy-none}
+use Rattle.replace.proofs.emit.copy.Given as goal
+
+abbrev pub invariant-loop-i : goal.invariant-loop-i
+invariant-loop-i l = (store l.initial.out l.at l.words ≡ store l.out (l.at + l.i) (drop l.i l.words)) × (length l.out ≡ length l.initial.out)
+
+abbrev pub decreases-loop-i : goal.decreases-loop-i
+decreases-loop-i l = length l.words - l.i

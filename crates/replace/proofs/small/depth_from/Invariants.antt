@@ -1,0 +1,13 @@
+use borrow.Author.Rules.{rules}
+use mathlib.Core.Path.{sym, ◌∙◌}
+use Prim.Native.Nat.{◌-◌}
+use native.Mathlib.Omega.{arith}
+use Rattle.replace.specs.Internal.Pieces.{deep_part}
+use Rattle.replace.proofs.SmallLaws.{Tried, tried-none, tried_here, tried-more, tried-past, next-is}
+use Rattle.replace.proofs.small.depth_from.Given as goal
+
+abbrev pub invariant-loop-d : goal.invariant-loop-d
+invariant-loop-d l = Tried (λ l.d. deep_part l.d l.row) l.from l.d
+
+abbrev pub decreases-loop-d : goal.decreases-loop-d
+decreases-loop-d l = 65 - l.d

@@ -1,0 +1,43 @@
+use mathlib.Core.Path.{◌≡◌, refl}
+use native.Mathlib.Omega.{arith}
+use borrow.Author.Rules.{rules}
+use mathlib.Core.Bool.{◌&&◌}
+use Prim.Native.Nat.{◌-◌, ◌<◌}
+use borrow.Author.Tests.{le-leb, lt-leb, lt-ltb, le-ltb}
+use lib.ListN.{length, drop}
+use Rattle.shift.specs.Internal.Items.{apart}
+use Rattle.replace.proofs.SpliceLaws.{pairs-more, pairs_end}
+use Rattle.replace.proofs.splice.are_apart.Goals as goal
+
+pub returns-then-row-from : goal.returns-then-row-from
+returns-then-row-from c = rw (le-ltb c.args.from (length c.args.row.now) c.if-row-from.true) refl
+
+pub returns-then-marks-row : goal.returns-then-marks-row
+returns-then-marks-row c = rw (lt-ltb c.args.from (length c.args.row.now) c.if-row-from.false, lt-leb (length c.args.row.now) (length c.args.marks.now) c.if-marks-row.true) refl
+
+pub loop-i-init : goal.loop-i-init
+loop-i-init c = (refl, c.if-row-from.false)
+
+pub overflow_add-i : goal.overflow_add-i
+overflow_add-i c = search rules
+
+pub bounds-marks-i : goal.bounds-marks-i
+bounds-marks-i c = omega arith
+
+pub overflow_add-i-in-loop-i : goal.overflow_add-i-in-loop-i
+overflow_add-i-in-loop-i c = search rules
+
+pub bounds-marks-i-in-loop-i : goal.bounds-marks-i-in-loop-i
+bounds-marks-i-in-loop-i c = omega arith
+
+pub overflow_add-i-in-loop-i-2 : goal.overflow_add-i-in-loop-i-2
+overflow_add-i-in-loop-i-2 c = search rules
+
+pub loop-i-smaller : goal.loop-i-smaller
+loop-i-smaller c = omega arith
+
+pub loop-i-preserved : goal.loop-i-preserved
+loop-i-preserved c = (rw c.still_apart-apart.ensures (pairs-more _ c.args.row.now c.args.marks.now _ _ _ c.loop-i.invariant.0 c.loop-i-test.true (omega arith)), c.loop-i-test.true)
+
+pub returns : goal.returns
+returns c = rw (lt-ltb c.args.from (length c.args.row.now) c.if-row-from.false, le-leb (length c.args.row.now) (length c.args.marks.now) c.if-marks-row.false) (pairs_end _ c.args.row.now c.args.marks.now _ _ _ c.loop-i.invariant.0 c.loop-i.invariant.1 c.loop-i-test.false (omega arith))

@@ -1,0 +1,16 @@
+use mathlib.Core.Path.{◌≡◌, refl}
+use native.Mathlib.Omega.{arith}
+use borrow.Author.Rules.{rules}
+use mathlib.Core.Bool.{◌&&◌}
+use Prim.Native.Nat.{◌-◌, ◌<◌}
+use borrow.Author.Tests.{le-leb, lt-leb, lt-ltb, le-ltb}
+use lib.ListN.{length, drop}
+use Rattle.shift.specs.Internal.Items.{apart}
+use Rattle.replace.proofs.SpliceLaws.{pairs-more, pairs_end}
+use Rattle.replace.proofs.splice.are_apart.Given as goal
+
+abbrev pub invariant-loop-i : goal.invariant-loop-i
+invariant-loop-i l = (apart l.lo (drop «l.from» l.row) (drop «l.from» l.marks) ≡ (l.apart && apart l.lo (drop l.i l.row) (drop l.i l.marks))) × (l.i < length l.row)
+
+abbrev pub decreases-loop-i : goal.decreases-loop-i
+decreases-loop-i l = length l.row - l.i

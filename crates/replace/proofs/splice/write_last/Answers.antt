@@ -1,0 +1,22 @@
+use mathlib.Core.Path.{refl}
+use native.Mathlib.Omega.{arith}
+use borrow.Author.Rules.{rules}
+use borrow.Author.Tests.{lt-ltb, le-ltb}
+use lib.ListN.{length, length-set}
+use borrow.Author.Rules.{rules}
+use Rattle.replace.proofs.splice.write_last.Goals as goal
+
+pub bounds-out-p : goal.bounds-out-p
+bounds-out-p c = omega arith
+
+pub overflow_add-result : goal.overflow_add-result
+overflow_add-result c = search rules
+
+pub shape_of-out-then-i-row : goal.shape_of-out-then-i-row
+shape_of-out-then-i-row c = length-set c.args.out.now c.args.p c.args.word
+
+pub returns-then-i-row : goal.returns-then-i-row
+returns-then-i-row c = record { value = omega arith; out_after = rw (lt-ltb c.args.i (length c.args.row.now) c.if-i-row.true) refl }
+
+pub returns : goal.returns
+returns c = record { value = omega arith; out_after = rw (le-ltb c.args.i (length c.args.row.now) c.if-i-row.false) refl }

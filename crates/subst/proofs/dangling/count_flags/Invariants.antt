@@ -1,0 +1,16 @@
+use mathlib.Core.Path.{◌≡◌, sym, ◌∙◌}
+use native.Mathlib.Omega.{arith}
+use Prim.Native.Nat.{◌+◌, ◌-◌, ◌≤◌}
+use lib.ListN.{length, drop}
+use borrow.Author.Rules.{rules}
+use native.Mathlib.Nat.{zero-add, add-zero}
+use lib.ListN.{get_or}
+use Rattle.subst.specs.Internal.Flags.{selected}
+use Rattle.subst.proofs.DanglingLaws.{count_next, selected-none, flag_one}
+use Rattle.subst.proofs.dangling.count_flags.Given as goal
+
+abbrev pub invariant-loop-i : goal.invariant-loop-i
+invariant-loop-i l = (length (selected 0 l.flags) ≡ l.n + length (selected l.i (drop l.i l.flags))) × (l.n ≤ l.i)
+
+abbrev pub decreases-loop-i : goal.decreases-loop-i
+decreases-loop-i l = length l.flags - l.i

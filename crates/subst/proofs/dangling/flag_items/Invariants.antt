@@ -1,0 +1,16 @@
+use mathlib.Core.Path.{◌≡◌, refl, sym, ◌∙◌}
+use native.Mathlib.Omega.{arith}
+use Prim.Native.Nat.{◌-◌}
+use lib.ListN.{length, drop}
+use borrow.Author.Rules.{rules}
+use Rattle.shift.specs.Internal.Items.{items, rewritten}
+use Rattle.subst.specs.Internal.Flags.{index_words, flag_all}
+use Rattle.shift.proofs.ItemLaws.{size_in, size-pos}
+use Rattle.subst.proofs.DanglingLaws.{flags-more, flags-none}
+use Rattle.subst.proofs.dangling.flag_items.Given as goal
+
+abbrev pub invariant-loop-i : goal.invariant-loop-i
+invariant-loop-i l = (flag_all l.initial.flags (rewritten index_words (items l.row l.marks)) ≡ flag_all l.flags (rewritten index_words (items (drop l.i l.row) (drop l.i l.marks)))) × (length l.flags ≡ length l.initial.flags)
+
+abbrev pub decreases-loop-i : goal.decreases-loop-i
+decreases-loop-i l = length l.row - l.i

@@ -1,0 +1,15 @@
+use mathlib.Core.Path.{◌≡◌, refl, sym, ◌∙◌}
+use native.Mathlib.Omega.{arith}
+use Prim.Native.Nat.{◌-◌, ◌≤◌}
+use lib.ListN.{length, drop}
+use lib.ListN.{get_or}
+use Rattle.subst.specs.Internal.Flags.{selected}
+use Rattle.shift.specs.Internal.Items.{store}
+use Rattle.subst.proofs.DanglingLaws.{write-next, selected-none, flag_one}
+use Rattle.subst.proofs.dangling.write_flags.Given as goal
+
+abbrev pub invariant-loop-i : goal.invariant-loop-i
+invariant-loop-i l = (store l.initial.out 0 (selected 0 l.flags) ≡ store l.out l.n (selected l.i (drop l.i l.flags))) × (length l.out ≡ length l.initial.out) × (l.n ≤ l.i)
+
+abbrev pub decreases-loop-i : goal.decreases-loop-i
+decreases-loop-i l = length l.flags - l.i
