@@ -77,6 +77,9 @@ later i [] j h = refl
 later i (zero ∷ fl) j h = later (suc i) fl j (omega arith)
 later i (suc w ∷ fl) j h = rw (lt-ltb j i h)
 
+insert-past : (n i : ℕ) (is : List ℕ) → i < n → i ∷ insert n is ≡ insert n (i ∷ is)
+insert-past n i is h = rw (le-ltb n i (omega arith), ne_eqb n i (λ q. omega arith)) refl
+
 pub flag-insert : (i : ℕ) (fl : List ℕ) (j : ℕ) → j < length fl → selected i (set fl j 1) ≡ insert (i + j) (selected i fl)
 unfolding selected
 flag-insert i [] j h = absurd (omega arith)
@@ -87,7 +90,8 @@ flag-insert i (zero ∷ fl) (suc j) h =
     rw e (flag-insert (suc i) fl j (omega arith))
 flag-insert i (suc w ∷ fl) (suc j) h =
     let e : i + suc j ≡ suc i + j = omega arith in
-    rw (e, le-ltb (suc i + j) i (omega arith), ne_eqb (suc i + j) i (λ q. omega arith)) (ap (λ z. i ∷ z) (flag-insert (suc i) fl j (omega arith)))
+    let rest : selected (suc i) (set fl j 1) ≡ insert (i + suc j) (selected (suc i) fl) = rw e (flag-insert (suc i) fl j (omega arith)) in
+    ap (λ z. i ∷ z) rest ∙ insert-past (i + suc j) i (selected (suc i) fl) (omega arith)
 
 abbrev pub Below : ℕ → List ℕ → Type 0
 Below n [] = Unit {0}

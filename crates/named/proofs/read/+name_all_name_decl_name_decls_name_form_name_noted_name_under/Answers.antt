@@ -72,7 +72,7 @@ pub name_decl-returns : goal.name_decl-returns
 name_decl-returns t c = record { wrote_decl = decl-typed c.args.depth c.args.row.now (scope_of c.args.scope.now c.args.under) c.args.at _ _ c.args.made.now _ (sym c.asked.ensures ∙ c.in-Is.is) (sym c.asked-2.ensures ∙ c.in-Is-asked.is) c.copy_words.ensures c.if-flag-eq0.false _ _ c.name_form.ensures.wrote; kept = c.name_form.ensures.kept }
 
 pub name_decls-loop-i-init : goal.name_decls-loop-i-init
-name_decls-loop-i-init t c = (λ b c r l e t. let z : c.args.n - 0 ≡ c.args.n = omega arith in rw z at t, le_refl _, refl, refl, c.requires.ready.held, refl, omega arith, refl)
+name_decls-loop-i-init t c = (λ b c₁ r l e t. let z : c.args.n - 0 ≡ c.args.n = omega arith in rw z at t, le_refl _, refl, refl, c.requires.ready.held, refl, omega arith, refl)
 
 pub name_decls-name_decl-requires : goal.name_decls-name_decl-requires
 name_decls-name_decl-requires t c = (omega arith, ready-next _ _ _ _ _ _ _ _ _ c.requires.ready c.loop-i.invariant.2 c.loop-i.invariant.3 (omega arith) c.loop-i.invariant.4)
@@ -87,7 +87,7 @@ pub name_decls-bounds-row-p : goal.name_decls-bounds-row-p
 name_decls-bounds-row-p t c = let f = rw c.loop-i.invariant.5 at c.name_decl.ensures.wrote_decl in let j = decl-rises c.args.depth c.args.row.now (scope_of c.args.scope.now c.args.under) _ _ _ _ _ f c.in-End.is in omega arith
 
 pub name_decls-loop-i-preserved : goal.name_decls-loop-i-preserved
-name_decls-loop-i-preserved t c = let f = rw c.loop-i.invariant.5 at c.name_decl.ensures.wrote_decl in let k = kept-end _ _ _ _ _ c.name_decl.ensures.kept c.in-End.is in let j = decl-rises c.args.depth c.args.row.now (scope_of c.args.scope.now c.args.under) _ _ _ _ _ f c.in-End.is in (λ b c r l e u. let z : c.args.n - (c.loop-i.i + 1) ≡ c.args.n - c.loop-i.i - 1 = omega arith in let x = name-next c c.loop-i.names c.loop-i.i _ (omega arith) e in c.loop-i.invariant.0 b c r l x.0 (decls-more c.args.depth c.args.row.now (scope_of c.args.scope.now c.args.under) _ _ _ _ _ _ _ (omega arith) f c.in-End.is b c r (omega arith) x.1 (rw z at u)), omega arith, c.name_decl.auto.made ∙ c.loop-i.invariant.2, c.name_decl.auto.scope ∙ c.loop-i.invariant.3, k.0, k.1 ∙ c.loop-i.invariant.5, omega arith, length-set c.loop-i.names _ _ ∙ c.loop-i.invariant.7)
+name_decls-loop-i-preserved t c = let f = rw c.loop-i.invariant.5 at c.name_decl.ensures.wrote_decl in let k = kept-end _ _ _ _ _ c.name_decl.ensures.kept c.in-End.is in let j = decl-rises c.args.depth c.args.row.now (scope_of c.args.scope.now c.args.under) _ _ _ _ _ f c.in-End.is in (λ b c₁ r l e u. let z : c.args.n - (c.loop-i.i + 1) ≡ c.args.n - c.loop-i.i - 1 = omega arith in let x = name-next c₁ c.loop-i.names c.loop-i.i _ (omega arith) e in c.loop-i.invariant.0 b c₁ r l x.0 (decls-more c.args.depth c.args.row.now (scope_of c.args.scope.now c.args.under) _ _ _ _ _ _ _ (omega arith) f c.in-End.is b c₁ r (omega arith) x.1 (rw z at u)), omega arith, c.name_decl.auto.made ∙ c.loop-i.invariant.2, c.name_decl.auto.scope ∙ c.loop-i.invariant.3, k.0, k.1 ∙ c.loop-i.invariant.5, omega arith, length-set c.loop-i.names _ _ ∙ c.loop-i.invariant.7)
 
 pub name_decls-returns : goal.name_decls-returns
 name_decls-returns t c = record { wrote_decls = c.loop-i.invariant.0 _ _ _ c.loop-i.invariant.7 (λ j h. refl) (decls-none c.args.depth c.args.row.now (scope_of c.args.scope.now c.args.under) _ _ _ _ (omega arith)); kept = end_kept _ _ _ _ c.loop-i.invariant.4 c.loop-i.invariant.5 }
@@ -153,25 +153,19 @@ pub name_noted-returns-then-p-at : goal.name_noted-returns-then-p-at
 name_noted-returns-then-p-at t c = record { wrote_noted = noted-bare c.args.depth c.args.row.now (scope_of c.args.scope.now c.args.under) c.args.at _ _ c.args.made.now _ _ _ _ c.name_decls.ensures.wrote_decls _ c.in-End.is c.if-p-at.true; kept = kept-bad _ _ _ }
 
 pub name_noted-slice_bounds-names-end : goal.name_noted-slice_bounds-names-end
-name_noted-slice_bounds-names-end t c = let x : length c.name_decls.new.1.1.1.0 ≡ 32 = c.name_decls.auto.names in omega arith
+name_noted-slice_bounds-names-end t c = let x : length c.name_decls.new.names ≡ 32 = c.name_decls.auto.names in omega arith
 
 pub name_noted-slice_bounds-name_under-end : goal.name_noted-slice_bounds-name_under-end
-name_noted-slice_bounds-name_under-end t c = let x : length c.name_decls.new.1.1.1.0 ≡ 32 = c.name_decls.auto.names in sym (length-take-le _ c.name_decls.new.1.1.1.0 (omega arith))
+name_noted-slice_bounds-name_under-end t c = let x : length c.name_decls.new.names ≡ 32 = c.name_decls.auto.names in sym (length-take-le _ c.name_decls.new.names (omega arith))
 
 pub name_noted-name_under-requires : goal.name_noted-name_under-requires
-name_noted-name_under-requires t c = let x : length c.name_decls.new.1.1.1.0 ≡ 32 = c.name_decls.auto.names in let k = kept-end _ _ _ _ _ c.name_decls.ensures.kept c.in-End.is in let r = decls-rise c.args.depth c.args.row.now (scope_of c.args.scope.now c.args.under) c.args.at _ _ _ _ _ _ c.requires.binds_bound.1 c.name_decls.ensures.wrote_decls c.in-End.is in let w = length-take-le c.args.binds c.name_decls.new.1.1.1.0 (omega arith) in (omega arith, (ready-next _ _ _ _ _ _ _ _ _ c.requires.ready c.name_decls.auto.made c.name_decls.auto.scope (omega arith) k.0, (omega arith, r.1, omega arith)))
+name_noted-name_under-requires t c = let x : length c.name_decls.new.names ≡ 32 = c.name_decls.auto.names in let k = kept-end _ _ _ _ _ c.name_decls.ensures.kept c.in-End.is in let r = decls-rise c.args.depth c.args.row.now (scope_of c.args.scope.now c.args.under) c.args.at _ _ _ _ _ _ c.requires.binds_bound.1 c.name_decls.ensures.wrote_decls c.in-End.is in let w = length-take-le c.args.binds c.name_decls.new.names (omega arith) in (omega arith, (ready-next _ _ _ _ _ _ _ _ _ c.requires.ready c.name_decls.auto.made c.name_decls.auto.scope (omega arith) k.0, (omega arith, r.1, omega arith)))
 
 pub name_noted-returns : goal.name_noted-returns
 name_noted-returns t c = let k = kept-end _ _ _ _ _ c.name_decls.ensures.kept c.in-End.is in record { wrote_noted = noted_go c.args.depth c.args.row.now (scope_of c.args.scope.now c.args.under) c.args.at _ _ c.args.made.now _ _ _ _ c.name_decls.ensures.wrote_decls _ _ c.in-End.is c.if-p-at.false (rw k.1 at c.name_under.ensures.wrote_all); kept = kept_then _ _ _ _ _ k.1 c.name_under.ensures.kept }
 
-pub name_under-overflow_cast-binds : goal.name_under-overflow_cast-binds
-name_under-overflow_cast-binds t c = search rules
-
 pub name_under-open_names-requires : goal.name_under-open_names-requires
 name_under-open_names-requires t c = ((sized-at (c.args.under + length c.args.declared.now) (length c.args.row.now) (length c.args.scope.now) (length c.args.scope.now) refl (omega arith) c.requires.ready.sized), c.requires.ready.held)
-
-pub name_under-overflow_add-under : goal.name_under-overflow_add-under
-name_under-overflow_add-under t c = search rules
 
 pub name_under-name_all-requires : goal.name_under-name_all-requires
 name_under-name_all-requires t c = (omega arith, ready-next _ _ _ _ _ _ _ _ _ c.requires.ready refl (open-long c.args.declared.now c.args.under c.args.scope.now _ (sized-at (c.args.under + length c.args.declared.now) (length c.args.row.now) (length c.args.scope.now) (length c.args.scope.now) refl (omega arith) c.requires.ready.sized) c.requires.ready.held c.open_names.ensures) (omega arith) (open-holds c.args.declared.now c.args.under c.args.scope.now _ (sized-at (c.args.under + length c.args.declared.now) (length c.args.row.now) (length c.args.scope.now) (length c.args.scope.now) refl (omega arith) c.requires.ready.sized) c.requires.ready.held c.open_names.ensures))
@@ -181,9 +175,6 @@ name_under-shape_of-scope-in_default t c = c.name_all.auto.scope ∙ open-long c
 
 pub name_under-returns-in_default : goal.name_under-returns-in_default
 name_under-returns-in_default t c = record { wrote_all = both-stop c.args.depth c.args.row.now (opened c.args.declared.now (scope_of c.args.scope.now c.args.under)) (replicate c.args.preds pred) (replicate c.args.exprs expr) _ _ _ _ _ (rw (open-names c.args.declared.now c.args.under c.args.scope.now _ (sized-at (c.args.under + length c.args.declared.now) (length c.args.row.now) (length c.args.scope.now) (length c.args.scope.now) refl (omega arith) c.requires.ready.sized) c.requires.ready.held c.open_names.ensures) at c.name_all.ensures.wrote_all) c.in_default.is; kept = kept-bad _ _ _ }
-
-pub name_under-overflow_add-under-2 : goal.name_under-overflow_add-under-2
-name_under-overflow_add-under-2 t c = search rules
 
 pub name_under-name_all-requires-2 : goal.name_under-name_all-requires-2
 name_under-name_all-requires-2 t c = let k = kept-end _ _ _ _ _ c.name_all.ensures.kept c.in-End.is in let o = open-names c.args.declared.now c.args.under c.args.scope.now _ (sized-at (c.args.under + length c.args.declared.now) (length c.args.row.now) (length c.args.scope.now) (length c.args.scope.now) refl (omega arith) c.requires.ready.sized) c.requires.ready.held c.open_names.ensures in let f = rw o at c.name_all.ensures.wrote_all in let r = rises-all _ _ _ _ _ _ _ f c.in-End.is in (omega arith, ready-next _ _ _ _ _ _ _ _ _ c.requires.ready c.name_all.auto.made (c.name_all.auto.scope ∙ open-long c.args.declared.now c.args.under c.args.scope.now _ (sized-at (c.args.under + length c.args.declared.now) (length c.args.row.now) (length c.args.scope.now) (length c.args.scope.now) refl (omega arith) c.requires.ready.sized) c.requires.ready.held c.open_names.ensures) (omega arith) k.0)

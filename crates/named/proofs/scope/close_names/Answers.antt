@@ -15,29 +15,11 @@ loop-left-init c = (refl, refl, le_refl _, c.requires.1)
 pub overflow_add-at : goal.overflow_add-at
 overflow_add-at c = record { fits = omega arith }
 
-pub overflow_cast-at : goal.overflow_cast-at
-overflow_cast-at c = search rules
-
-pub overflow_mul-at : goal.overflow_mul-at
-overflow_mul-at c = search rules
-
-pub overflow_add-cell : goal.overflow_add-cell
-overflow_add-cell c = search rules
-
-pub offset_bounds-scope-at : goal.offset_bounds-scope-at
-offset_bounds-scope-at c = search rules
-
 pub bounds-scope-at : goal.bounds-scope-at
 bounds-scope-at c = omega arith
 
 pub overflow_cast-cell : goal.overflow_cast-cell
 overflow_cast-cell c = let l = pop-cell _ _ _ (sized-at _ _ _ _ c.loop-left.invariant.1 (le_refl _) c.requires.0) (omega arith) (held-last _ _ _ c.loop-left-test.true c.loop-left.invariant.3) in search rules
-
-pub overflow_add-scope : goal.overflow_add-scope
-overflow_add-scope c = search rules
-
-pub offset_bounds-scope-at-in-loop-left : goal.offset_bounds-scope-at-in-loop-left
-offset_bounds-scope-at-in-loop-left c = search rules
 
 pub bounds-scope-at-in-loop-left : goal.bounds-scope-at-in-loop-left
 bounds-scope-at-in-loop-left c = omega arith

@@ -6,9 +6,6 @@ use Rattle.named.proofs.scope.first_of.Goals as goal
 pub slot_of-slot-requires : goal.slot_of-slot-requires
 slot_of-slot-requires c = omega arith
 
-pub offset_bounds-scope-slot : goal.offset_bounds-scope-slot
-offset_bounds-scope-slot c = search rules
-
 pub bounds-scope-slot : goal.bounds-scope-slot
 bounds-scope-slot c = omega arith
 
