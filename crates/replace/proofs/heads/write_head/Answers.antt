@@ -23,10 +23,10 @@ overflow_cast-head c = let f = kept-short c.args.words.now (drop 2 c.args.row.no
     omega arith
 
 pub bounds-head-1 : goal.bounds-head-1
-bounds-head-1 c = let l = length-set c.write_names-p.new.1.1.0 0 (get_or c.args.row.now 0 0) in
+bounds-head-1 c = let l = length-set c.write_names-p.new.head 0 (get_or c.args.row.now 0 0) in
     omega arith
 
 pub returns : goal.returns
 returns c = let ks = kept_words c.args.words.now (drop 2 c.args.row.now) in
-let f = kept-short c.args.words.now (drop 2 c.args.row.now) in
-record { upper_bound = omega arith; head_after = head-some _ _ ks c.args.head.now _ (omega arith) c.write_names-p.ensures.head_after c.write_names-p.ensures.value c.if-p-eq2.false ∙ head-kept _ _ _ c.if-words-gt32.false c.if-row-words.false c.if-head-words.false }
+    let f = kept-short c.args.words.now (drop 2 c.args.row.now) in
+    record { upper_bound = omega arith; head_after = head-some _ _ ks c.args.head.now _ (omega arith) c.write_names-p.ensures.head_after c.write_names-p.ensures.value c.if-p-eq2.false ∙ head-kept _ _ _ c.if-words-gt32.false c.if-row-words.false c.if-head-words.false }

@@ -9,7 +9,7 @@ pub returns-then-c-eq2 : goal.returns-then-c-eq2
 returns-then-c-eq2 c = record { upper_bound = omega arith; head_after = no-head c.args.tag _ _ _ c.args.head.now _ _ _ _ _ _ c.copy.ensures c.copy-2.ensures c.copy-3.ensures refl refl refl c.if-c-eq2.true }
 
 pub bounds-head-1 : goal.bounds-head-1
-bounds-head-1 c = let l = length-set c.copy-3.new.1.0 0 c.args.tag in omega arith
+bounds-head-1 c = let l = length-set c.copy-3.new.out 0 c.args.tag in omega arith
 
 pub shape_of-head : goal.shape_of-head
 shape_of-head c = simp length-set (c.copy-3.auto.out ∙ (c.copy-2.auto.out ∙ c.copy.auto.out))

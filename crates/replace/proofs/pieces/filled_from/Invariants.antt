@@ -8,7 +8,7 @@ use Rattle.replace.proofs.PieceLaws.{filled-few, filled_next, filled-end}
 use Rattle.replace.proofs.pieces.filled_from.Given as goal
 
 abbrev pub invariant-loop-i : goal.invariant-loop-i
-invariant-loop-i l = (filled_words (drop «l.from» l.words) ≡ l.n + filled_words (drop l.i l.words)) × (l.n ≤ l.i)
+invariant-loop-i l = (filled_words (drop l.from l.words) ≡ l.n + filled_words (drop l.i l.words)) × (l.n ≤ l.i)
 
 abbrev pub decreases-loop-i : goal.decreases-loop-i
 decreases-loop-i l = length l.words - l.i

@@ -33,6 +33,12 @@ offset_bounds-list_marks-s c = let h = part-fits (length c.args.list.now) c.requ
 pub slice_bounds-write_part-count-in-Part : goal.slice_bounds-write_part-count-in-Part
 slice_bounds-write_part-count-in-Part c = let h = part-fits (length c.args.list.now) c.requires.fits c.in-Part.is in let a = h.0 in let b = h.1 in omega arith
 
+pub slice_bounds-write_part-start-in-Part : goal.slice_bounds-write_part-start-in-Part
+slice_bounds-write_part-start-in-Part c = let h = part-fits (length c.args.list.now) c.requires.fits c.in-Part.is in let a = h.0 in let b = h.1 in omega arith
+
+pub slice_bounds-write_part-end-in-Part : goal.slice_bounds-write_part-end-in-Part
+slice_bounds-write_part-end-in-Part c = let h = part-fits (length c.args.list.now) c.requires.fits c.in-Part.is in let a = h.0 in let b = h.1 in omega arith
+
 pub write_part-requires : goal.write_part-requires
 unfolding part
 write_part-requires c = let h = part-fits (length c.args.list.now) c.requires.fits c.in-Part.is in let a = h.0 in let b = h.1 in let l = part_length _ _ c.args.list.now a b in let z = part-size c.args.it c.in-Part.is in omega arith

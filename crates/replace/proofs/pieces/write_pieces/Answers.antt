@@ -34,7 +34,7 @@ loop-i-smaller-in_default c = let s = size_in _ c.args.marks.now _ c.loop-i-test
 pub loop-i-preserved-in_default : goal.loop-i-preserved-in_default
 loop-i-preserved-in_default c = let plan = plan_for c.args.rule c.args.words.now c.args.starts.now c.args.ends.now in
     let z = rw (plain_step c.in_default.is) at (sizes_step plan _ (plain-same c.in_default.is plan) (plain_size c.in_default.is) c.args.row.now c.args.marks.now _ c.loop-i-test.true c.item_at-it.ensures) in (
-      c.loop-i.invariant.0 ∙ (store-next c.args.row.now c.args.marks.now _ c.loop-i-test.true c.item_at-it.ensures (planned plan c.args.list.now c.args.list-marks.now) _ _ _ (c.loop-i.p + 1) (rw (plain-words c.in_default.is plan c.args.list.now c.args.list-marks.now) at c.put_item.ensures) (ap (λ (n : ℕ). c.loop-i.p + n) (planned-size plan _ (plain-same c.in_default.is plan) (plain_size c.in_default.is) _ _ c.requires.ready.in_row)) ∙ rw (plain_step c.in_default.is)),
+      c.loop-i.invariant.0 ∙ (store-next c.args.row.now c.args.marks.now _ c.loop-i-test.true c.item_at-it.ensures (planned plan c.args.list.now c.args.list_marks.now) _ _ _ (c.loop-i.p + 1) (rw (plain-words c.in_default.is plan c.args.list.now c.args.list_marks.now) at c.put_item.ensures) (ap (λ (n : ℕ). c.loop-i.p + n) (planned-size plan _ (plain-same c.in_default.is plan) (plain_size c.in_default.is) _ _ c.requires.ready.in_row)) ∙ rw (plain_step c.in_default.is)),
       omega arith,
       c.put_item.auto.out ∙ c.loop-i.invariant.2,
       omega arith,
@@ -44,7 +44,7 @@ pub piece_of-piece-requires : goal.piece_of-piece-requires
 piece_of-piece-requires c = c.requires.ready.tabled
 
 pub write_piece-requires : goal.write_piece-requires
-write_piece-requires c = record { fits = rw c.piece_of-piece.ensures (piece-fits _ _ c.requires.ready.in_row _); list_in_bounds = (c.requires.ready.marked, let z = sizes_step (plan_for c.args.rule c.args.words.now c.args.starts.now c.args.ends.now) _ c.piece_of-piece.ensures refl c.args.row.now c.args.marks.now _ c.loop-i-test.true (sym c.in-Ident.is ∙ c.item_at-it.ensures) in omega arith); it_in_bounds =  }
+write_piece-requires c = record { fits = rw c.piece_of-piece.ensures (piece-fits _ _ c.requires.ready.in_row _); list_in_bounds = c.requires.ready.marked; it_in_bounds = let z = sizes_step (plan_for c.args.rule c.args.words.now c.args.starts.now c.args.ends.now) _ c.piece_of-piece.ensures refl c.args.row.now c.args.marks.now _ c.loop-i-test.true (sym c.in-Ident.is ∙ c.item_at-it.ensures) in omega arith }
 
 pub overflow_add-p-in-loop-i : goal.overflow_add-p-in-loop-i
 overflow_add-p-in-loop-i c = let z = rw ident-size at (sizes_step (plan_for c.args.rule c.args.words.now c.args.starts.now c.args.ends.now) _ c.piece_of-piece.ensures c.piece_size-p.ensures c.args.row.now c.args.marks.now _ c.loop-i-test.true (sym c.in-Ident.is ∙ c.item_at-it.ensures)) in
@@ -59,7 +59,7 @@ loop-i-smaller c = let s = size_in _ c.args.marks.now _ c.loop-i-test.true c.ite
 pub loop-i-preserved : goal.loop-i-preserved
 loop-i-preserved c = let plan = plan_for c.args.rule c.args.words.now c.args.starts.now c.args.ends.now in
     let z = rw ident-size at (sizes_step plan _ c.piece_of-piece.ensures c.piece_size-p.ensures c.args.row.now c.args.marks.now _ c.loop-i-test.true (sym c.in-Ident.is ∙ c.item_at-it.ensures)) in (
-      c.loop-i.invariant.0 ∙ (store-next c.args.row.now c.args.marks.now _ c.loop-i-test.true (sym c.in-Ident.is ∙ c.item_at-it.ensures) (planned plan c.args.list.now c.args.list-marks.now) _ _ _ (c.loop-i.p + c.piece_size-p.result) (rw c.piece_of-piece.ensures at c.write_piece.ensures) (ap (λ (n : ℕ). c.loop-i.p + n) (planned-size plan _ c.piece_of-piece.ensures c.piece_size-p.ensures _ _ c.requires.ready.in_row)) ∙ rw ident-size),
+      c.loop-i.invariant.0 ∙ (store-next c.args.row.now c.args.marks.now _ c.loop-i-test.true (sym c.in-Ident.is ∙ c.item_at-it.ensures) (planned plan c.args.list.now c.args.list_marks.now) _ _ _ (c.loop-i.p + c.piece_size-p.result) (rw c.piece_of-piece.ensures at c.write_piece.ensures) (ap (λ (n : ℕ). c.loop-i.p + n) (planned-size plan _ c.piece_of-piece.ensures c.piece_size-p.ensures _ _ c.requires.ready.in_row)) ∙ rw ident-size),
       omega arith,
       c.write_piece.auto.out ∙ c.loop-i.invariant.2,
       omega arith,

@@ -7,7 +7,7 @@ use Rattle.replace.proofs.SmallLaws.{Tried, tried-none, tried_here, tried-more, 
 use Rattle.replace.proofs.small.depth_from.Given as goal
 
 abbrev pub invariant-loop-d : goal.invariant-loop-d
-invariant-loop-d l = Tried (λ l.d. deep_part l.d l.row) l.from l.d
+invariant-loop-d l = Tried (λ d'. deep_part d' l.row) l.from l.d
 
 abbrev pub decreases-loop-d : goal.decreases-loop-d
 decreases-loop-d l = 65 - l.d

@@ -18,20 +18,11 @@ returns-then-marks-row c = rw (lt-ltb c.args.from (length c.args.row.now) c.if-r
 pub loop-i-init : goal.loop-i-init
 loop-i-init c = (refl, c.if-row-from.false)
 
-pub overflow_add-i : goal.overflow_add-i
-overflow_add-i c = search rules
-
 pub bounds-marks-i : goal.bounds-marks-i
 bounds-marks-i c = omega arith
 
-pub overflow_add-i-in-loop-i : goal.overflow_add-i-in-loop-i
-overflow_add-i-in-loop-i c = search rules
-
 pub bounds-marks-i-in-loop-i : goal.bounds-marks-i-in-loop-i
 bounds-marks-i-in-loop-i c = omega arith
-
-pub overflow_add-i-in-loop-i-2 : goal.overflow_add-i-in-loop-i-2
-overflow_add-i-in-loop-i-2 c = search rules
 
 pub loop-i-smaller : goal.loop-i-smaller
 loop-i-smaller c = omega arith

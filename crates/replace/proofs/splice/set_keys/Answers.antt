@@ -19,9 +19,6 @@ offset_bounds-keys-key c = omega arith
 pub bounds-keys-key : goal.bounds-keys-key
 bounds-keys-key c = omega arith
 
-pub overflow_add-i : goal.overflow_add-i
-overflow_add-i c = search rules
-
 pub loop-i-smaller : goal.loop-i-smaller
 loop-i-smaller c = omega arith
 

@@ -9,23 +9,14 @@ use Rattle.replace.proofs.SpliceSlots.{slot-low, fill-room, fill-next, place-slo
 use Rattle.tree.proofs.Pairs.{both}
 use Rattle.replace.proofs.splice.write_filled.Goals as goal
 
-pub overflow_cast-n : goal.overflow_cast-n
-overflow_cast-n c = search rules
-
 pub loop-i-init : goal.loop-i-init
 loop-i-init c = storing c.requires.splices _ c.word_at-word.ensures
-
-pub overflow_add-i : goal.overflow_add-i
-overflow_add-i c = search rules
 
 pub bounds-marks-i : goal.bounds-marks-i
 bounds-marks-i c = omega arith
 
 pub bounds-row-i : goal.bounds-row-i
 bounds-row-i c = omega arith
-
-pub overflow_add-i-in-loop-i : goal.overflow_add-i-in-loop-i
-overflow_add-i-in-loop-i c = search rules
 
 pub bounds-row-i-in-loop-i : goal.bounds-row-i-in-loop-i
 bounds-row-i-in-loop-i c = c.loop-i-test.true
@@ -43,7 +34,7 @@ bounds-cuts-slot c = let s = slot-low c.requires c.loop-i.invariant c.loop-i-tes
 
 pub offset_bounds-out-p : goal.offset_bounds-out-p
 offset_bounds-out-p c = let r = fill-room c.requires c.loop-i.invariant c.loop-i-test.true c.slot_of-slot.ensures c.if-cuts-slot-eq0.true in
-    omega (arith, c.well-formed.1.1.1.1.1.1.1.1.1.1.1.0.0, c.well-formed.1.1.1.1.1.1.1.1.1.1.1.0.1)
+    omega (arith, c.well_formed.1.1.1.1.1.1.1.1.1.1.1.0.0, c.well_formed.1.1.1.1.1.1.1.1.1.1.1.0.1)
 
 pub bounds-out-p : goal.bounds-out-p
 bounds-out-p c = fill-room c.requires c.loop-i.invariant c.loop-i-test.true c.slot_of-slot.ensures c.if-cuts-slot-eq0.true
@@ -52,10 +43,17 @@ pub overflow_add-i-then-cuts-slot-eq0 : goal.overflow_add-i-then-cuts-slot-eq0
 overflow_add-i-then-cuts-slot-eq0 c = omega arith
 
 pub offset_bounds-row-i-then-cuts-slot-eq0 : goal.offset_bounds-row-i-then-cuts-slot-eq0
-offset_bounds-row-i-then-cuts-slot-eq0 c = omega (arith, c.well-formed.1.1.1.1.1.1.1.1.0.0, c.well-formed.1.1.1.1.1.1.1.1.0.1)
+offset_bounds-row-i-then-cuts-slot-eq0 c = omega (arith, c.well_formed.1.1.1.1.1.1.1.1.0.0, c.well_formed.1.1.1.1.1.1.1.1.0.1)
+
+pub bounds-row-i-then-cuts-slot-eq0 : goal.bounds-row-i-then-cuts-slot-eq0
+bounds-row-i-then-cuts-slot-eq0 c = c.loop-i-test.true
 
 pub offset_bounds-falls-slot : goal.offset_bounds-falls-slot
 offset_bounds-falls-slot c = let s = slot-low c.requires c.loop-i.invariant c.loop-i-test.true c.slot_of-slot.ensures in
+    omega arith
+
+pub bounds-falls-slot : goal.bounds-falls-slot
+bounds-falls-slot c = let s = slot-low c.requires c.loop-i.invariant c.loop-i-test.true c.slot_of-slot.ensures in
     omega arith
 
 pub overflow_add-p : goal.overflow_add-p
@@ -98,7 +96,10 @@ pub bounds-ends-slot : goal.bounds-ends-slot
 bounds-ends-slot c = (place-slot c.requires c.loop-i.invariant c.loop-i-test.true c.slot_of-slot.ensures c.if-cuts-slot-eq0.false).2
 
 pub offset_bounds-marks-i-in-loop-i : goal.offset_bounds-marks-i-in-loop-i
-offset_bounds-marks-i-in-loop-i c = omega (arith, c.well-formed.1.1.1.1.1.1.1.1.0.0, c.well-formed.1.1.1.1.1.1.1.1.0.1)
+offset_bounds-marks-i-in-loop-i c = omega (arith, c.well_formed.1.1.1.1.1.1.1.1.0.0, c.well_formed.1.1.1.1.1.1.1.1.0.1)
+
+pub bounds-marks-i-in-loop-i : goal.bounds-marks-i-in-loop-i
+bounds-marks-i-in-loop-i c = omega arith
 
 pub overflow_sub-marks : goal.overflow_sub-marks
 overflow_sub-marks c = let h = place-mark c.requires c.loop-i.invariant c.loop-i-test.true c.slot_of-slot.ensures c.if-cuts-slot-eq0.false in

@@ -51,7 +51,7 @@ bounds-row-i-then-n-spot c = omega arith
 
 pub offset_bounds-out-p : goal.offset_bounds-out-p
 offset_bounds-out-p c = let r = free-room c.requires c.loop-i.invariant c.loop-i-test.true c.name_spot-spot.ensures c.if-n-spot.true in
-    omega (arith, c.well-formed.1.1.1.1.1.1.1.1.1.1.0.0, c.well-formed.1.1.1.1.1.1.1.1.1.1.0.1)
+    omega (arith, c.well_formed.1.1.1.1.1.1.1.1.1.1.0.0, c.well_formed.1.1.1.1.1.1.1.1.1.1.0.1)
 
 pub bounds-out-p : goal.bounds-out-p
 bounds-out-p c = free-room c.requires c.loop-i.invariant c.loop-i-test.true c.name_spot-spot.ensures c.if-n-spot.true

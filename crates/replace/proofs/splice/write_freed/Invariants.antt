@@ -10,7 +10,7 @@ use Rattle.replace.proofs.SpliceSlots.{free-room, free-next, entry-mark, entry-i
 use Rattle.replace.proofs.splice.write_freed.Given as goal
 
 abbrev pub invariant-loop-i : goal.invariant-loop-i
-invariant-loop-i l = Storing (plan_for l.rule l.words l.starts l.ends) l.list l.list_marks l.row l.marks «l.from» l.at l.initial.out l.out l.i l.p (get_or l.row l.i 0)
+invariant-loop-i l = Storing (plan_for l.rule l.words l.starts l.ends) l.list l.list_marks l.row l.marks l.from l.at l.initial.out l.out l.i l.p (get_or l.row l.i 0)
 
 abbrev pub decreases-loop-i : goal.decreases-loop-i
 decreases-loop-i l = length l.row - l.i

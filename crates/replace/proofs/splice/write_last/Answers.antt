@@ -9,9 +9,6 @@ use Rattle.replace.proofs.splice.write_last.Goals as goal
 pub bounds-out-p : goal.bounds-out-p
 bounds-out-p c = omega arith
 
-pub overflow_add-result : goal.overflow_add-result
-overflow_add-result c = search rules
-
 pub shape_of-out-then-i-row : goal.shape_of-out-then-i-row
 shape_of-out-then-i-row c = length-set c.args.out.now c.args.p c.args.word
 
