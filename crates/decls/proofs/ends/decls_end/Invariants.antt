@@ -1,0 +1,12 @@
+use mathlib.Core.Path.{◌≡◌, refl, sym, ◌∙◌}
+use native.Mathlib.Omega.{arith}
+use borrow.Author.Rules.{rules}
+use Rattle.decls.specs.Internal.Noted.{decls_end}
+use Rattle.decls.proofs.NotedLaws.{decls-next, decls-none}
+use Rattle.decls.proofs.ends.decls_end.Given as goal
+
+abbrev pub invariant-loop-left : goal.invariant-loop-left
+invariant-loop-left l = decls_end l.row l.p l.n ≡ decls_end l.row l.at l.left
+
+abbrev pub decreases-loop-left : goal.decreases-loop-left
+decreases-loop-left l = l.left
