@@ -1,3 +1,2 @@
-pub mod Machine
 pub mod OfferLaws
 pub mod RefusalLaws
