@@ -139,7 +139,9 @@ module _ (t : ℕ) (which : (eqb t 851 || eqb t 852) ≡ true) (ns : List ℕ) (
       ≡ put_round t (map unnoted (take j ns)) (fill t (map unnoted (drop j ns)) (map (lower_place (length (drop j ns))) ps) g)
   unfolding instantiate_partial
   point-is =
+      let same : length (drop j (map unnoted ns)) ≡ length (drop j ns) = rw (drop-unnoted j ns) (length-map (drop j ns) unnoted) in
       rw (front-is (length ns) i e low, from_front (length ns) i e low, take-unnoted (length ns - suc i) ns, drop-unnoted (length ns - suc i) ns, length-map (drop (length ns - suc i) ns) unnoted, plain-notes (lift (length ns - suc i)) (drop (length ns - suc i) ns))
+      (ap (λ k. put_round t (map unnoted (take j ns)) (fill t (map unnoted (drop j ns)) (lower_place (length (drop j ns)) (filled e) ∷ map (lower_place k) (replicate i kept)) g)) same)
 
   pub point-stays : kept_names (map (lower_place (length (drop (length ns - suc i) ns))) (filled e ∷ replicate i kept)) (drop (length ns - suc i) ns) ≡ drop (length ns - suc i + 1) ns
   point-stays =

@@ -1,6 +1,6 @@
 -- One declaration of several replaced by an expression, on the tree: the others round the body, or those in front joined with the body's own.
 -- Assumes nothing.
-use mathlib.Core.Path.{◌≡◌, refl, ap, sym, ◌∙◌}
+use mathlib.Core.Path.{◌≡◌, subst as carried, refl, ap, sym, ◌∙◌}
 use mathlib.Core.Bool.{Bool, true, false, ◌&&◌, ◌||◌, and-true, and_assoc}
 use mathlib.Core.List.{List, [], ◌∷◌, ◌++◌, map, append-nil, reverse, reverse-cons, reverse-append}
 use mathlib.Core.Option.{none as absent, some}
@@ -99,7 +99,7 @@ module _ (t : ℕ) (ds : List Decl) (i : ℕ) (e g : Form) (low : i < length ds)
     where
       go : (ss : List Decl) → length ss ≡ length ds - suc spot → put_round t (take spot ds) (quantify t (map (on_note (lift spot)) ss) gone) ≡ quantify t (take spot ds ++ ss) gone
       go [] l = absurd (omega arith)
-      go (s ∷ ss) l = rw front_long at (round-stays t which (take spot ds) s ss gone)
+      go (s ∷ ss) l = carried (λ k. put_round t (take spot ds) (quantify t (map (on_note (lift k)) (s ∷ ss)) gone) ≡ quantify t (take spot ds ++ s ∷ ss) gone) front_long (round-stays t which (take spot ds) s ss gone)
 
   none-behind : i ≡ 0 → drop (suc spot) ds ≡ []
   none-behind h = go (drop (suc spot) ds) (length-drop (suc spot) ds)

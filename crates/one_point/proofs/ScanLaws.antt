@@ -3,7 +3,7 @@ use mathlib.Core.Path.{◌≡◌, refl, ap, ◌∙◌}
 use mathlib.Core.Bool.{Bool, true, false}
 use mathlib.Core.Option.{some}
 use mathlib.Core.List.{List, [], ◌∷◌, ◌++◌, append-nil}
-use Prim.Native.Nat.{ℕ, suc, ◌+◌, ◌-◌, ◌*◌, ◌≤◌, ◌<◌}
+use Prim.Native.Nat.{ℕ, zero, suc, ◌+◌, ◌-◌, ◌*◌, ◌≤◌, ◌<◌}
 use native.Mathlib.Omega.{arith}
 use borrow.Author.Tests.{eqb-true, eqb-false}
 use lib.Dec.{eqb}
@@ -52,6 +52,7 @@ unfolding shape_of pred_tags
 not_noted w = plain-noted w 1 0 refl
 
 pub pred-neat : (d : ℕ) (f : Form) → Ok d pred f → Neat f
+pred-neat zero f x = elim x [ ]
 pred-neat (suc d) f (ok-node {t = t} a b k) = neat-tag (ok-node a b k) (λ g h. pred-neat d g h) (eqb t 8) refl
 pred-neat (suc d) f (ok-noted {t = t} a b v k) = neat-noted {t = t} (λ q. not_noted {d = d} (rw q at (ok-noted a b v k)))
 

@@ -4,7 +4,7 @@ use mathlib.Core.Path.{◌≡◌, refl, ap, ◌∙◌}
 use mathlib.Core.Bool.{Bool, true, false, not, ◌&&◌, ◌||◌}
 use mathlib.Core.Option.{Option, none as absent, some, map}
 use mathlib.Core.List.{List, [], ◌∷◌, ◌++◌}
-use Prim.Native.Nat.{ℕ, suc, ◌+◌, ◌≤◌, ◌<◌}
+use Prim.Native.Nat.{ℕ, zero, suc, ◌+◌, ◌≤◌, ◌<◌}
 use native.Mathlib.Omega.{arith}
 use borrow.Author.Tests.{eqb-true, eqb-false, ltb-true}
 use lib.Dec.{eqb, ltb}
@@ -236,6 +236,7 @@ copies-count (more f fs) = ap suc (copies-count fs)
 
 copies-ok : (d c : ℕ) (fs : Forms) → OkAll d (replicate c pred) fs → OkLefts d (copies fs)
 copies-ok d c none k = tt
+copies-ok d zero (more f fs) k = elim k [ ]
 copies-ok d (suc c) (more f fs) (ok-more h k) = (h, copies-ok d c fs k)
 
 follow-ok : (n d c : ℕ) (z : Scan) (fs : Forms) (later : Scans) → OkScan n d z → OkAll d (replicate c pred) fs → OkScans n d (count fs) later → OkScans n d (suc (count fs)) (follow z fs later)
@@ -292,6 +293,7 @@ module _ (n : ℕ) where
     unfolding scan encode
 
     scan-form : (f : Form) {d : ℕ} → Ok d pred f → length (encode f) ≤ 4294967295 → (b : Bool) → OkScan n d (scan n b f)
+    scan-form (leaf x) {d = d} w short b = elim w [ ]
     scan-form (noted t o ds ks) w short b = (tt, w)
     scan-form (node t o ds ks) (ok-node {d = d} x y z) short b =
         let few = kids-few t o ds ks in
@@ -299,6 +301,7 @@ module _ (n : ℕ) where
 
     scan-forms : (fs : Forms) (d c : ℕ) → OkAll d (replicate c pred) fs → length (encode_all fs) ≤ 4294967295 → (p q : Bool) → OkScans n d (count fs) (scan_all n p q fs)
     scan-forms none d c k short p q = (tt, tt, omega arith)
+    scan-forms (more f fs) d zero k short p q = elim k [ ]
     scan-forms (more f fs) d (suc c) (ok-more h k) short p q =
         let l = length-append (encode f) (encode_all fs) in
         follow-ok n d c (scan n p f) fs (scan_all n q q fs) (scan-form f h (omega arith) p) k (scan-forms fs d c k (omega arith) q q)
