@@ -1,0 +1,15 @@
+use borrow.Author.Rules.{rules}
+use native.Mathlib.Omega.{arith}
+use mathlib.Core.Path.{◌≡◌, refl, ap, sym, ◌∙◌}
+use mathlib.Core.List.{◌++◌, append-nil}
+use Prim.Native.Nat.{◌-◌, ◌≤◌}
+use lib.ListN.{length, take, drop, length-set}
+use Rattle.replace.specs.Internal.Pieces.{kept_words}
+use Rattle.member.proofs.FillingLaws.{keep-pass, keep-more, keep-end}
+use Rattle.member.proofs.filling.keep_names.Given as goal
+
+abbrev pub invariant-loop-i : goal.invariant-loop-i
+invariant-loop-i l = (kept_words l.words l.names ≡ take l.p l.out ++ kept_words (drop l.i l.words) (drop l.i l.names)) × (l.p ≤ l.i) × (l.i ≤ length l.words) × (length l.out ≡ length l.initial.out)
+
+abbrev pub decreases-loop-i : goal.decreases-loop-i
+decreases-loop-i l = length l.words - l.i
