@@ -1,3 +1,2 @@
-pub mod Held
 pub mod ReadLaws
 pub mod DeclaredLaws

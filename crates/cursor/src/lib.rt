@@ -9,7 +9,7 @@ ghost use Rattle.cursor.specs.Read.{next_at, opening_of, declared_outcome};
 
 use form::answer::{Answer, Kind};
 
-#[derive(Drop)]
+#[derive(Clone, Copy)]
 pub struct Cursor<'a> {
     pub row: &'a [u32],
     pub at: usize,
@@ -68,7 +68,7 @@ impl<'a> Cursor<'a> {
 }
 
 // The first two words of a row, 0 for one that it does not have; and whether it has under two.
-#[derive(Drop)]
+#[derive(Clone, Copy)]
 pub struct Opening {
     pub tag: u32,
     pub count: u32,
