@@ -2,9 +2,9 @@
 use mathlib.Core.Path.{◌≡◌, refl}
 use mathlib.Core.Bool.{Bool, true, false, ◌||◌}
 use mathlib.Core.List.{List}
-use Prim.Native.Nat.{ℕ, ◌+◌, ◌/◌, ◌%◌, ◌^◌, ◌≤◌, ◌<◌}
+use Prim.Native.Nat.{ℕ, ◌+◌, ◌≤◌}
 use native.Mathlib.Omega.{arith}
-use borrow.Author.Tests.{le-leb, lt-ltb, le-ltb}
+use borrow.Author.Tests.{le-leb}
 use lib.Dec.{leb, eqb}
 use lib.ListN.{length}
 use Rattle.tree.specs.Form.{Form, pick, encode}
@@ -18,7 +18,7 @@ use Rattle.rules.specs.Walk.{lift}
 use Rattle.rules.specs.Dangling.{closed}
 use Rattle.rules.specs.Lift.{Part, base, copy, empty, of_copy, lift_found, lift_part}
 use Rattle.subst.specs.Internal.Lifting.{made_of}
-use Rattle.sogbayile.specs.Code.{packed, code_of, answer_of, part_code}
+use Rattle.sogbayile.specs.Code.{packed, code_of, part_code}
 use Rattle.sogbayile.specs.Internal.{part_length, made_code}
 
 pub code-done : (n : ℕ) → code_of (Done n) ≡ n
@@ -26,15 +26,6 @@ code-done n = omega arith
 
 pub code-no : (k p : ℕ) → code_of (No k p) ≡ packed k p
 code-no k p = omega arith
-
--- the answer of a code
-pub answer-low : (n : ℕ) → n < 2 ^ 32 → Done n ≡ answer_of n
-unfolding answer_of
-answer-low n h = rw (lt-ltb n (2 ^ 32) h) refl
-
-pub answer-high : (n : ℕ) → 2 ^ 32 ≤ n → No (n / 2 ^ 32) (n % 2 ^ 32) ≡ answer_of n
-unfolding answer_of
-answer-high n h = rw (le-ltb n (2 ^ 32) h) refl
 
 pub finish-short : (s : Sort) (room : ℕ) (g : Form) → length_of (told (finish s room g)) + position (told (finish s room g)) ≤ 8192
 unfolding finish

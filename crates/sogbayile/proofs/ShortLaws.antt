@@ -23,7 +23,7 @@ use Rattle.rules.specs.Dangling.{index_of, insert, insert_all, dangling_set, dan
 use Rattle.rules.specs.Command.{outcome_of, number_outcome}
 use Rattle.rules.specs.declared.command.Command.{Command}
 use Rattle.rules.proofs.OutcomeLaws.{Settled, settled-map, tested, form-settled, list-settled, OneForm, one-short, outcome-settled, number-settled}
-use Rattle.sogbayile.specs.Code.{code_of, answer_of}
+use Rattle.sogbayile.specs.Code.{code_of}
 
 abbrev FewWords : List ℕ → Type 0
 FewWords ws = length ws ≤ 8192
@@ -36,20 +36,6 @@ Short o = Settled FewWords o
 pub code_read : (o : Outcome) → Short o → (code_of (told o) / 2 ^ 32 ≡ number (told o)) × (code_of (told o) % 2 ^ 32 ≡ length_of (told o) + position (told o))
 code_read (answer ws) h = (omega (arith, h), omega (arith, h))
 code_read (stop k p) h = let l = h.low in (omega (arith, l), omega (arith, l))
-
--- so the answer itself is
-pub answer-read : (o : Outcome) → Short o → answer_of (code_of (told o)) ≡ told o
-unfolding answer_of
-answer-read (answer ws) h =
-    let e : code_of (told (answer ws)) ≡ length ws = omega arith in
-    rw (e, lt-ltb (length ws) (2 ^ 32) (omega (arith, h))) refl
-answer-read (stop k p) h =
-    let l = h.low in
-    let n = h.numbered in
-    let m = code_of (told (stop k p)) in
-    let up : m / 2 ^ 32 ≡ k = omega (arith, l) in
-    let down : m % 2 ^ 32 ≡ p = omega (arith, l) in
-    rw (le-ltb m (2 ^ 32) (omega (arith, n)), up, down) refl
 
 -- the checks
 check-by : (k : ℕ) → 1 ≤ k → (b : Bool) → Short (needs k b (answer []))

@@ -7,7 +7,7 @@ use Rattle.tree.proofs.Pairs.{both}
 use Rattle.calls.proofs.run.Goals as goal
 
 pub returns-in-Shift : goal.returns-in-Shift
-returns-in-Shift c = both (λ v w. record { value = v; out_after = w }) (run-said _ Shift c.in-Shift.is _ c.args.list.now c.args.row.now (length c.args.work.now) (length c.args.out.now) _ _ _ (rw (back c.args.offset c.ranges.offset) at (c.shift_bound_identifiers.ensures.value, c.shift_bound_identifiers.ensures.out_after)))
+returns-in-Shift c = both (λ v w. record { value = v; out_after = w }) (run-said _ Shift c.in-Shift.is _ c.args.list.now c.args.row.now (length c.args.work.now) (length c.args.out.now) _ _ _ (rw (back c.args.offset c.ranges.offset) at c.shift_bound_identifiers.ensures.value, rw (back c.args.offset c.ranges.offset) at c.shift_bound_identifiers.ensures.out_after))
 
 pub returns-in-Free : goal.returns-in-Free
 returns-in-Free c = both (λ v w. record { value = v; out_after = w }) (run-said _ Free c.in-Free.is _ c.args.list.now c.args.row.now (length c.args.work.now) (length c.args.out.now) _ _ _ (c.substitute_free_idents.ensures.value, c.substitute_free_idents.ensures.out_after))
