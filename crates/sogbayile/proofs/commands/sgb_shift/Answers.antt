@@ -6,4 +6,4 @@ use borrow.Author.Rules.{rules}
 use Rattle.sogbayile.proofs.commands.sgb_shift.Goals as goal
 
 pub returns : goal.returns
-returns c = let called = rw (back c.args.offset c.ranges.offset) at (c.shift_bound_identifiers.ensures.value, c.shift_bound_identifiers.ensures.out_after) in record { value = c.code_of.ensures ∙ ap code_of called.0; out_after = called.1 }
+returns c = record { value = c.code_of.ensures ∙ ap code_of (rw (back c.args.offset c.ranges.offset) at c.shift_bound_identifiers.ensures.value); out_after = rw (back c.args.offset c.ranges.offset) at c.shift_bound_identifiers.ensures.out_after }

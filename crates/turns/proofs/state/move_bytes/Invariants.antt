@@ -1,0 +1,15 @@
+use Prim.Native.Nat.{◌-◌}
+use mathlib.Core.Path.{◌≡◌}
+use native.Mathlib.Omega.{arith}
+use Prim.Native.Nat.{◌≤◌}
+use lib.ListN.{take, drop}
+use borrow.Author.Rules.{rules}
+use Rattle.spell.specs.Put.{put}
+use Rattle.turns.proofs.PutLaws.{copied, copied_none, copied-long, copied_all}
+use Rattle.turns.proofs.state.move_bytes.Given as goal
+
+abbrev pub invariant-loop-i : goal.invariant-loop-i
+invariant-loop-i l = (l.start ≤ l.i) × (l.i ≤ l.end) × (l.input ≡ put l.initial.input 0 (take (l.i - l.start) (drop l.start l.initial.input)))
+
+abbrev pub decreases-loop-i : goal.decreases-loop-i
+decreases-loop-i l = l.end - l.i
