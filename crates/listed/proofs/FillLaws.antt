@@ -19,13 +19,13 @@ use Rattle.reader.specs.Internal.Reads.{mark, mark_entries, table_of, empty_tabl
 use Rattle.form.specs.declared.answer.Kind.TheVariants.{Predicate}
 use Rattle.form.specs.declared.answer.ListKind.TheVariants.{Places}
 use Rattle.reader.specs.declared.lists.Table.{Table}
-use Rattle.form.proofs.DecodeLaws.{clash, Ok}
+use Rattle.form.proofs.DecodeLaws.{Ok}
 use Rattle.form.proofs.RowLaws.{row-encode}
 use Rattle.form.proofs.ListLaws.{GoodAll, list-sound}
 use Rattle.reader.proofs.TableLaws.{rows-n, listing-yes}
 use Rattle.shift.proofs.CheckedLaws.{Checked}
 use Rattle.rules.specs.Walk.{subst}
-use Rattle.rules.specs.Fill.{unnoted, quantified, of_quantified, kept_decls, fill_for, fill, places_for, fill_outcome}
+use Rattle.rules.specs.Fill.{quantified, of_quantified, kept_decls, fill_for, fill, places_for, fill_outcome}
 use Rattle.rules.proofs.ReplicateLaws.{replicate-at, map-replicate}
 use Rattle.shift.specs.Internal.Items.{items, rewritten}
 use Rattle.shift.proofs.RowLaws.{items_of, marks_of, only-mark}

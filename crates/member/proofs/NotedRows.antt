@@ -8,7 +8,6 @@ use lib.ListN.{length, get_or, take, drop, length-drop, length-map}
 use lib.Seq.{drop-drop, length-take-le}
 use Rattle.tree.specs.Form.{names_of, pick, encode, encode_decls}
 use Rattle.tree.specs.Tag.{expr}
-use Rattle.form.specs.Decode.{decls}
 use Rattle.form.proofs.DecodeLaws.{decls-encode, decode-sound}
 use Rattle.reader.specs.declared.lists.Table.{Table}
 use Rattle.rules.specs.Fill.{Decl, unnoted, name_of, unlisted, any_noted}

@@ -9,7 +9,7 @@ use borrow.Author.Tests.{ltb-true, lt-ltb, le-ltb, eqb-true, eqb-false}
 use lib.Dec.{leb, ltb, eqb}
 use lib.ListN.{length, get_or, take, drop, set, replicate, get_or-replicate, length-append, length-set, length-drop, length-replicate}
 use lib.Seq.{get_or-set_same, get_or-set_other, length-take-le}
-use Rattle.tree.specs.Form.{Form, pick, count, encode, encode_all}
+use Rattle.tree.specs.Form.{Form, pick, encode, encode_all}
 use Rattle.tree.specs.Tag.{expr}
 use Rattle.form.specs.Lists.{Place, kept, filled}
 use Rattle.reader.specs.declared.lists.Table.{Table}
@@ -33,7 +33,7 @@ use Rattle.member.specs.Internal.Member.{Shares, shares, keep_part, spot_at, sha
 use Rattle.places.specs.declared.sides.Sides.{Sides}
 use Rattle.places.proofs.SidesLaws.{as_index, index_is, part-words}
 use Rattle.places.proofs.WroteLaws.{wrote-end, wrote_on, wrote-equal, nothing_written, put-wrote, part-long}
-use Rattle.places.proofs.PartsLaws.{in_row, PartIs}
+use Rattle.places.proofs.PartsLaws.{PartIs}
 use Rattle.places.proofs.StepLaws.{left_is, middle-is, right_is, end_is, rest-is}
 
 -- an empty table

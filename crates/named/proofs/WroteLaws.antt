@@ -11,7 +11,6 @@ use Rattle.tree.specs.Tag.{Sort}
 use Rattle.form.specs.Decode.{Got, got, no-form, Gots, gots, no-forms, add_form, chain, decode_all, decode, index_free}
 use Rattle.form.specs.declared.head.Step.{Step}
 use Rattle.form.specs.declared.head.Step.TheVariants.{End, Bad}
-use Rattle.form.specs.declared.head.Head as code
 use Rattle.rules.specs.Named.{nameless, nameless_all}
 use Rattle.shift.specs.Internal.Items.{store}
 use Rattle.named.specs.Internal.Reads.{indexless, read_names, Wrote, WroteAll}

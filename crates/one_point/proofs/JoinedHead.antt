@@ -18,7 +18,6 @@ use Rattle.form.specs.declared.answer.Answer.TheVariants.{Done, No}
 use Rattle.form.specs.declared.answer.Kind.TheVariants.{Predicate}
 use Rattle.form.proofs.DecodeLaws.{clash}
 use Rattle.rules.specs.Fill.{unlisted}
-use Rattle.rules.proofs.JoinFill.{fits}
 use Rattle.shift.specs.Internal.Items.{store}
 use Rattle.shift.proofs.ItemLaws.{store-append}
 use Rattle.replace.specs.Internal.Pieces.{down_plan, InRow, Ready, placed_row, replaced, emitted}

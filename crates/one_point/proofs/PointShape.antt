@@ -10,7 +10,7 @@ use lib.Dec.{eqb}
 use lib.ListN.{length, take, drop, set, replicate, length-append, length-map}
 use Rattle.tree.specs.Form.{Leaf, free, bound, Form, node, noted, Decls, names_of, any_typed, Forms, none, more, pick, between, encode}
 use Rattle.tree.specs.Tag.{Sort, expr, pred, own, sorts}
-use Rattle.form.specs.Decode.{Head, head, flagged, bad, only, read, decls, is_leaf}
+use Rattle.form.specs.Decode.{Head, head, flagged, bad, only, read, is_leaf}
 use Rattle.form.specs.Lists.{Place, kept, filled}
 use Rattle.form.proofs.DecodeLaws.{clash, Ok, read-exact}
 use Rattle.rules.specs.Walk.{Binding, inside, outside, binding, Outer, named, dangling, walk_index, walk_leaf, walk, walk_decls, walk_all, up, lift, put, subst}

@@ -36,7 +36,6 @@ use Rattle.places.specs.declared.sides.Equality.TheVariants.{None}
 use Rattle.places.specs.declared.sides.Replacement.{Replacement}
 use Rattle.places.specs.declared.sides.Replacement.TheVariants.{Is, Not}
 use Rattle.form.specs.declared.head.Step.TheVariants.{Bad}
-use Rattle.places.proofs.PartsLaws.{some_words}
 
 pub told-ends : (at u : ℕ) (g : Got) (a b : List ℕ) (r : Step) → Told at u g a b r → r ≡ end_at at g
 unfolding Told end_at

@@ -10,7 +10,7 @@ use lib.Dec.{leb}
 use lib.ListN.{length, drop, length-append}
 use Rattle.tree.specs.Form.{free, bound, Form, leaf, node, noted, Decls, undeclared, bare, typed, names_of, any_typed, none, pick, between, encode, encode_decls}
 use Rattle.tree.specs.Tag.{Sort, expr, sorts}
-use Rattle.form.specs.Decode.{Head, Got, got, no-form, Gots, gots, decode_all, GotDecl, got_bare, got_typed, no-decl, note_of, by_flag, decl_at, GotDecls, declared, no-decls, add_bare, add_typed, add_decl, decls, decode}
+use Rattle.form.specs.Decode.{Got, got, no-form, Gots, gots, decode_all, GotDecl, got_bare, got_typed, no-decl, note_of, by_flag, decl_at, GotDecls, declared, no-decls, add_bare, add_typed, add_decl, decls, decode}
 use Rattle.reader.specs.Internal.Reads.{mark, Told, ToldAll, ToldDecl, ToldDecls, ToldNoted, ToldOther, Fits, words_after, decls_within}
 use Rattle.form.specs.declared.head.Step.{Step}
 use Rattle.form.specs.declared.head.Step.TheVariants.{End, Bad}

@@ -15,7 +15,7 @@ use Rattle.tree.specs.Tag.{Sort}
 use Rattle.form.specs.Decode.{row_form, Found, found, missing, form_of}
 use Rattle.form.specs.Break.{break_at, break_list}
 use Rattle.form.specs.Lists.{Entry, list_of}
-use Rattle.form.specs.Answer.{Outcome, answer, stop, refusal, told, written, within, of_found, of_list, with_form, needs, check_outcome}
+use Rattle.form.specs.Answer.{Outcome, answer, stop, refusal, told, within, of_found, of_list, with_form, needs, check_outcome}
 use Rattle.reader.specs.Internal.Reads.{as_expr, of_kind, Listing}
 use Rattle.form.specs.declared.answer.Kind.{Kind}
 use Rattle.form.specs.declared.answer.Kind.TheVariants.{Either}

@@ -1,5 +1,5 @@
 -- The commands by number. Assumes nothing.
-use mathlib.Core.Path.{◌≡◌, refl, sym}
+use mathlib.Core.Path.{◌≡◌, refl}
 use mathlib.Core.List.{List, [], ◌∷◌}
 use Prim.Native.Nat.{ℕ, zero, suc, ◌-◌, ◌≤◌, ◌<◌}
 use native.Mathlib.Omega.{arith}
@@ -7,7 +7,6 @@ use lib.ListN.{length, get_or, drop}
 use Rattle.form.proofs.DecodeLaws.{clash}
 use Rattle.rules.specs.Command.{commands, nth, numbered}
 use Rattle.rules.specs.declared.command.Command.{Command}
-use Rattle.rules.specs.declared.command.Numbered.{Numbered}
 use Rattle.rules.specs.declared.command.Numbered.TheVariants.{Is, Unknown}
 
 pub number-none : (n : ℕ) → n ≡ 0 → Unknown ≡ numbered n

@@ -1,6 +1,6 @@
 -- What holds of every outcome, by the parts that outcomes are made of: a refusal has a number from 1 on and a position of at most 8,192, which only
 -- a refusal by 2 has. And of the outcome of every command: an answer is the row of one form. Assumes nothing.
-use mathlib.Core.Path.{◌≡◌, refl, ap, sym, ◌∙◌}
+use mathlib.Core.Path.{◌≡◌, refl}
 use mathlib.Core.Bool.{Bool, true, false, not}
 use mathlib.Core.List.{List, [], ◌∷◌, map}
 use mathlib.Core.Option.{Option, none as absent, some}

@@ -2,7 +2,6 @@ use lib.ListN.{length}
 use Rattle.shift.proofs.SignedLaws.{back}
 use Rattle.rules.specs.declared.command.Command.TheVariants.{Shift, Free, Bind, Fill, Prune, Point, Member, Named}
 use Rattle.calls.proofs.CallLaws.{run-said}
-use borrow.Author.Rules.{rules}
 use Rattle.tree.proofs.Pairs.{both}
 use Rattle.calls.proofs.run.Goals as goal
 

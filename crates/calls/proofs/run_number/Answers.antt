@@ -1,7 +1,6 @@
 use lib.ListN.{length}
 use Rattle.shift.proofs.SignedLaws.{back}
 use Rattle.calls.proofs.CallLaws.{number-none, number-said}
-use borrow.Author.Rules.{rules}
 use Rattle.tree.proofs.Pairs.{both}
 use Rattle.calls.proofs.run_number.Goals as goal
 

@@ -1,5 +1,4 @@
 use Rattle.cursor.proofs.DeclaredLaws.{count-refused, count_none, count-some}
-use borrow.Author.Rules.{rules}
 use Rattle.cursor.proofs.count_declarations.Goals as goal
 
 pub returns-in_default : goal.returns-in_default

@@ -2,7 +2,6 @@
 use mathlib.Core.Path.{refl, sym, ◌∙◌}
 use borrow.Author.Tests.{eq-eqb, ne_eqb}
 use Rattle.cursor.proofs.DeclaredLaws.{opening-declared}
-use borrow.Author.Rules.{rules}
 use Rattle.cursor.proofs.declared.Goals as goal
 
 pub returns-then-o : goal.returns-then-o

@@ -1,7 +1,6 @@
 -- `cursor::next_at` meets its contract: the test says which case of `next_at` holds.
 use borrow.Author.Tests.{lt-ltb, le-ltb}
 use Rattle.cursor.specs.Read.{next_at}
-use borrow.Author.Rules.{rules}
 use Rattle.cursor.proofs.next_at.Goals as goal
 
 pub returns-then-at-row : goal.returns-then-at-row

@@ -2,7 +2,6 @@
 use mathlib.Core.Path.{◌∙◌}
 use borrow.Author.Tests.{eq-eqb, ne_eqb}
 use Rattle.offers.proofs.OfferLaws.{none-offered, one-offered, both-offered}
-use borrow.Author.Rules.{rules}
 use Rattle.offers.proofs.offer_two.Goals as goal
 
 pub returns-then-empty-ne0 : goal.returns-then-empty-ne0

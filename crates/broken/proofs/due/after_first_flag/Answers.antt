@@ -1,7 +1,6 @@
 use Rattle.broken.specs.Internal.Seeks.{next_due}
 use Rattle.broken.proofs.DueLaws.{flag-none, flag-some}
 use mathlib.Core.Bool.{false}
-use borrow.Author.Rules.{rules}
 use Rattle.broken.proofs.due.after_first_flag.Goals as goal
 
 pub returns-then-flag-eq0 : goal.returns-then-flag-eq0

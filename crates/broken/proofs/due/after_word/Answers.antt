@@ -1,6 +1,5 @@
 use Rattle.broken.specs.Internal.Seeks.{next_due, after_word}
 use Rattle.broken.proofs.DueLaws.{no_name, wide-name, one_name, below-limit, above-limit, in-limits}
-use borrow.Author.Rules.{rules}
 use Rattle.broken.proofs.due.after_word.Goals as goal
 
 pub returns-then-names-eq0 : goal.returns-then-names-eq0

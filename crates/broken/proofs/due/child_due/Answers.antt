@@ -1,6 +1,5 @@
 use Rattle.tree.specs.Tag.{own}
 use Rattle.broken.proofs.KidsLaws.{expr-first, pred-first}
-use borrow.Author.Rules.{rules}
 use Rattle.broken.proofs.due.child_due.Goals as goal
 
 pub returns-then-preds-eq0 : goal.returns-then-preds-eq0

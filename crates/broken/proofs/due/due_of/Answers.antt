@@ -1,7 +1,6 @@
 use Rattle.broken.specs.Internal.Seeks.{next_then, next_due}
 use Rattle.tree.specs.Tag.{own_of}
 use Rattle.form.specs.Break.{next_of}
-use borrow.Author.Rules.{rules}
 use Rattle.broken.proofs.due.due_of.Goals as goal
 
 pub returns-in-Unknown : goal.returns-in-Unknown

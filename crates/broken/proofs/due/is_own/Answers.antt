@@ -1,6 +1,5 @@
 use Rattle.broken.specs.Internal.Seeks.{next_due, is_own}
 use Rattle.broken.proofs.DueLaws.{own-kids}
-use borrow.Author.Rules.{rules}
 use Rattle.broken.proofs.due.is_own.Goals as goal
 
 pub returns-in-Kids : goal.returns-in-Kids

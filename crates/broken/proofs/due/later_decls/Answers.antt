@@ -1,6 +1,5 @@
 use Rattle.broken.specs.Internal.Seeks.{next_then, next_due}
 use Rattle.broken.proofs.DueLaws.{none_left, some_left}
-use borrow.Author.Rules.{rules}
 use Rattle.broken.proofs.due.later_decls.Goals as goal
 
 pub returns-then-decls-eq0 : goal.returns-then-decls-eq0

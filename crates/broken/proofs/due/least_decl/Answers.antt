@@ -1,6 +1,5 @@
 use Rattle.broken.proofs.DueLaws.{least-flag, least-typed}
 use mathlib.Core.Bool.{true}
-use borrow.Author.Rules.{rules}
 use Rattle.broken.proofs.due.least_decl.Goals as goal
 
 pub returns-then-flag-eq0 : goal.returns-then-flag-eq0

@@ -1,6 +1,5 @@
 use Rattle.broken.proofs.DueLaws.{least-wrong, least_first}
 use native.Mathlib.Omega.{arith}
-use borrow.Author.Rules.{rules}
 use Rattle.broken.proofs.due.least_first.Goals as goal
 
 pub returns-then-decls-eq0 : goal.returns-then-decls-eq0

@@ -1,6 +1,5 @@
 use native.Mathlib.Omega.{arith}
 use Rattle.broken.proofs.DueLaws.{least-none, least-some}
-use borrow.Author.Rules.{rules}
 use Rattle.broken.proofs.due.least_kids.Goals as goal
 
 pub returns-then-depth-eq0 : goal.returns-then-depth-eq0

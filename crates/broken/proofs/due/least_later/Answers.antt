@@ -1,6 +1,5 @@
 use Rattle.broken.proofs.DueLaws.{least-later}
 use native.Mathlib.Omega.{arith}
-use borrow.Author.Rules.{rules}
 use Rattle.broken.proofs.due.least_later.Goals as goal
 
 pub returns : goal.returns

@@ -1,6 +1,5 @@
 use Rattle.broken.proofs.DueLaws.{least-note}
 use native.Mathlib.Omega.{arith}
-use borrow.Author.Rules.{rules}
 use Rattle.broken.proofs.due.least_note.Goals as goal
 
 pub returns : goal.returns

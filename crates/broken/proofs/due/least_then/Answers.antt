@@ -2,7 +2,6 @@ use Rattle.broken.specs.Internal.Seeks.{next_then}
 use Rattle.broken.proofs.DueLaws.{least-first-flag}
 use native.Mathlib.Omega.{arith}
 use Rattle.form.specs.Break.{least}
-use borrow.Author.Rules.{rules}
 use Rattle.broken.proofs.due.least_then.Goals as goal
 
 pub returns-in-Nothing : goal.returns-in-Nothing

@@ -1,7 +1,6 @@
 use Rattle.broken.specs.Internal.Seeks.{next_due}
 use native.Mathlib.Omega.{arith}
 use Rattle.form.specs.Break.{least}
-use borrow.Author.Rules.{rules}
 use Rattle.broken.proofs.due.least_words.Goals as goal
 
 pub returns-in-Kids : goal.returns-in-Kids

@@ -1,5 +1,4 @@
 use Rattle.broken.specs.Internal.Seeks.{next_then, next_due}
-use borrow.Author.Rules.{rules}
 use Rattle.broken.proofs.due.then_of.Goals as goal
 
 pub returns-in-Nothing : goal.returns-in-Nothing

@@ -1,5 +1,4 @@
 use Rattle.broken.proofs.KidsLaws.{expr-first, pred-first}
-use borrow.Author.Rules.{rules}
 use Rattle.broken.proofs.kids.child_head.Goals as goal
 
 pub returns-then-preds-eq0 : goal.returns-then-preds-eq0

@@ -1,5 +1,4 @@
 use Rattle.broken.proofs.KidsLaws.{after-expr, after-pred}
-use borrow.Author.Rules.{rules}
 use Rattle.broken.proofs.kids.exprs_after.Goals as goal
 
 pub returns-then-preds-eq0 : goal.returns-then-preds-eq0

@@ -1,6 +1,5 @@
 use native.Mathlib.Omega.{arith}
 use Rattle.form.specs.Break.{least, break_at}
-use borrow.Author.Rules.{rules}
 use Rattle.broken.proofs.position.broken_at.Goals as goal
 
 pub broken_kids-requires : goal.broken_kids-requires

@@ -1,10 +1,7 @@
-use Prim.Native.Nat.{◌-◌}
-use borrow.Author.Rules.{rules}
 use borrow.Author.Tests.{leb-true, not-true, not-false}
 use native.Mathlib.Omega.{arith}
-use lib.ListN.{length}
 use Rattle.broken.proofs.SeekLaws.{told-true, told-false}
-use Rattle.broken.proofs.EntryLaws.{Lists, no-entry, list_over, entry-stop, entry-broken, entry-go, quick-go}
+use Rattle.broken.proofs.EntryLaws.{no-entry, list_over, entry-stop, entry-broken, entry-go, quick-go}
 use Rattle.broken.proofs.position.broken_list.Goals as goal
 
 pub loop-p-init : goal.loop-p-init

@@ -1,6 +1,5 @@
 use borrow.Author.Tests.{le-leb, lt-leb}
 use Rattle.broken.specs.Internal.Seeks.{next_due}
-use borrow.Author.Rules.{rules}
 use Rattle.broken.proofs.position.entry_due.Goals as goal
 
 pub returns-in-Pairs : goal.returns-in-Pairs

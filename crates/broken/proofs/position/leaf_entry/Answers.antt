@@ -1,5 +1,4 @@
 use Rattle.broken.proofs.EntryLaws.{no-leaf-room, leaf-there, leaf-absent}
-use borrow.Author.Rules.{rules}
 use Rattle.broken.proofs.position.leaf_entry.Goals as goal
 
 pub returns-then-at-gt-WORDS : goal.returns-then-at-gt-WORDS

@@ -1,5 +1,4 @@
 use Rattle.broken.proofs.EntryLaws.{quick-wide, quick-one, quick-full, quick-pair, quick-zero}
-use borrow.Author.Rules.{rules}
 use Rattle.broken.proofs.position.quick_entry.Goals as goal
 
 pub returns-then-row-at-gt1 : goal.returns-then-row-at-gt1

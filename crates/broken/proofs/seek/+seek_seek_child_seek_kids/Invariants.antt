@@ -1,15 +1,7 @@
-use Prim.Native.Nat.{ℕ, ◌+◌, ◌-◌, ◌*◌, ◌<◌}
-use mathlib.Core.Bool.{true}
-use mathlib.Core.Path.{sym, ◌∙◌}
-use native.Mathlib.Nat.{le_refl}
-use native.Mathlib.Omega.{arith}
-use borrow.Author.Rules.{rules}
-use borrow.Author.Tests.{leb-true, not-true, not-false}
+use Prim.Native.Nat.{◌+◌, ◌-◌, ◌*◌}
 use lib.ListN.{length}
 use Rattle.form.specs.Break.{parts}
 use Rattle.broken.specs.Internal.Seeks.{next_due, Reaches}
-use Rattle.broken.proofs.SeekLaws.{is_true, told-true, told-false, start, out-of-words, kids-there, child-found, child-broken, child-index, no_index, kids-room, kids-stop, kids-go, note-room, note-stop, note-go, passed-less, past_two, joined, reached-on, kids-next, note-next, no_word, not-never, begun}
-use Rattle.broken.proofs.LeafLaws.{leaf-go, leaf-stop}
 use Rattle.broken.proofs.seek.+seek_seek_child_seek_kids.Given as goal
 
 abbrev pub decreases-seek : goal.decreases-seek

@@ -1,4 +1,3 @@
-use borrow.Author.Rules.{rules}
 use Rattle.broken.proofs.seek.fits.Goals as goal
 
 pub returns : goal.returns

@@ -1,5 +1,4 @@
 use Rattle.broken.proofs.LeafLaws.{index_in}
-use borrow.Author.Rules.{rules}
 use Rattle.broken.proofs.seek.is_index.Goals as goal
 
 pub returns-then-named : goal.returns-then-named

@@ -1,6 +1,5 @@
 use native.Mathlib.Omega.{arith}
 use Rattle.broken.proofs.LeafLaws.{preds-first, leaf-no-room, leaf-test}
-use borrow.Author.Rules.{rules}
 use Rattle.broken.proofs.seek.is_leaf_next.Goals as goal
 
 pub returns-then-preds-gt0 : goal.returns-then-preds-gt0

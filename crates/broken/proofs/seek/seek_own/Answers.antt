@@ -1,9 +1,5 @@
-use mathlib.Core.Bool.{Bool, true}
-use Prim.Native.Nat.{◌-◌}
-use borrow.Author.Rules.{rules}
+use mathlib.Core.Bool.{true}
 use native.Mathlib.Omega.{arith}
-use lib.ListN.{length}
-use Rattle.broken.specs.Internal.Seeks.{next_due, Reaches}
 use Rattle.broken.proofs.SeekLaws.{start, out-of-words, own-stop, own-go, own-stopped, own-ended, is_true, is_false, told-true, told-false}
 use Rattle.broken.proofs.seek.seek_own.Goals as goal
 

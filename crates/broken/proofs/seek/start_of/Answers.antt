@@ -1,7 +1,6 @@
 use mathlib.Core.Path.{sym, ◌∙◌}
 use native.Mathlib.Omega.{arith}
 use Rattle.broken.proofs.StartLaws.{starts-at}
-use borrow.Author.Rules.{rules}
 use Rattle.broken.proofs.seek.start_of.Goals as goal
 
 pub returns : goal.returns

@@ -1,5 +1,4 @@
 use Rattle.decls.proofs.CountLaws.{start-empty, start_plain, start-noted}
-use borrow.Author.Rules.{rules}
 use Rattle.decls.proofs.ends.body_start.Goals as goal
 
 pub returns-then-row-lt1 : goal.returns-then-row-lt1

@@ -1,6 +1,5 @@
 use native.Mathlib.Omega.{arith}
 use Rattle.decls.proofs.NotedLaws.{short-end, flag-end, note-ends}
-use borrow.Author.Rules.{rules}
 use Rattle.decls.proofs.ends.decl_end.Goals as goal
 
 pub returns-then-row-lt2 : goal.returns-then-row-lt2

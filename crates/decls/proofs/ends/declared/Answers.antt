@@ -1,6 +1,5 @@
 use borrow.Author.Tests.{le-leb, lt-leb, eq-eqb, ne_eqb}
 use Rattle.decls.specs.Internal.Noted.{count_in}
-use borrow.Author.Rules.{rules}
 use Rattle.decls.proofs.ends.declared.Goals as goal
 
 pub returns-then-row-le1 : goal.returns-then-row-le1

@@ -1,7 +1,5 @@
-use mathlib.Core.Path.{◌≡◌, refl, sym, ◌∙◌}
+use mathlib.Core.Path.{refl, sym, ◌∙◌}
 use native.Mathlib.Omega.{arith}
-use borrow.Author.Rules.{rules}
-use Rattle.decls.specs.Internal.Noted.{decls_end}
 use Rattle.decls.proofs.NotedLaws.{decls-next, decls-none}
 use Rattle.decls.proofs.ends.decls_end.Goals as goal
 

@@ -1,5 +1,4 @@
 use Rattle.decls.proofs.EndLaws.{noted-ends}
-use borrow.Author.Rules.{rules}
 use Rattle.decls.proofs.ends.skip_decls.Goals as goal
 
 pub returns : goal.returns

@@ -1,6 +1,5 @@
 use lib.ListN.{length}
 use Rattle.decls.proofs.HeadLaws.{names-many, names-tight, names-fit, names-none, names-some}
-use borrow.Author.Rules.{rules}
 use Rattle.tree.proofs.Pairs.{both}
 use Rattle.decls.proofs.heads.flag_names.Goals as goal
 

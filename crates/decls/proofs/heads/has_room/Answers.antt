@@ -1,5 +1,4 @@
 use Rattle.decls.proofs.HeadLaws.{not-few, not-long, not_short, last_fits}
-use borrow.Author.Rules.{rules}
 use Rattle.decls.proofs.heads.has_room.Goals as goal
 
 pub returns-then-words-gt32 : goal.returns-then-words-gt32

@@ -1,11 +1,7 @@
-use mathlib.Core.Path.{◌≡◌, refl, sym, ◌∙◌}
+use mathlib.Core.Path.{refl, sym, ◌∙◌}
 use native.Mathlib.Omega.{arith}
-use mathlib.Core.List.{map}
-use Prim.Native.Nat.{◌+◌, ◌-◌, ◌*◌, ◌≤◌}
-use lib.ListN.{length, get_or, drop, set, length-set}
-use Rattle.tree.specs.Form.{encode_decls}
-use Rattle.rules.specs.Fill.{unnoted, unlisted}
-use Rattle.shift.specs.Internal.Items.{store}
+use Prim.Native.Nat.{◌+◌}
+use lib.ListN.{get_or, set, length-set}
 use Rattle.decls.proofs.HeadLaws.{flags-more, flags-end}
 use Rattle.decls.proofs.heads.put_flags.Goals as goal
 

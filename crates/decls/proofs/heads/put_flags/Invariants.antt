@@ -1,12 +1,10 @@
-use mathlib.Core.Path.{◌≡◌, refl, sym, ◌∙◌}
-use native.Mathlib.Omega.{arith}
+use mathlib.Core.Path.{◌≡◌}
 use mathlib.Core.List.{map}
 use Prim.Native.Nat.{◌+◌, ◌-◌, ◌*◌, ◌≤◌}
-use lib.ListN.{length, get_or, drop, set, length-set}
+use lib.ListN.{length, drop}
 use Rattle.tree.specs.Form.{encode_decls}
 use Rattle.rules.specs.Fill.{unnoted, unlisted}
 use Rattle.shift.specs.Internal.Items.{store}
-use Rattle.decls.proofs.HeadLaws.{flags-more, flags-end}
 use Rattle.decls.proofs.heads.put_flags.Given as goal
 
 abbrev pub invariant-loop-i : goal.invariant-loop-i

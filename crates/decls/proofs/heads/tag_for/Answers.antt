@@ -1,4 +1,3 @@
-use borrow.Author.Rules.{rules}
 use Rattle.decls.proofs.heads.tag_for.Goals as goal
 
 pub returns-then-full : goal.returns-then-full

@@ -3,7 +3,6 @@ use native.Mathlib.Omega.{arith}
 use Rattle.shift.proofs.ItemLaws.{not_yes, not-no}
 use lib.ListN.{length}
 use Rattle.decls.proofs.HeadLaws.{flagged-none, flagged-some, fit_all, fit-test, parts-fit}
-use borrow.Author.Rules.{rules}
 use Rattle.tree.proofs.Pairs.{both}
 use Rattle.decls.proofs.heads.write_flagged.Goals as goal
 

@@ -5,7 +5,6 @@ use Rattle.shift.proofs.ItemLaws.{not_yes, not-no}
 use lib.ListN.{length, length-set}
 use Rattle.decls.specs.Internal.Noted.{kept_parts}
 use Rattle.decls.proofs.HeadLaws.{noted-high, noted-tight, noted-none, noted-tagged, head-written, fit_all, fit-test, parts-fit}
-use borrow.Author.Rules.{rules}
 use Rattle.decls.proofs.heads.write_noted.Goals as goal
 
 pub returns-then-op-gt852 : goal.returns-then-op-gt852

@@ -1,9 +1,6 @@
-use mathlib.Core.Path.{◌≡◌, refl, sym}
+use mathlib.Core.Path.{refl, sym}
 use native.Mathlib.Nat.{zero-add}
 use native.Mathlib.Omega.{arith}
-use borrow.Author.Rules.{rules}
-use Prim.Native.Nat.{◌+◌, ◌-◌}
-use lib.ListN.{length, drop}
 use Rattle.decls.specs.Internal.Noted.{kept_in}
 use Rattle.decls.proofs.HeadLaws.{kept-bound, kept_more, kept-end}
 use Rattle.decls.proofs.parts.count_kept.Goals as goal

@@ -1,11 +1,7 @@
-use mathlib.Core.Path.{◌≡◌, refl, sym}
-use native.Mathlib.Nat.{zero-add}
-use native.Mathlib.Omega.{arith}
-use borrow.Author.Rules.{rules}
+use mathlib.Core.Path.{◌≡◌}
 use Prim.Native.Nat.{◌+◌, ◌-◌}
 use lib.ListN.{length, drop}
 use Rattle.decls.specs.Internal.Noted.{kept_in}
-use Rattle.decls.proofs.HeadLaws.{kept-bound, kept_more, kept-end}
 use Rattle.decls.proofs.parts.count_kept.Given as goal
 
 abbrev pub invariant-loop-i : goal.invariant-loop-i

@@ -1,6 +1,5 @@
 use native.Mathlib.Omega.{arith}
 use Rattle.decls.proofs.NotedLaws.{filled_none, past-none, flag-none, flag-note}
-use borrow.Author.Rules.{rules}
 use Rattle.decls.proofs.parts.is_noted.Goals as goal
 
 pub returns-then-w-ne0 : goal.returns-then-w-ne0

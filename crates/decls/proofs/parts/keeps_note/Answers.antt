@@ -1,9 +1,5 @@
-use mathlib.Core.Path.{◌≡◌, refl, sym, ◌∙◌}
+use mathlib.Core.Path.{refl, sym, ◌∙◌}
 use native.Mathlib.Omega.{arith}
-use borrow.Author.Rules.{rules}
-use Prim.Native.Nat.{◌-◌}
-use lib.ListN.{length, drop}
-use Rattle.decls.specs.Internal.Noted.{keeps_note}
 use Rattle.decls.proofs.NotedLaws.{note-next, note-end}
 use Rattle.decls.proofs.parts.keeps_note.Goals as goal
 

@@ -1,4 +1,3 @@
-use borrow.Author.Rules.{rules}
 use Rattle.decls.proofs.parts.part_end.Goals as goal
 
 pub returns-else-full : goal.returns-else-full

@@ -1,6 +1,5 @@
 use native.Mathlib.Omega.{arith}
 use Rattle.decls.proofs.NotedLaws.{part-skipped, part-gone, part-words, part-long, part_none, part-put}
-use borrow.Author.Rules.{rules}
 use Rattle.tree.proofs.Pairs.{both}
 use Rattle.decls.proofs.parts.put_part.Goals as goal
 

@@ -1,11 +1,6 @@
-use mathlib.Core.Path.{◌≡◌, refl, sym, ◌∙◌}
+use mathlib.Core.Path.{refl, sym, ◌∙◌}
 use native.Mathlib.Omega.{arith}
-use borrow.Author.Rules.{rules}
-use Prim.Native.Nat.{◌+◌, ◌-◌, ◌≤◌}
-use lib.ListN.{length, drop}
-use Rattle.shift.specs.Internal.Items.{store}
 use Rattle.replace.proofs.NameLaws.{store-empty}
-use Rattle.decls.specs.Internal.Noted.{kept_parts}
 use Rattle.decls.proofs.NotedLaws.{part-ends, parts-room, parts_more, parts-end, decl-in, part-at}
 use Rattle.decls.proofs.parts.write_parts.Goals as goal
 

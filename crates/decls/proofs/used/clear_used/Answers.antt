@@ -1,5 +1,4 @@
 use Rattle.decls.proofs.ClearLaws.{clears-short, clears-unmarked, clears-other, clears-none, clears-some}
-use borrow.Author.Rules.{rules}
 use Rattle.decls.proofs.used.clear_used.Goals as goal
 
 pub returns-then-row-to : goal.returns-then-row-to

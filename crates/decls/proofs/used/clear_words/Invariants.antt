@@ -1,13 +1,7 @@
-use mathlib.Core.Path.{◌≡◌, refl, sym, ◌∙◌}
-use native.Mathlib.Omega.{arith}
-use borrow.Author.Rules.{rules}
-use native.Mathlib.Nat.{le_refl}
+use mathlib.Core.Path.{◌≡◌}
 use Prim.Native.Nat.{◌-◌, ◌≤◌}
-use lib.ListN.{length, get_or, drop, length-set}
-use Rattle.shift.proofs.SlotLaws.{slot-most}
-use Rattle.shift.proofs.WordwiseLaws.{back_one}
+use lib.ListN.{length, get_or, drop}
 use Rattle.decls.specs.Internal.Used.{cleared, open_items}
-use Rattle.decls.proofs.ClearLaws.{cleared-next, cleared-start, cleared-end}
 use Rattle.decls.proofs.used.clear_words.Given as goal
 
 abbrev pub invariant-loop-i : goal.invariant-loop-i

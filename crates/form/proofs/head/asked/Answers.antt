@@ -1,7 +1,6 @@
 use borrow.Author.Tests.{le-leb, lt-leb}
 use Rattle.form.specs.Internal.Heads.{word_at}
 use Rattle.form.proofs.HeadLaws.{gone, here}
-use borrow.Author.Rules.{rules}
 use Rattle.form.proofs.head.asked.Goals as goal
 
 pub returns-then-row-at : goal.returns-then-row-at

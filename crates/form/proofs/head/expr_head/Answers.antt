@@ -1,6 +1,5 @@
 use Rattle.tree.specs.Tag.{expr}
 use Rattle.form.proofs.HeadLaws.{plain-head}
-use borrow.Author.Rules.{rules}
 use Rattle.form.proofs.head.expr_head.Goals as goal
 
 pub returns : goal.returns

@@ -1,6 +1,5 @@
 use mathlib.Core.Path.{refl, sym}
 use Rattle.form.proofs.LeafLaws.{leaf-tag, other_tag, leaf-deep, leaf-gone, leaf-short, leaf-here}
-use borrow.Author.Rules.{rules}
 use Rattle.form.proofs.head.is_leaf.Goals as goal
 
 pub returns-then-depth-eq0 : goal.returns-then-depth-eq0

@@ -1,10 +1,6 @@
 use mathlib.Core.Path.{sym, ◌∙◌}
-use mathlib.Core.Path.{◌≡◌, refl}
+use mathlib.Core.Path.{refl}
 use native.Mathlib.Omega.{arith}
-use borrow.Author.Rules.{rules}
-use lib.ListN.{drop}
-use Rattle.form.specs.Decode.{names}
-use Rattle.form.specs.Internal.Heads.{names_at}
 use Rattle.form.proofs.HeadLaws.{asked_in, names_more, names-stop, names-none}
 use Rattle.form.proofs.head.names_end.Goals as goal
 

@@ -1,11 +1,7 @@
-use mathlib.Core.Path.{sym, ◌∙◌}
-use mathlib.Core.Path.{◌≡◌, refl}
-use native.Mathlib.Omega.{arith}
-use borrow.Author.Rules.{rules}
+use mathlib.Core.Path.{◌≡◌}
 use lib.ListN.{drop}
 use Rattle.form.specs.Decode.{names}
 use Rattle.form.specs.Internal.Heads.{names_at}
-use Rattle.form.proofs.HeadLaws.{asked_in, names_more, names-stop, names-none}
 use Rattle.form.proofs.head.names_end.Given as goal
 
 abbrev pub invariant-loop-left : goal.invariant-loop-left

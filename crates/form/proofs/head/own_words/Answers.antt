@@ -3,7 +3,6 @@ use Rattle.tree.specs.Tag.{own_of}
 use Rattle.form.specs.Decode.{read}
 use Rattle.form.specs.Internal.Heads.{head_at}
 use Rattle.form.proofs.HeadLaws.{no_kids}
-use borrow.Author.Rules.{rules}
 use Rattle.form.proofs.head.own_words.Goals as goal
 
 pub returns-in-Unknown : goal.returns-in-Unknown

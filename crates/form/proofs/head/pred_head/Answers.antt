@@ -1,6 +1,5 @@
 use Rattle.tree.specs.Tag.{pred}
 use Rattle.form.proofs.HeadLaws.{plain-head}
-use borrow.Author.Rules.{rules}
 use Rattle.form.proofs.head.pred_head.Goals as goal
 
 pub returns : goal.returns

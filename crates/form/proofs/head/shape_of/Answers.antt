@@ -1,5 +1,4 @@
 use Rattle.form.proofs.HeadLaws.{shape-yes, shape-not}
-use borrow.Author.Rules.{rules}
 use Rattle.form.proofs.head.shape_of.Goals as goal
 
 pub returns-then-expression : goal.returns-then-expression

@@ -1,10 +1,8 @@
 use native.Mathlib.Omega.{arith}
-use borrow.Author.Tests.{not-true}
 use Rattle.tree.specs.Form.{pick}
 use Rattle.tree.specs.Tag.{expr, pred, own_of, pred_tags}
 use Rattle.tree.proofs.Ranges.{pred-on}
 use Rattle.form.proofs.HeadLaws.{shape-head, shape-not}
-use borrow.Author.Rules.{rules}
 use Rattle.form.proofs.head.tag_words.Goals as goal
 
 pub returns-in-351-to-352 : goal.returns-in-351-to-352

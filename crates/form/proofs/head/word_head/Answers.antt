@@ -1,7 +1,6 @@
 use mathlib.Core.Path.{sym, ◌∙◌}
 use native.Mathlib.Omega.{arith}
 use Rattle.form.proofs.HeadLaws.{asked_in, ask-go, ask-stop, no_kids}
-use borrow.Author.Rules.{rules}
 use Rattle.form.proofs.head.word_head.Goals as goal
 
 pub returns-in_default : goal.returns-in_default

@@ -1,12 +1,6 @@
-use mathlib.Core.Path.{◌≡◌, refl, ◌∙◌}
+use mathlib.Core.Path.{refl, ◌∙◌}
 use native.Mathlib.Omega.{arith}
-use borrow.Author.Rules.{rules}
-use mathlib.Core.List.{List}
-use Prim.Native.Nat.{ℕ, ◌-◌, ◌<◌, ◌≤◌}
-use lib.ListN.{length, get_or, drop}
-use Rattle.line.specs.Scan.{scan, group}
-use Rattle.line.specs.Internal.Places.{Grouped}
-use Rattle.line.specs.declared.group.Group.{Group}
+use lib.ListN.{get_or}
 use Rattle.line.proofs.ScanLaws.{group-past, group-other, group-first, scan-bad, scan-end, scan-more, scan-past, mark-few, mark-is, depth-few}
 use Rattle.line.proofs.group.read_group.Goals as goal
 

@@ -1,13 +1,10 @@
-use mathlib.Core.Path.{◌≡◌, refl, ◌∙◌}
-use native.Mathlib.Omega.{arith}
-use borrow.Author.Rules.{rules}
+use mathlib.Core.Path.{◌≡◌}
 use mathlib.Core.List.{List}
 use Prim.Native.Nat.{ℕ, ◌-◌, ◌<◌, ◌≤◌}
-use lib.ListN.{length, get_or, drop}
+use lib.ListN.{length, drop}
 use Rattle.line.specs.Scan.{scan, group}
 use Rattle.line.specs.Internal.Places.{Grouped}
 use Rattle.line.specs.declared.group.Group.{Group}
-use Rattle.line.proofs.ScanLaws.{group-past, group-other, group-first, scan-bad, scan-end, scan-more, scan-past, mark-few, mark-is, depth-few}
 use Rattle.line.proofs.group.read_group.Given as goal
 
 abbrev pub invariant-loop-p : goal.invariant-loop-p

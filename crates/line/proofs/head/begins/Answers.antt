@@ -1,8 +1,5 @@
-use mathlib.Core.Path.{◌≡◌, refl, sym, ◌∙◌}
+use mathlib.Core.Path.{refl, sym, ◌∙◌}
 use native.Mathlib.Omega.{arith}
-use Prim.Native.Nat.{◌-◌}
-use lib.ListN.{length, drop}
-use Rattle.line.specs.Line.{prefix}
 use Rattle.line.proofs.LineLaws.{prefix-short, prefix-other, prefix-more, prefix-all, not-begun, begun}
 use Rattle.line.proofs.head.begins.Goals as goal
 

@@ -1,9 +1,7 @@
-use mathlib.Core.Path.{◌≡◌, refl, sym, ◌∙◌}
-use native.Mathlib.Omega.{arith}
+use mathlib.Core.Path.{◌≡◌}
 use Prim.Native.Nat.{◌-◌}
 use lib.ListN.{length, drop}
 use Rattle.line.specs.Line.{prefix}
-use Rattle.line.proofs.LineLaws.{prefix-short, prefix-other, prefix-more, prefix-all, not-begun, begun}
 use Rattle.line.proofs.head.begins.Given as goal
 
 abbrev pub invariant-loop-i : goal.invariant-loop-i

@@ -1,6 +1,5 @@
 use Rattle.rules.specs.declared.command.Command.TheVariants.{Shift, Free, Bind, Fill, Prune, Point, Member, Named}
 use Rattle.line.proofs.LineLaws.{headed}
-use borrow.Author.Rules.{rules}
 use Rattle.line.proofs.head.begins_with.Goals as goal
 
 pub returns-in-Shift : goal.returns-in-Shift

@@ -1,9 +1,5 @@
-use Prim.Native.Nat.{◌+◌, ◌-◌}
 use native.Mathlib.Omega.{arith}
-use borrow.Author.Rules.{rules}
-use lib.ListN.{length}
-use Rattle.rules.specs.Command.{commands}
-use Rattle.line.proofs.LineLaws.{From, from_first, head-none, head_few, head-here, head-later}
+use Rattle.line.proofs.LineLaws.{from_first, head-none, head_few, head-here, head-later}
 use Rattle.line.proofs.head.read_head.Goals as goal
 
 pub loop-command-init : goal.loop-command-init

@@ -1,9 +1,7 @@
 use Prim.Native.Nat.{◌+◌, ◌-◌}
-use native.Mathlib.Omega.{arith}
-use borrow.Author.Rules.{rules}
 use lib.ListN.{length}
 use Rattle.rules.specs.Command.{commands}
-use Rattle.line.proofs.LineLaws.{From, from_first, head-none, head_few, head-here, head-later}
+use Rattle.line.proofs.LineLaws.{From}
 use Rattle.line.proofs.head.read_head.Given as goal
 
 abbrev pub invariant-loop-command : goal.invariant-loop-command

@@ -1,6 +1,4 @@
-use borrow.Author.Rules.{rules}
 use Rattle.line.proofs.LineLaws.{last-broken, last-stop, last-go, closing-past, closing-other, closing-long, closing-is}
-use borrow.Author.Rules.{rules}
 use Rattle.line.proofs.line.last_group.Goals as goal
 
 pub returns-in_default : goal.returns-in_default

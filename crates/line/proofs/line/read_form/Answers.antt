@@ -1,8 +1,6 @@
-use borrow.Author.Rules.{rules}
 use mir.Syntax.{w32}
 use mir.ValLaws.{to_z-of_z}
 use Rattle.line.proofs.LineLaws.{form-stop, form-go}
-use borrow.Author.Rules.{rules}
 use Rattle.line.proofs.line.read_form.Goals as goal
 
 pub returns-in_default : goal.returns-in_default

@@ -3,7 +3,6 @@ use Rattle.line.specs.Line.{args, list_words}
 use Rattle.spell.specs.Put.{put}
 use Rattle.rules.specs.declared.command.Args.TheVariants.{Nothing, Offset, Names, Pairs, Places}
 use Rattle.line.proofs.LineLaws.{line-long, line-unknown, line-args}
-use borrow.Author.Rules.{rules}
 use Rattle.tree.proofs.Pairs.{both}
 use Rattle.line.proofs.line.read_line.Goals as goal
 

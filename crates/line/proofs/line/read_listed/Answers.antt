@@ -1,6 +1,4 @@
-use borrow.Author.Rules.{rules}
 use Rattle.line.proofs.LineLaws.{list-bad, list-go, list-kept}
-use borrow.Author.Rules.{rules}
 use Rattle.line.proofs.line.read_listed.Goals as goal
 
 pub returns-in_default : goal.returns-in_default

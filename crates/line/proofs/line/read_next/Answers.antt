@@ -1,8 +1,6 @@
-use borrow.Author.Rules.{rules}
 use mir.Syntax.{w32}
 use mir.ValLaws.{to_z-of_z}
 use Rattle.line.proofs.LineLaws.{next_past, next-other, next-go}
-use borrow.Author.Rules.{rules}
 use Rattle.line.proofs.line.read_next.Goals as goal
 
 pub returns-then-line-at : goal.returns-then-line-at

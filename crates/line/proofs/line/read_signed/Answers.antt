@@ -1,7 +1,5 @@
-use borrow.Author.Rules.{rules}
 use Rattle.line.proofs.LineLaws.{signed-bad, signed-go}
 use Rattle.line.proofs.OffsetLaws.{offset-back}
-use borrow.Author.Rules.{rules}
 use Rattle.line.proofs.line.read_signed.Goals as goal
 
 pub returns-in_default : goal.returns-in_default

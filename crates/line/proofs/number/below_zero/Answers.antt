@@ -1,5 +1,4 @@
 use Rattle.line.proofs.OffsetLaws.{below_none, below-far, below-fits, below-is}
-use borrow.Author.Rules.{rules}
 use Rattle.line.proofs.number.below_zero.Goals as goal
 
 pub returns-then-v-eq0 : goal.returns-then-v-eq0

@@ -1,7 +1,6 @@
 use Rattle.line.specs.Scan.{finished}
 use Rattle.line.specs.Internal.Places.{number_at}
 use Rattle.line.proofs.ScanLaws.{number-end}
-use borrow.Author.Rules.{rules}
 use Rattle.line.proofs.number.ended.Goals as goal
 
 pub returns-in-Opened : goal.returns-in-Opened

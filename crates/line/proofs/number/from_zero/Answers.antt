@@ -1,5 +1,4 @@
 use Rattle.line.proofs.OffsetLaws.{from-far, from_is}
-use borrow.Author.Rules.{rules}
 use Rattle.line.proofs.number.from_zero.Goals as goal
 
 pub returns-then-v-gt2147483647 : goal.returns-then-v-gt2147483647

@@ -1,12 +1,9 @@
-use mathlib.Core.Path.{◌≡◌, refl, sym, ◌∙◌}
-use native.Mathlib.Omega.{arith}
-use borrow.Author.Rules.{rules}
+use mathlib.Core.Path.{◌≡◌}
 use Prim.Native.Nat.{◌-◌}
 use lib.ListN.{length, drop}
 use Rattle.line.specs.Scan.{number}
 use Rattle.line.specs.Internal.Places.{number_at}
 use Rattle.line.specs.declared.turn.State.TheVariants.{Spaced}
-use Rattle.line.proofs.ScanLaws.{number-low, number-high, number-bad, number_more, number_past}
 use Rattle.line.proofs.number.read_number.Given as goal
 
 abbrev pub invariant-loop-p : goal.invariant-loop-p

@@ -1,6 +1,5 @@
 use mathlib.Core.Path.{sym, ◌∙◌}
 use Rattle.line.proofs.OffsetLaws.{offset-past, minus-bad, minus_is, plain-bad, plain-is}
-use borrow.Author.Rules.{rules}
 use Rattle.line.proofs.number.read_offset.Goals as goal
 
 pub returns-then-line-at : goal.returns-then-line-at

@@ -1,4 +1,3 @@
-use borrow.Author.Rules.{rules}
 use Rattle.line.proofs.turn.after_close.Goals as goal
 
 pub returns-in-Opened : goal.returns-in-Opened

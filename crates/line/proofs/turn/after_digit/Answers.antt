@@ -1,5 +1,4 @@
 use Rattle.line.specs.Scan.{on_digit}
-use borrow.Author.Rules.{rules}
 use Rattle.line.proofs.turn.after_digit.Goals as goal
 
 pub returns-in-Opened : goal.returns-in-Opened

@@ -1,6 +1,5 @@
 use borrow.Author.Tests.{eq-eqb, ne_eqb}
 use Rattle.line.specs.Scan.{depth_after}
-use borrow.Author.Rules.{rules}
 use Rattle.line.proofs.turn.depth_after.Goals as goal
 
 pub returns-then-byte-eq91 : goal.returns-then-byte-eq91

@@ -2,7 +2,6 @@ use Prim.Native.Nat.{◌+◌, ◌*◌}
 use native.Mathlib.Omega.{arith}
 use borrow.Author.Tests.{le-leb, lt-leb}
 use Rattle.line.specs.Scan.{on_digit}
-use borrow.Author.Rules.{rules}
 use Rattle.line.proofs.turn.longer.Goals as goal
 
 pub returns-then-v-eq0 : goal.returns-then-v-eq0

@@ -1,7 +1,6 @@
 use native.Mathlib.Omega.{arith}
 use borrow.Author.Tests.{eq-eqb, ne_eqb, le-leb, lt-leb}
 use Rattle.line.specs.Scan.{turn}
-use borrow.Author.Rules.{rules}
 use Rattle.line.proofs.turn.next.Goals as goal
 
 pub returns-then-byte-eq32 : goal.returns-then-byte-eq32

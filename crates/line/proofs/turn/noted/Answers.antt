@@ -1,5 +1,4 @@
 use Rattle.line.specs.Scan.{note}
-use borrow.Author.Rules.{rules}
 use Rattle.line.proofs.turn.noted.Goals as goal
 
 pub returns-in-Opened : goal.returns-in-Opened

@@ -1,6 +1,5 @@
 use Rattle.spell.proofs.WriteLaws.{wrote_none, wrote-out, wrote-byte}
 use Rattle.line.specs.Scan.{mark_words}
-use borrow.Author.Rules.{rules}
 use Rattle.line.proofs.turn.put_mark.Goals as goal
 
 pub returns-in_default : goal.returns-in_default

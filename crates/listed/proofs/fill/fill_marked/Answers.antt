@@ -4,7 +4,6 @@ use Rattle.shift.proofs.CheckedLaws.{passed}
 use Rattle.replace.specs.Internal.Pieces.{table_of, Ready, fill_plan}
 use Rattle.replace.proofs.BuildLaws.{rest_part}
 use Rattle.listed.proofs.FillLaws.{same-filled}
-use borrow.Author.Rules.{rules}
 use Rattle.tree.proofs.Pairs.{both}
 use Rattle.listed.proofs.fill.fill_marked.Goals as goal
 

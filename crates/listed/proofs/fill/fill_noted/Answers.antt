@@ -5,7 +5,6 @@ use Rattle.replace.specs.Internal.Pieces.{table_of}
 use Rattle.replace.proofs.BuildLaws.{built-fits}
 use Rattle.decls.proofs.HeadLaws.{room-enough}
 use Rattle.listed.proofs.FillLaws.{noted-placed}
-use borrow.Author.Rules.{rules}
 use Rattle.tree.proofs.Pairs.{both}
 use Rattle.listed.proofs.fill.fill_noted.Goals as goal
 

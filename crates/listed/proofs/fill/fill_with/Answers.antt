@@ -1,6 +1,5 @@
 use Rattle.shift.proofs.CheckedLaws.{passed}
 use Rattle.listed.proofs.FillLaws.{filled-plain, filled-noted}
-use borrow.Author.Rules.{rules}
 use Rattle.tree.proofs.Pairs.{both}
 use Rattle.listed.proofs.fill.fill_with.Goals as goal
 

@@ -20,7 +20,6 @@ use Rattle.form.specs.declared.answer.Kind.TheVariants.{Predicate}
 use Rattle.form.specs.declared.answer.ListKind.TheVariants.{Places}
 use Rattle.listed.proofs.FillLaws.{fill-small, fill-long, fill-missing, fill-list-long, fill-no-list, fill-other, fill_more, placing, places-ready, fill-row}
 use Rattle.decls.proofs.RowHeads.{the-quant, the-count, the-length}
-use borrow.Author.Rules.{rules}
 use Rattle.tree.proofs.Pairs.{both}
 use Rattle.listed.proofs.fill.instantiate.Goals as goal
 
@@ -45,34 +44,34 @@ returns-in_default c = let left = leaves_by _ _ _ _ _ c.depth_left_by-depth.ensu
 
 pub returns-then-not-listed : goal.returns-then-not-listed
 returns-then-not-listed c = let checked : Checked Predicate c.args.row.now (take (length c.args.row.now) c.mark_row.new.work) (length c.args.row.now) =
-        let left = leaves_by _ _ _ _ _ c.depth_left_by-depth.ensures in
-        reading-checked _ left.most Predicate c.args.row.now _ (length c.args.row.now) _ refl _ _ c.if-row-gt-WORDS.false c.mark_row.ensures.value c.in-Taken.is c.mark_row.ensures.marked in
+    let left = leaves_by _ _ _ _ _ c.depth_left_by-depth.ensures in
+    reading-checked _ left.most Predicate c.args.row.now _ (length c.args.row.now) _ refl _ _ c.if-row-gt-WORDS.false c.mark_row.ensures.value c.in-Taken.is c.mark_row.ensures.marked in
     both (λ v w. record { value = v; out_after = w }) (refused-at _ _ _ _ _ (fill-no-list c.args.list.now c.args.row.now _ _ c.if-work-lt16384.false _ checked c.if-list-gt-WORDS.false (listing-no _ _ _ _ _ _ c.mark_entries-listed.ensures (not-true _ c.if-not-listed.true))) c.broken_list.ensures)
 
 pub returns-then-names-eq0 : goal.returns-then-names-eq0
 unfolding empty_table
 returns-then-names-eq0 c = let checked : Checked Predicate c.args.row.now (take (length c.args.row.now) c.mark_row.new.work) (length c.args.row.now) =
-        let left = leaves_by _ _ _ _ _ c.depth_left_by-depth.ensures in
-        reading-checked _ left.most Predicate c.args.row.now _ (length c.args.row.now) _ refl _ _ c.if-row-gt-WORDS.false c.mark_row.ensures.value c.in-Taken.is c.mark_row.ensures.marked in
+    let left = leaves_by _ _ _ _ _ c.depth_left_by-depth.ensures in
+    reading-checked _ left.most Predicate c.args.row.now _ (length c.args.row.now) _ refl _ _ c.if-row-gt-WORDS.false c.mark_row.ensures.value c.in-Taken.is c.mark_row.ensures.marked in
     both (λ v w. record { value = v; out_after = w }) (refused _ _ _ _ (fill-other c.args.list.now c.args.row.now _ _ c.if-work-lt16384.false _ checked c.if-list-gt-WORDS.false _ _ _ _ c.mark_entries-listed.ensures (not-false _ c.if-not-listed.false) _ c.declared-names.ensures c.if-names-eq0.true) refl)
 
 pub returns-then-n-listed : goal.returns-then-n-listed
 unfolding empty_table
 returns-then-n-listed c = let checked : Checked Predicate c.args.row.now (take (length c.args.row.now) c.mark_row.new.work) (length c.args.row.now) =
-        let left = leaves_by _ _ _ _ _ c.depth_left_by-depth.ensures in
-        reading-checked _ left.most Predicate c.args.row.now _ (length c.args.row.now) _ refl _ _ c.if-row-gt-WORDS.false c.mark_row.ensures.value c.in-Taken.is c.mark_row.ensures.marked in
+    let left = leaves_by _ _ _ _ _ c.depth_left_by-depth.ensures in
+    reading-checked _ left.most Predicate c.args.row.now _ (length c.args.row.now) _ refl _ _ c.if-row-gt-WORDS.false c.mark_row.ensures.value c.in-Taken.is c.mark_row.ensures.marked in
     both (λ v w. record { value = v; out_after = w }) (refused _ _ _ _ (fill_more c.args.list.now c.args.row.now _ _ c.if-work-lt16384.false _ checked c.if-list-gt-WORDS.false _ _ _ _ c.mark_entries-listed.ensures (not-false _ c.if-not-listed.false) _ c.declared-names.ensures c.if-names-eq0.false c.if-n-listed.true) refl)
 
 pub fill_marked-requires : goal.fill_marked-requires
 unfolding empty_table
 fill_marked-requires c = let checked : Checked Predicate c.args.row.now (take (length c.args.row.now) c.mark_row.new.work) (length c.args.row.now) =
-        let left = leaves_by _ _ _ _ _ c.depth_left_by-depth.ensures in
-        reading-checked _ left.most Predicate c.args.row.now _ (length c.args.row.now) _ refl _ _ c.if-row-gt-WORDS.false c.mark_row.ensures.value c.in-Taken.is c.mark_row.ensures.marked in
+    let left = leaves_by _ _ _ _ _ c.depth_left_by-depth.ensures in
+    reading-checked _ left.most Predicate c.args.row.now _ (length c.args.row.now) _ refl _ _ c.if-row-gt-WORDS.false c.mark_row.ensures.value c.in-Taken.is c.mark_row.ensures.marked in
     let few : c.declared-names.result ≤ 32 =
-        let q = the-quant _ _ _ checked _ c.declared-names.ensures c.if-names-eq0.false in
-        let m = q.most in
-        let n = the-count _ _ _ checked _ c.declared-names.ensures q in
-        omega arith in
+    let q = the-quant _ _ _ checked _ c.declared-names.ensures c.if-names-eq0.false in
+    let m = q.most in
+    let n = the-count _ _ _ checked _ c.declared-names.ensures q in
+    omega arith in
     let work = c.mark_row.new.work in
     let y = placing c.args.list.now work _ _ _ (listing-kept Places c.args.list.now c.mark_entries-listed.new.work work _ _ _ c.mark_row.ensures.work_unchanged c.mark_entries-listed.ensures) (not-false _ c.if-not-listed.false) c.if-n-listed.false in
     let q = the-quant _ _ _ checked _ c.declared-names.ensures c.if-names-eq0.false in
@@ -89,13 +88,13 @@ fill_marked-requires c = let checked : Checked Predicate c.args.row.now (take (l
 pub returns : goal.returns
 unfolding empty_table
 returns c = let checked : Checked Predicate c.args.row.now (take (length c.args.row.now) c.mark_row.new.work) (length c.args.row.now) =
-        let left = leaves_by _ _ _ _ _ c.depth_left_by-depth.ensures in
-        reading-checked _ left.most Predicate c.args.row.now _ (length c.args.row.now) _ refl _ _ c.if-row-gt-WORDS.false c.mark_row.ensures.value c.in-Taken.is c.mark_row.ensures.marked in
+    let left = leaves_by _ _ _ _ _ c.depth_left_by-depth.ensures in
+    reading-checked _ left.most Predicate c.args.row.now _ (length c.args.row.now) _ refl _ _ c.if-row-gt-WORDS.false c.mark_row.ensures.value c.in-Taken.is c.mark_row.ensures.marked in
     let few : c.declared-names.result ≤ 32 =
-        let q = the-quant _ _ _ checked _ c.declared-names.ensures c.if-names-eq0.false in
-        let m = q.most in
-        let n = the-count _ _ _ checked _ c.declared-names.ensures q in
-        omega arith in
+    let q = the-quant _ _ _ checked _ c.declared-names.ensures c.if-names-eq0.false in
+    let m = q.most in
+    let n = the-count _ _ _ checked _ c.declared-names.ensures q in
+    omega arith in
     let work = c.mark_row.new.work in
     let y = placing c.args.list.now work _ _ _ (listing-kept Places c.args.list.now c.mark_entries-listed.new.work work _ _ _ c.mark_row.ensures.work_unchanged c.mark_entries-listed.ensures) (not-false _ c.if-not-listed.false) c.if-n-listed.false in
     let left = leaves_by _ _ _ _ _ c.depth_left_by-depth.ensures in

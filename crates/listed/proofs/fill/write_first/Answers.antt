@@ -1,6 +1,5 @@
 use mathlib.Core.Path.{sym}
 use lib.Seq.{length-take-le}
-use borrow.Author.Rules.{rules}
 use Rattle.listed.proofs.fill.write_first.Goals as goal
 
 pub slice_bounds-write_head-end : goal.slice_bounds-write_head-end

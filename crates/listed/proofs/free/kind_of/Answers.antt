@@ -1,4 +1,3 @@
-use borrow.Author.Rules.{rules}
 use Rattle.listed.proofs.free.kind_of.Goals as goal
 
 pub returns-then-is_expr : goal.returns-then-is_expr

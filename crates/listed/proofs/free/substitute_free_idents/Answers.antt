@@ -16,7 +16,6 @@ use Rattle.replace.proofs.SmallLaws.{leaves_by}
 use Rattle.form.specs.declared.answer.Kind.TheVariants.{Either}
 use Rattle.form.specs.declared.answer.ListKind.TheVariants.{Pairs}
 use Rattle.listed.proofs.FreeLaws.{free-small, free-long, free-missing, free-list-long, free-no-list, free-bad, pairing, pairs-ready, free-row}
-use borrow.Author.Rules.{rules}
 use Rattle.tree.proofs.Pairs.{both}
 use Rattle.listed.proofs.free.substitute_free_idents.Goals as goal
 

@@ -1,7 +1,6 @@
 use mathlib.Core.Path.{refl, ◌∙◌}
 use Prim.Native.Nat.{◌-◌}
 use lib.ListN.{length, take, drop}
-use borrow.Author.Rules.{rules}
 use Rattle.shift.proofs.CheckedLaws.{passed}
 use Rattle.replace.specs.Internal.Pieces.{table_of, Ready, free_plan}
 use Rattle.replace.proofs.BuildLaws.{rest_part, same-replaced}

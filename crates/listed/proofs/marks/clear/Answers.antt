@@ -1,9 +1,7 @@
-use mathlib.Core.Path.{◌≡◌, refl, sym, ◌∙◌}
+use mathlib.Core.Path.{refl, sym, ◌∙◌}
 use native.Mathlib.Omega.{arith}
-use Prim.Native.Nat.{◌+◌, ◌-◌}
 use native.Mathlib.Nat.{add-zero, sub-zero}
-use lib.ListN.{length, replicate, length-set}
-use Rattle.shift.specs.Internal.Items.{store}
+use lib.ListN.{length-set}
 use Rattle.replace.proofs.MarkLaws.{clear-more, clear_none}
 use Rattle.listed.proofs.marks.clear.Goals as goal
 

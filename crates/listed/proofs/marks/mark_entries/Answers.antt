@@ -1,5 +1,4 @@
 use Rattle.replace.proofs.MarkLaws.{entries-front}
-use borrow.Author.Rules.{rules}
 use Rattle.listed.proofs.marks.mark_entries.Goals as goal
 
 pub returns : goal.returns

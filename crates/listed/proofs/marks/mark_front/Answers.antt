@@ -2,7 +2,6 @@ use mathlib.Core.Path.{sym, ◌∙◌}
 use native.Mathlib.Omega.{arith}
 use Rattle.replace.proofs.MarkLaws.{marked-front}
 use Rattle.listed.proofs.ShallowLaws.{taken-shallow, taken-deep, refused-row}
-use borrow.Author.Rules.{rules}
 use Rattle.tree.proofs.Pairs.{both}
 use Rattle.listed.proofs.marks.mark_front.Goals as goal
 

@@ -3,7 +3,6 @@ use Prim.Native.Nat.{◌≤◌}
 use native.Mathlib.Omega.{arith}
 use lib.ListN.{length, take}
 use lib.Seq.{length-take-le}
-use borrow.Author.Rules.{rules}
 use Rattle.replace.proofs.MarkLaws.{front_kept}
 use Rattle.tree.proofs.Pairs.{both}
 use Rattle.listed.proofs.marks.mark_row.Goals as goal

@@ -1,4 +1,3 @@
-use borrow.Author.Rules.{rules}
 use Rattle.listed.proofs.ShallowLaws.{shallow-bad, shallow-whole, shallow-part}
 use Rattle.tree.proofs.Pairs.{both}
 use Rattle.listed.proofs.marks.mark_shallow.Goals as goal

@@ -1,5 +1,4 @@
 use Rattle.listed.proofs.ShallowLaws.{list-refused, list-long}
-use borrow.Author.Rules.{rules}
 use Rattle.listed.proofs.marks.refuse_list.Goals as goal
 
 pub returns-then-is_form : goal.returns-then-is_form

@@ -1,4 +1,3 @@
-use borrow.Author.Rules.{rules}
 use Rattle.listed.proofs.ShallowLaws.{told-shallow}
 use Rattle.listed.proofs.marks.shallow_form.Goals as goal
 

@@ -1,7 +1,6 @@
 use native.Mathlib.Omega.{arith}
 use Rattle.member.proofs.BodyLaws.{places, names-all}
 use Rattle.member.proofs.FillBodyLaws.{plain-filling, body-some}
-use borrow.Author.Rules.{rules}
 use Rattle.member.proofs.filling.fill_body.Goals as goal
 
 pub offset_bounds-row-at : goal.offset_bounds-row-at

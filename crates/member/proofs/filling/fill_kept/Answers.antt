@@ -2,7 +2,6 @@ use mathlib.Core.Path.{sym}
 use lib.Seq.{length-take-le}
 use Rattle.shift.proofs.CheckedLaws.{passed}
 use Rattle.member.proofs.FillingLaws.{kept_same}
-use borrow.Author.Rules.{rules}
 use Rattle.tree.proofs.Pairs.{both}
 use Rattle.member.proofs.filling.fill_kept.Goals as goal
 

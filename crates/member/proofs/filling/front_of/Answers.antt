@@ -1,8 +1,4 @@
-use borrow.Author.Rules.{rules}
-use mathlib.Core.Path.{◌≡◌, refl, sym, ◌∙◌}
-use Prim.Native.Nat.{◌-◌}
-use lib.ListN.{length, drop}
-use Rattle.member.specs.Internal.Member.{front_of}
+use mathlib.Core.Path.{refl, sym, ◌∙◌}
 use Rattle.member.proofs.FillingLaws.{front-more, front-stop, front-end}
 use Rattle.member.proofs.filling.front_of.Goals as goal
 

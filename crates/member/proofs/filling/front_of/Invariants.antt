@@ -1,9 +1,7 @@
-use borrow.Author.Rules.{rules}
-use mathlib.Core.Path.{◌≡◌, refl, sym, ◌∙◌}
+use mathlib.Core.Path.{◌≡◌}
 use Prim.Native.Nat.{◌-◌}
 use lib.ListN.{length, drop}
 use Rattle.member.specs.Internal.Member.{front_of}
-use Rattle.member.proofs.FillingLaws.{front-more, front-stop, front-end}
 use Rattle.member.proofs.filling.front_of.Given as goal
 
 abbrev pub invariant-loop-i : goal.invariant-loop-i

@@ -1,10 +1,7 @@
-use borrow.Author.Rules.{rules}
 use native.Mathlib.Omega.{arith}
-use mathlib.Core.Path.{◌≡◌, refl, ap, sym, ◌∙◌}
+use mathlib.Core.Path.{refl, ap, sym, ◌∙◌}
 use mathlib.Core.List.{◌++◌, append-nil}
-use Prim.Native.Nat.{◌-◌, ◌≤◌}
-use lib.ListN.{length, take, drop, length-set}
-use Rattle.replace.specs.Internal.Pieces.{kept_words}
+use lib.ListN.{take, length-set}
 use Rattle.member.proofs.FillingLaws.{keep-pass, keep-more, keep-end}
 use Rattle.member.proofs.filling.keep_names.Goals as goal
 

@@ -1,11 +1,8 @@
-use borrow.Author.Rules.{rules}
-use native.Mathlib.Omega.{arith}
-use mathlib.Core.Path.{◌≡◌, refl, ap, sym, ◌∙◌}
-use mathlib.Core.List.{◌++◌, append-nil}
+use mathlib.Core.Path.{◌≡◌}
+use mathlib.Core.List.{◌++◌}
 use Prim.Native.Nat.{◌-◌, ◌≤◌}
-use lib.ListN.{length, take, drop, length-set}
+use lib.ListN.{length, take, drop}
 use Rattle.replace.specs.Internal.Pieces.{kept_words}
-use Rattle.member.proofs.FillingLaws.{keep-pass, keep-more, keep-end}
 use Rattle.member.proofs.filling.keep_names.Given as goal
 
 abbrev pub invariant-loop-i : goal.invariant-loop-i

@@ -1,6 +1,5 @@
 use mathlib.Core.Path.{◌∙◌}
 use Rattle.member.proofs.InLaws.{guard-plain, guard-noted}
-use borrow.Author.Rules.{rules}
 use Rattle.member.proofs.member.guard_at.Goals as goal
 
 pub returns-then-row-at-eq-COMPREHENSION_SET : goal.returns-then-row-at-eq-COMPREHENSION_SET

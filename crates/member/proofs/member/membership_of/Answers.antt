@@ -4,7 +4,6 @@ use Rattle.member.specs.Internal.Member.{SetTold}
 use Rattle.places.proofs.SidesLaws.{skip_is}
 use Rattle.shift.proofs.ItemLaws.{not_yes, not-no}
 use Rattle.member.proofs.InLaws.{row-some, not_in, at_in, not_set, count-in, count_low, guard-ends, set-in}
-use borrow.Author.Rules.{rules}
 use Rattle.member.proofs.member.membership_of.Goals as goal
 
 pub bounds-row-0 : goal.bounds-row-0

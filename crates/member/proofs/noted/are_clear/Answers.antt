@@ -1,7 +1,6 @@
 use native.Mathlib.Omega.{arith}
 use Prim.Native.Nat.{◌+◌}
 use Rattle.member.proofs.NotedSteps.{ones-front, ones-long}
-use borrow.Author.Rules.{rules}
 use Rattle.member.proofs.noted.are_clear.Goals as goal
 
 pub slice_bounds-use_none-end : goal.slice_bounds-use_none-end

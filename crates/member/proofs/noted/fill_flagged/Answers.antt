@@ -4,7 +4,6 @@ use lib.Seq.{length-take-le}
 use Rattle.shift.proofs.CheckedLaws.{passed}
 use Rattle.member.proofs.NotedSteps.{front-in}
 use Rattle.member.proofs.NotedLaws.{told-plain, told-notes, asked-notes, asked-body, asked-front}
-use borrow.Author.Rules.{rules}
 use Rattle.member.proofs.noted.fill_flagged.Goals as goal
 
 pub slice_bounds-front_of-end : goal.slice_bounds-front_of-end

@@ -1,6 +1,5 @@
 use native.Mathlib.Omega.{arith}
-use mathlib.Core.Path.{◌≡◌, refl}
-use Prim.Native.Nat.{◌-◌, ◌≤◌}
+use mathlib.Core.Path.{refl}
 use Rattle.member.specs.Internal.Noted.{front_filled}
 use Rattle.member.proofs.NotedSteps.{front-next, front_same}
 use Rattle.member.proofs.noted.fill_front.Goals as goal

@@ -1,8 +1,6 @@
-use native.Mathlib.Omega.{arith}
-use mathlib.Core.Path.{◌≡◌, refl}
+use mathlib.Core.Path.{◌≡◌}
 use Prim.Native.Nat.{◌-◌, ◌≤◌}
 use Rattle.member.specs.Internal.Noted.{front_filled}
-use Rattle.member.proofs.NotedSteps.{front-next, front_same}
 use Rattle.member.proofs.noted.fill_front.Given as goal
 
 abbrev pub invariant-loop-i : goal.invariant-loop-i

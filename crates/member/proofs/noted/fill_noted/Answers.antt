@@ -4,7 +4,6 @@ use lib.Seq.{length-take-le}
 use Rattle.replace.proofs.BuildLaws.{built-fits}
 use Rattle.member.proofs.BodyLaws.{places}
 use Rattle.member.proofs.NotedRows.{set-filling, flagged-part, flags-end, flagged-names}
-use borrow.Author.Rules.{rules}
 use Rattle.member.proofs.noted.fill_noted.Goals as goal
 
 pub offset_bounds-row-at : goal.offset_bounds-row-at

@@ -5,7 +5,6 @@ use lib.Seq.{length-take-le}
 use Rattle.shift.proofs.CheckedLaws.{refused, passed}
 use Rattle.replace.proofs.BuildLaws.{built-fits}
 use Rattle.member.proofs.NotedSteps.{round-no, round-yes, round_same}
-use borrow.Author.Rules.{rules}
 use Rattle.tree.proofs.Pairs.{both}
 use Rattle.member.proofs.noted.fill_round.Goals as goal
 

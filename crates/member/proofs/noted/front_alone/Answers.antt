@@ -1,5 +1,4 @@
 use Rattle.member.proofs.NotedSteps.{alone-none, alone-some}
-use borrow.Author.Rules.{rules}
 use Rattle.member.proofs.noted.front_alone.Goals as goal
 
 pub returns-then-j-eq0 : goal.returns-then-j-eq0

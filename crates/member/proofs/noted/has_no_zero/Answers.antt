@@ -1,8 +1,4 @@
-use borrow.Author.Rules.{rules}
-use mathlib.Core.Path.{◌≡◌, refl, sym, ◌∙◌}
-use Prim.Native.Nat.{◌-◌}
-use lib.ListN.{length, drop}
-use Rattle.member.specs.Internal.Noted.{no_zero}
+use mathlib.Core.Path.{refl, sym, ◌∙◌}
 use Rattle.member.proofs.NotedSteps.{zero-stop, zero_more, zero-end}
 use Rattle.member.proofs.noted.has_no_zero.Goals as goal
 

@@ -1,9 +1,7 @@
-use borrow.Author.Rules.{rules}
-use mathlib.Core.Path.{◌≡◌, refl, sym, ◌∙◌}
+use mathlib.Core.Path.{◌≡◌}
 use Prim.Native.Nat.{◌-◌}
 use lib.ListN.{length, drop}
 use Rattle.member.specs.Internal.Noted.{no_zero}
-use Rattle.member.proofs.NotedSteps.{zero-stop, zero_more, zero-end}
 use Rattle.member.proofs.noted.has_no_zero.Given as goal
 
 abbrev pub invariant-loop-i : goal.invariant-loop-i

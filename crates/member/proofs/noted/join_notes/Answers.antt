@@ -4,7 +4,6 @@ use lib.Seq.{length-take-le}
 use Rattle.shift.proofs.CheckedLaws.{refused}
 use Rattle.replace.proofs.BuildLaws.{built-fits}
 use Rattle.member.proofs.NotedSteps.{notes-refused, notes-done}
-use borrow.Author.Rules.{rules}
 use Rattle.tree.proofs.Pairs.{both}
 use Rattle.member.proofs.noted.join_notes.Goals as goal
 

@@ -1,6 +1,4 @@
-use borrow.Author.Tests.{not-true, not-false}
 use Rattle.member.proofs.NotedSteps.{join-not, join-short, join-other, join-clear}
-use borrow.Author.Rules.{rules}
 use Rattle.member.proofs.noted.joins_notes.Goals as goal
 
 pub returns-then-not-joins : goal.returns-then-not-joins

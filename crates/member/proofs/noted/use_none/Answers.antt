@@ -1,5 +1,4 @@
 use Rattle.member.proofs.NotedSteps.{words-in, use-told}
-use borrow.Author.Rules.{rules}
 use Rattle.member.proofs.noted.use_none.Goals as goal
 
 pub slice_bounds-has_no_zero-end : goal.slice_bounds-has_no_zero-end

@@ -5,7 +5,6 @@ use lib.Seq.{length-take-le}
 use Rattle.member.specs.Internal.Member.{unshifted}
 use Rattle.member.proofs.BodyLaws.{places}
 use Rattle.member.proofs.MemberLaws.{body_end, unshifted-read, row-fills}
-use borrow.Author.Rules.{rules}
 use Rattle.tree.proofs.Pairs.{both}
 use Rattle.member.proofs.rewrite_in_compset.rewrite_body.Goals as goal
 

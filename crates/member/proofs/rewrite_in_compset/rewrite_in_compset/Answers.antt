@@ -1,9 +1,7 @@
-use borrow.Author.Rules.{rules}
 use mathlib.Core.Path.{refl}
 use lib.ListN.{length}
 use Rattle.shift.proofs.CheckedLaws.{refused}
 use Rattle.member.proofs.MemberLaws.{member-small, member-long}
-use borrow.Author.Rules.{rules}
 use Rattle.tree.proofs.Pairs.{both}
 use Rattle.member.proofs.rewrite_in_compset.rewrite_in_compset.Goals as goal
 

@@ -1,11 +1,9 @@
-use borrow.Author.Rules.{rules}
 use mathlib.Core.Path.{refl, sym}
 use lib.ListN.{length}
 use lib.Seq.{length-take-le}
 use Rattle.shift.proofs.CheckedLaws.{refused, refused-up, passed}
 use Rattle.places.proofs.PlacesLaws.{pred-row}
 use Rattle.member.proofs.MemberLaws.{member-refused, row_read, member-other, set-of, member_is, membering}
-use borrow.Author.Rules.{rules}
 use Rattle.tree.proofs.Pairs.{both}
 use Rattle.member.proofs.rewrite_in_compset.rewrite_marked.Goals as goal
 

@@ -1,4 +1,3 @@
-use borrow.Author.Rules.{rules}
 use native.Mathlib.Omega.{arith}
 use Rattle.member.specs.Internal.Member.{Unshifted}
 use Rattle.member.proofs.MemberLaws.{body_end, body-words, cleared-zeros}

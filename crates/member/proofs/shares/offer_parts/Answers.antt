@@ -1,15 +1,10 @@
-use borrow.Author.Rules.{rules}
 use native.Mathlib.Omega.{arith}
-use mathlib.Core.Path.{◌≡◌, refl, sym, ◌∙◌}
-use mathlib.Core.List.{List}
-use Prim.Native.Nat.{ℕ, ◌+◌, ◌-◌}
+use mathlib.Core.Path.{refl, sym, ◌∙◌}
+use Prim.Native.Nat.{◌+◌}
 use lib.ListN.{length, drop, set}
 use Rattle.tree.specs.Form.{encode}
-use Rattle.form.specs.Lists.{Place, filled}
-use Rattle.reader.specs.declared.lists.Table.{Table}
+use Rattle.form.specs.Lists.{filled}
 use Rattle.rules.specs.Partial.{no_places}
-use Rattle.places.specs.Internal.Positions.{Beside, parts_at, MarkedAt}
-use Rattle.member.specs.Internal.Member.{share, TableIs, Shared}
 use Rattle.places.proofs.PartsLaws.{open-both, part_of, beside-in, marked-open, marked-part, marks-long}
 use Rattle.places.proofs.StepLaws.{parts_none, left_is, middle-is, right_is, end_is, part_in, next-is}
 use Rattle.member.proofs.ShareLaws.{no-table, table_filled, spot_is, placed, share-fill, share-pass, shifted-length, share-none}

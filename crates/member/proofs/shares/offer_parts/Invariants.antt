@@ -1,18 +1,12 @@
-use borrow.Author.Rules.{rules}
-use native.Mathlib.Omega.{arith}
-use mathlib.Core.Path.{◌≡◌, refl, sym, ◌∙◌}
+use mathlib.Core.Path.{◌≡◌}
 use mathlib.Core.List.{List}
-use Prim.Native.Nat.{ℕ, ◌+◌, ◌-◌}
-use lib.ListN.{length, drop, set}
-use Rattle.tree.specs.Form.{encode}
-use Rattle.form.specs.Lists.{Place, filled}
+use Prim.Native.Nat.{ℕ, ◌-◌}
+use lib.ListN.{length}
+use Rattle.form.specs.Lists.{Place}
 use Rattle.reader.specs.declared.lists.Table.{Table}
 use Rattle.rules.specs.Partial.{no_places}
 use Rattle.places.specs.Internal.Positions.{Beside, parts_at, MarkedAt}
 use Rattle.member.specs.Internal.Member.{share, TableIs, Shared}
-use Rattle.places.proofs.PartsLaws.{open-both, part_of, beside-in, marked-open, marked-part, marks-long}
-use Rattle.places.proofs.StepLaws.{parts_none, left_is, middle-is, right_is, end_is, part_in, next-is}
-use Rattle.member.proofs.ShareLaws.{no-table, table_filled, spot_is, placed, share-fill, share-pass, shifted-length, share-none}
 use Rattle.member.proofs.shares.offer_parts.Given as goal
 
 abbrev pub invariant-loop-todo : goal.invariant-loop-todo

@@ -5,7 +5,6 @@ use Prim.Native.Nat.{◌-◌}
 use lib.ListN.{length-set, take, drop}
 use Rattle.places.proofs.WroteLaws.{put-wrote, part-long}
 use Rattle.member.proofs.BodyLaws.{places, row-long, guard-part, set-parts, sharing, shared-count, set-count, body-alone, body-joined}
-use borrow.Author.Rules.{rules}
 use Rattle.member.proofs.shares.write_body.Goals as goal
 
 pub overflow_sub-long : goal.overflow_sub-long

@@ -1,7 +1,6 @@
 use mathlib.Core.Path.{◌∙◌}
 use lib.ListN.{length-set}
 use Rattle.member.proofs.ShareLaws.{shifted-wrote}
-use borrow.Author.Rules.{rules}
 use Rattle.member.proofs.shares.write_shifted.Goals as goal
 
 pub shape_of-out : goal.shape_of-out

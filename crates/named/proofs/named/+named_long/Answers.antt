@@ -1,9 +1,7 @@
 -- `named::named::named_long` meets its contract: it calls itself at most once, with room for every row.
 -- the words for which there is no room yet
 use mathlib.Core.Path.{refl, sym, ◌∙◌}
-use Prim.Native.Nat.{ℕ, ◌-◌, ◌<◌}
 use native.Mathlib.Omega.{arith}
-use borrow.Author.Rules.{rules}
 use Rattle.shift.proofs.CheckedLaws.{refused}
 use Rattle.named.proofs.SlotLaws.{sized-many}
 use Rattle.named.proofs.CallLaws.{named-long}

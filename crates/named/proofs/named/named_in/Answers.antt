@@ -5,7 +5,6 @@ use mathlib.Core.Path.{ap}
 use Rattle.form.specs.Answer.{stop}
 use Rattle.shift.proofs.CheckedLaws.{refused, refused-up}
 use Rattle.named.proofs.CallLaws.{blank-ready, nothing-open, named-bad, named-part, named-short, named-done}
-use borrow.Author.Rules.{rules}
 use Rattle.tree.proofs.Pairs.{both}
 use Rattle.named.proofs.named.named_in.Goals as goal
 

@@ -1,7 +1,6 @@
 use mathlib.Core.Path.{refl}
 use native.Mathlib.Omega.{arith}
 use Rattle.named.proofs.SlotLaws.{sized-few, sized-more}
-use borrow.Author.Rules.{rules}
 use Rattle.named.proofs.named.to_indices.Goals as goal
 
 pub named_in-requires : goal.named_in-requires

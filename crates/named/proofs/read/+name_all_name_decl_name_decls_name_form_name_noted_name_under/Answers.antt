@@ -1,26 +1,22 @@
 -- The proof of the cycle of calls {name_all, name_decl, name_decls, name_form, name_noted, name_under}. The measure is four times the depth that is left, and a little more for a
 -- function that calls another at the same depth.
 use mathlib.Core.Path.{◌≡◌, refl, sym, ◌∙◌}
-use mathlib.Core.List.{List}
-use Prim.Native.Nat.{◌+◌, ◌-◌, ◌*◌, ◌≤◌}
+use Prim.Native.Nat.{◌+◌, ◌-◌}
 use native.Mathlib.Nat.{le_refl}
 use native.Mathlib.Omega.{arith}
 use borrow.Author.Rules.{rules}
-use lib.ListN.{length, get_or, drop, replicate, length-set}
+use lib.ListN.{length, replicate, length-set}
 use lib.Seq.{length-take-le}
 use Rattle.tree.specs.Tag.{expr, pred}
-use Rattle.form.specs.Decode.{decode_all, decls}
-use Rattle.form.specs.declared.head.Step.{Step}
 use Rattle.rules.specs.Named.{opened}
-use Rattle.named.specs.Internal.Scope.{scope_of, Held}
-use Rattle.named.specs.Internal.Reads.{read_names, sort_of, WroteAll, WroteDecls}
+use Rattle.named.specs.Internal.Scope.{scope_of}
+use Rattle.named.specs.Internal.Reads.{sort_of}
 use Rattle.form.proofs.HeadLaws.{asked_in}
 use Rattle.named.proofs.SlotLaws.{sized-at}
 use Rattle.named.proofs.WroteLaws.{rises, rises-all, all_more, all-stop, all_none, both_go, both-stop}
 use Rattle.named.proofs.NodeLaws.{too-deep, past_end, a-node, a-noted, no_node, kids-after, flags-after}
 use Rattle.named.proofs.DeclLaws.{decl-no-name, decl-no-flag, decl-bare, decl-typed, decl-rises, decls-none, decls-stop, decls-more, decls-rise, noted-stop, noted-bare, noted_go}
 use Rattle.named.proofs.ReadyLaws.{ready-next, kept-bad, kept_same, kept-end, end_kept, kept_then, leaf-at, open-long, open-holds, open-names, close-kept, name-next}
-use Prim.Native.Nat.{ℕ, ◌<◌}
 use Rattle.named.proofs.read.+name_all_name_decl_name_decls_name_form_name_noted_name_under.Goals as goal
 
 pub name_all-loop-left-init : goal.name_all-loop-left-init

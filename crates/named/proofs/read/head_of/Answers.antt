@@ -1,4 +1,3 @@
-use borrow.Author.Rules.{rules}
 use Rattle.named.proofs.read.head_of.Goals as goal
 
 pub returns-then-expression : goal.returns-then-expression

@@ -2,11 +2,9 @@ use mathlib.Core.Path.{refl, sym, ◌∙◌}
 use Prim.Native.Nat.{◌+◌}
 use native.Mathlib.Omega.{arith}
 use Rattle.named.specs.Internal.Scope.{scope_of}
-use borrow.Author.Tests.{not-true, not-false}
 use Rattle.form.proofs.HeadLaws.{asked_in}
 use Rattle.named.proofs.SlotLaws.{sized-at}
 use Rattle.named.proofs.LeafLaws.{leaf-pred, leaf-index, leaf-none, leaf-name}
-use borrow.Author.Rules.{rules}
 use Rattle.named.proofs.read.name_leaf.Goals as goal
 
 pub returns-then-not-expression : goal.returns-then-not-expression

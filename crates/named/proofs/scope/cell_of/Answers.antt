@@ -1,5 +1,4 @@
 use Rattle.named.proofs.LevelLaws.{none-cell, some-cell}
-use borrow.Author.Rules.{rules}
 use Rattle.named.proofs.scope.cell_of.Goals as goal
 
 pub returns-then-first-eq0 : goal.returns-then-first-eq0

@@ -1,10 +1,8 @@
-use mathlib.Core.Path.{◌≡◌, refl, sym, ◌∙◌}
-use Prim.Native.Nat.{◌+◌, ◌≤◌}
+use mathlib.Core.Path.{refl, sym, ◌∙◌}
 use native.Mathlib.Omega.{arith}
 use native.Mathlib.Nat.{le_refl}
 use borrow.Author.Rules.{rules}
-use lib.ListN.{length, length-set}
-use Rattle.named.specs.Internal.Scope.{closes, Held}
+use lib.ListN.{length-set}
 use Rattle.named.proofs.SlotLaws.{sized-at}
 use Rattle.named.proofs.ScopeLaws.{close_more, close-none, pop-cell, held-last, held-closed}
 use Rattle.named.proofs.scope.close_names.Goals as goal

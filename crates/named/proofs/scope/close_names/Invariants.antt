@@ -1,12 +1,7 @@
-use mathlib.Core.Path.{◌≡◌, refl, sym, ◌∙◌}
+use mathlib.Core.Path.{◌≡◌}
 use Prim.Native.Nat.{◌+◌, ◌≤◌}
-use native.Mathlib.Omega.{arith}
-use native.Mathlib.Nat.{le_refl}
-use borrow.Author.Rules.{rules}
-use lib.ListN.{length, length-set}
+use lib.ListN.{length}
 use Rattle.named.specs.Internal.Scope.{closes, Held}
-use Rattle.named.proofs.SlotLaws.{sized-at}
-use Rattle.named.proofs.ScopeLaws.{close_more, close-none, pop-cell, held-last, held-closed}
 use Rattle.named.proofs.scope.close_names.Given as goal
 
 abbrev pub invariant-loop-left : goal.invariant-loop-left

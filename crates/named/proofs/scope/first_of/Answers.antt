@@ -1,6 +1,6 @@
 use native.Mathlib.Omega.{arith}
 use borrow.Author.Rules.{rules}
-use Rattle.named.proofs.LevelLaws.{Seeking, seek-first, seek-low, seek_hit, seek-on, seek-less, seek-none}
+use Rattle.named.proofs.LevelLaws.{seek-first, seek-low, seek_hit, seek-on, seek-less, seek-none}
 use Rattle.named.proofs.scope.first_of.Goals as goal
 
 pub slot_of-slot-requires : goal.slot_of-slot-requires

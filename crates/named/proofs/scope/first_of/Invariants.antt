@@ -1,6 +1,4 @@
-use native.Mathlib.Omega.{arith}
-use borrow.Author.Rules.{rules}
-use Rattle.named.proofs.LevelLaws.{Seeking, seek-first, seek-low, seek_hit, seek-on, seek-less, seek-none}
+use Rattle.named.proofs.LevelLaws.{Seeking}
 use Rattle.named.proofs.scope.first_of.Given as goal
 
 abbrev pub invariant-loop-l : goal.invariant-loop-l

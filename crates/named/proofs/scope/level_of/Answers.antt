@@ -1,6 +1,5 @@
 use native.Mathlib.Omega.{arith}
 use Rattle.named.proofs.LevelLaws.{none-level, some-low, some_level}
-use borrow.Author.Rules.{rules}
 use Rattle.named.proofs.scope.level_of.Goals as goal
 
 pub returns-then-first-eq0 : goal.returns-then-first-eq0

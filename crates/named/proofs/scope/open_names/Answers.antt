@@ -1,9 +1,5 @@
-use mathlib.Core.Path.{◌≡◌, refl, sym, ◌∙◌}
-use Prim.Native.Nat.{◌+◌, ◌-◌}
+use mathlib.Core.Path.{refl, sym, ◌∙◌}
 use native.Mathlib.Omega.{arith}
-use borrow.Author.Rules.{rules}
-use lib.ListN.{length, drop}
-use Rattle.named.specs.Internal.Scope.{open_all, Held}
 use Rattle.named.proofs.SlotLaws.{sized-at}
 use Rattle.named.proofs.ScopeLaws.{open_more, open_none, held_next}
 use Rattle.named.proofs.scope.open_names.Goals as goal

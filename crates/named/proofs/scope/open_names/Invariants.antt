@@ -1,11 +1,7 @@
-use mathlib.Core.Path.{◌≡◌, refl, sym, ◌∙◌}
+use mathlib.Core.Path.{◌≡◌}
 use Prim.Native.Nat.{◌+◌, ◌-◌}
-use native.Mathlib.Omega.{arith}
-use borrow.Author.Rules.{rules}
 use lib.ListN.{length, drop}
 use Rattle.named.specs.Internal.Scope.{open_all, Held}
-use Rattle.named.proofs.SlotLaws.{sized-at}
-use Rattle.named.proofs.ScopeLaws.{open_more, open_none, held_next}
 use Rattle.named.proofs.scope.open_names.Given as goal
 
 abbrev pub invariant-loop-i : goal.invariant-loop-i

@@ -1,5 +1,4 @@
 use Rattle.named.proofs.SlotLaws.{slot-few, slot-more, slot-many}
-use borrow.Author.Rules.{rules}
 use Rattle.tree.proofs.Pairs.{both}
 use Rattle.named.proofs.scope.slot_of.Goals as goal
 

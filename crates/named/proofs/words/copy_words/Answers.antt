@@ -1,9 +1,6 @@
-use mathlib.Core.Path.{◌≡◌, refl, sym, ◌∙◌}
-use Prim.Native.Nat.{◌-◌}
+use mathlib.Core.Path.{refl, sym, ◌∙◌}
 use native.Mathlib.Omega.{arith}
-use borrow.Author.Rules.{rules}
-use lib.ListN.{length, take, drop, length-set}
-use Rattle.shift.specs.Internal.Items.{store}
+use lib.ListN.{length-set}
 use Rattle.named.proofs.WordLaws.{copy_more, copy-none}
 use Rattle.named.proofs.words.copy_words.Goals as goal
 

@@ -1,10 +1,7 @@
-use mathlib.Core.Path.{◌≡◌, refl, sym, ◌∙◌}
+use mathlib.Core.Path.{◌≡◌}
 use Prim.Native.Nat.{◌-◌}
-use native.Mathlib.Omega.{arith}
-use borrow.Author.Rules.{rules}
-use lib.ListN.{length, take, drop, length-set}
+use lib.ListN.{length, take, drop}
 use Rattle.shift.specs.Internal.Items.{store}
-use Rattle.named.proofs.WordLaws.{copy_more, copy-none}
 use Rattle.named.proofs.words.copy_words.Given as goal
 
 abbrev pub invariant-loop-i : goal.invariant-loop-i

@@ -1,7 +1,6 @@
 use native.Mathlib.Omega.{arith}
 use Rattle.named.proofs.SlotLaws.{scope-length}
 use Rattle.named.proofs.LeafLaws.{put-free, put-bound}
-use borrow.Author.Rules.{rules}
 use Rattle.named.proofs.words.put_name.Goals as goal
 
 pub level_of-level-requires : goal.level_of-level-requires

@@ -1,12 +1,9 @@
-use borrow.Author.Rules.{rules}
-use mathlib.Core.Path.{◌≡◌, refl, ap, sym, ◌∙◌}
-use mathlib.Core.Bool.{true}
-use Prim.Native.Nat.{ℕ, ◌+◌, ◌-◌, ◌≤◌}
+use mathlib.Core.Path.{refl, ap, sym, ◌∙◌}
+use Prim.Native.Nat.{ℕ, ◌-◌}
 use native.Mathlib.Omega.{arith}
-use lib.ListN.{length}
 use Rattle.tree.specs.Tag.{pred}
 use Rattle.reader.specs.Internal.Reads.{mark_all}
-use Rattle.one_point.specs.Internal.Scans.{read_kids, end_of_all, kids_at, are_kids}
+use Rattle.one_point.specs.Internal.Scans.{kids_at, are_kids}
 use Rattle.one_point.proofs.ScanLaws.{ends_at, ends-not, fits}
 use Rattle.one_point.proofs.ChildrenLaws.{end-next, end-bad, end_none, kids-no, kids-lost-all, kids-same, kids-next, marks-none}
 use Rattle.one_point.proofs.MarkLaws.{marks-told, plain-marks}

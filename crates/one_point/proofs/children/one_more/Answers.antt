@@ -1,5 +1,3 @@
-use borrow.Author.Rules.{rules}
-use borrow.Author.Rules.{rules}
 use Rattle.one_point.proofs.children.one_more.Goals as goal
 
 pub returns-then-gone : goal.returns-then-gone

@@ -2,7 +2,6 @@ use mathlib.Core.Path.{refl}
 use native.Mathlib.Omega.{arith}
 use borrow.Author.Tests.{not-true, not-false}
 use Rattle.one_point.proofs.MarkLaws.{plain-marks}
-use borrow.Author.Rules.{rules}
 use Rattle.one_point.proofs.equality.mark_rest.Goals as goal
 
 pub returns-then-not-gone : goal.returns-then-not-gone

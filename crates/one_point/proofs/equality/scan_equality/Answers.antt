@@ -8,7 +8,6 @@ use Rattle.rules.specs.Scan.{scan}
 use Rattle.one_point.proofs.ScanLaws.{ends_at, ends-not, sides-in}
 use Rattle.one_point.proofs.ReadLaws.{tell, tell_no, equal-no, equal-no-right, equal-read}
 use Rattle.one_point.proofs.MarkLaws.{no-marks, tell-marks}
-use borrow.Author.Rules.{rules}
 use Rattle.one_point.proofs.equality.scan_equality.Goals as goal
 
 pub returns-in_default : goal.returns-in_default

@@ -7,7 +7,6 @@ use Rattle.one_point.proofs.ScanLaws.{sides-in, sides-within}
 use Rattle.one_point.proofs.EqualityLaws.{part-taken, part-passed}
 use Rattle.one_point.proofs.EqualityMarks.{sided-read, taken-left, passed-left}
 use Rattle.one_point.proofs.MarkLaws.{marks-told, plain-marks}
-use borrow.Author.Rules.{rules}
 use Rattle.one_point.proofs.equality.scan_part.Goals as goal
 
 pub accept-offered-requires : goal.accept-offered-requires

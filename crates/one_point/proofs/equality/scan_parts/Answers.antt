@@ -5,7 +5,6 @@ use lib.ListN.{length}
 use Rattle.one_point.proofs.ScanLaws.{sides-in, sides-beside}
 use Rattle.one_point.proofs.EqualityLaws.{parts-done, parts-written, parts-inside}
 use Rattle.one_point.proofs.EqualityMarks.{rest-marks}
-use borrow.Author.Rules.{rules}
 use Rattle.one_point.proofs.equality.scan_parts.Goals as goal
 
 pub search_parts-s-requires : goal.search_parts-s-requires

@@ -1,7 +1,5 @@
-use borrow.Author.Rules.{rules}
 use native.Mathlib.Omega.{arith}
 use Rattle.one_point.proofs.HeadedLaws.{head-two, operator-noted, operator-plain}
-use borrow.Author.Rules.{rules}
 use Rattle.one_point.proofs.heads.operator_of.Goals as goal
 
 pub bounds-head-0 : goal.bounds-head-0

@@ -1,8 +1,5 @@
-use mathlib.Core.Path.{◌≡◌, refl, sym, ◌∙◌}
-use Prim.Native.Nat.{◌-◌}
+use mathlib.Core.Path.{refl, sym, ◌∙◌}
 use native.Mathlib.Omega.{arith}
-use lib.ListN.{length, drop}
-use Rattle.one_point.specs.Internal.Noted.{all_ones}
 use Rattle.one_point.proofs.NotedRows.{ones-not, ones-more, ones-end}
 use Rattle.one_point.proofs.joined.are_ones.Goals as goal
 

@@ -1,9 +1,7 @@
-use mathlib.Core.Path.{◌≡◌, refl, sym, ◌∙◌}
+use mathlib.Core.Path.{◌≡◌}
 use Prim.Native.Nat.{◌-◌}
-use native.Mathlib.Omega.{arith}
 use lib.ListN.{length, drop}
 use Rattle.one_point.specs.Internal.Noted.{all_ones}
-use Rattle.one_point.proofs.NotedRows.{ones-not, ones-more, ones-end}
 use Rattle.one_point.proofs.joined.are_ones.Given as goal
 
 abbrev pub invariant-loop-i : goal.invariant-loop-i

@@ -1,8 +1,5 @@
-use borrow.Author.Rules.{rules}
 use native.Mathlib.Omega.{arith}
-use borrow.Author.Tests.{not-true, not-false}
 use Rattle.one_point.proofs.JoinedRows.{words-in, words-past, join_front, join-unused, join-used, join_apart}
-use borrow.Author.Rules.{rules}
 use Rattle.one_point.proofs.joined.how_joined.Goals as goal
 
 pub slice_bounds-are_ones-end : goal.slice_bounds-are_ones-end

@@ -1,9 +1,7 @@
-use borrow.Author.Rules.{rules}
 use mathlib.Core.Path.{sym}
 use native.Mathlib.Omega.{arith}
 use lib.Seq.{length-take-le}
 use Rattle.one_point.proofs.JoinedRows.{inner-two, inner_start, inner-short}
-use borrow.Author.Rules.{rules}
 use Rattle.one_point.proofs.joined.put_inner.Goals as goal
 
 pub bounds-body-1 : goal.bounds-body-1

@@ -1,9 +1,7 @@
-use borrow.Author.Rules.{rules}
 use mathlib.Core.Path.{refl, sym}
 use lib.Seq.{length-take-le}
 use Rattle.shift.proofs.CheckedLaws.{refused, passed}
 use Rattle.one_point.proofs.JoinedHead.{row-none, row-some}
-use borrow.Author.Rules.{rules}
 use Rattle.tree.proofs.Pairs.{both}
 use Rattle.one_point.proofs.joined.put_joined.Goals as goal
 

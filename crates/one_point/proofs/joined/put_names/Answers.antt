@@ -1,11 +1,9 @@
-use borrow.Author.Rules.{rules}
 use mathlib.Core.Path.{refl, sym}
 use native.Mathlib.Omega.{arith}
 use lib.Seq.{length-take-le}
 use Rattle.shift.proofs.CheckedLaws.{passed}
 use Rattle.one_point.proofs.HeadedLaws.{head-two, head-most, head-least, few-zeros}
 use Rattle.one_point.proofs.NotedRows.{names_in, names-most, names-required, end_fits, names-under}
-use borrow.Author.Rules.{rules}
 use Rattle.tree.proofs.Pairs.{both}
 use Rattle.one_point.proofs.joined.put_names.Goals as goal
 

@@ -1,11 +1,9 @@
-use borrow.Author.Rules.{rules}
 use mathlib.Core.Path.{sym}
 use native.Mathlib.Omega.{arith}
 use lib.Seq.{length-take-le}
 use Rattle.shift.proofs.CheckedLaws.{passed}
 use Rattle.one_point.proofs.HeadedLaws.{head-two, head-most, head-least, ones_in, ones-ready, last-low}
 use Rattle.one_point.proofs.JoinedRows.{inner_start, inner-low, inner-marked, inner-few, marks-can, how-apart, how-unused, how-used}
-use borrow.Author.Rules.{rules}
 use Rattle.tree.proofs.Pairs.{both}
 use Rattle.one_point.proofs.joined.put_raised.Goals as goal
 

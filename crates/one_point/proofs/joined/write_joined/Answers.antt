@@ -1,4 +1,3 @@
-use borrow.Author.Rules.{rules}
 use mathlib.Core.Path.{refl, sym, ap}
 use Prim.Native.Nat.{◌+◌}
 use native.Mathlib.Omega.{arith}
@@ -8,7 +7,6 @@ use Rattle.one_point.specs.Internal.Noted.{notes_in}
 use Rattle.one_point.proofs.HeadedLaws.{head-two, head-most, head-least, few-zeros, operator-low}
 use Rattle.one_point.proofs.JoinedHead.{notes-refused, notes-answer, joined-long, joined-tight, joined-some, start-low}
 use Rattle.one_point.proofs.JoinedRows.{is-less, filled_in, set-in, set_same}
-use borrow.Author.Rules.{rules}
 use Rattle.one_point.proofs.joined.write_joined.Goals as goal
 
 pub bounds-head-1 : goal.bounds-head-1

@@ -1,6 +1,5 @@
 use native.Mathlib.Omega.{arith}
 use Rattle.one_point.proofs.MarkLaws.{past_row, bad-end, rest-none, no-marks, slice-bad, slice-end, slice_in, slice-marks}
-use borrow.Author.Rules.{rules}
 use Rattle.one_point.proofs.marks.mark_pred.Goals as goal
 
 pub returns-then-row-at : goal.returns-then-row-at

@@ -1,8 +1,7 @@
-use mathlib.Core.Path.{◌≡◌, refl}
-use Prim.Native.Nat.{◌-◌, ◌≤◌}
-use lib.ListN.{length, length-set}
+use mathlib.Core.Path.{refl}
+use lib.ListN.{length-set}
 use native.Mathlib.Omega.{arith}
-use Rattle.one_point.proofs.RaiseLaws.{raised_to, raise-here, raise-more, raise-all}
+use Rattle.one_point.proofs.RaiseLaws.{raise-here, raise-more, raise-all}
 use Rattle.one_point.proofs.marks.raise.Goals as goal
 
 pub loop-i-init : goal.loop-i-init

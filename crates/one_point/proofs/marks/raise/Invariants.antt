@@ -1,8 +1,7 @@
-use mathlib.Core.Path.{◌≡◌, refl}
+use mathlib.Core.Path.{◌≡◌}
 use Prim.Native.Nat.{◌-◌, ◌≤◌}
-use lib.ListN.{length, length-set}
-use native.Mathlib.Omega.{arith}
-use Rattle.one_point.proofs.RaiseLaws.{raised_to, raise-here, raise-more, raise-all}
+use lib.ListN.{length}
+use Rattle.one_point.proofs.RaiseLaws.{raised_to}
 use Rattle.one_point.proofs.marks.raise.Given as goal
 
 abbrev pub invariant-loop-i : goal.invariant-loop-i

@@ -1,7 +1,6 @@
 use mathlib.Core.Path.{refl}
 use borrow.Author.Tests.{eq-eqb, ne_eqb}
 use Rattle.one_point.specs.Internal.Marks.{raise_mark}
-use borrow.Author.Rules.{rules}
 use Rattle.one_point.proofs.marks.raise_mark.Goals as goal
 
 pub returns-then-m-eq0 : goal.returns-then-m-eq0

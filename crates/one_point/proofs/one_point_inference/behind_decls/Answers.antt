@@ -1,5 +1,4 @@
 use Rattle.one_point.proofs.HeadLaws.{behind-end, behind-none}
-use borrow.Author.Rules.{rules}
 use Rattle.one_point.proofs.one_point_inference.behind_decls.Goals as goal
 
 pub returns-in_default : goal.returns-in_default

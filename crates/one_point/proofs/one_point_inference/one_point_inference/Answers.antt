@@ -7,7 +7,6 @@ use Rattle.places.proofs.PlacesLaws.{pred-row}
 use Rattle.one_point.specs.Internal.Reduce.{is_bad}
 use Rattle.one_point.proofs.HeadLaws.{head_read}
 use Rattle.one_point.proofs.QuantifierLaws.{point-small, point-long, point-refused, point-other, reducing, point-body, point-bad}
-use borrow.Author.Rules.{rules}
 use Rattle.tree.proofs.Pairs.{both}
 use Rattle.one_point.proofs.one_point_inference.one_point_inference.Goals as goal
 

@@ -1,6 +1,5 @@
 use native.Mathlib.Omega.{arith}
 use Rattle.one_point.proofs.HeadLaws.{head-none, head-word, head-of, head-noted, head-bad}
-use borrow.Author.Rules.{rules}
 use Rattle.one_point.proofs.one_point_inference.quantifier_of.Goals as goal
 
 pub returns-then-declared-eq0 : goal.returns-then-declared-eq0

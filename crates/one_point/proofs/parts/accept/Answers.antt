@@ -1,9 +1,8 @@
 use mathlib.Core.Path.{sym, ◌∙◌}
 use native.Mathlib.Omega.{arith}
-use borrow.Author.Tests.{lt-ltb, le-ltb, not-true, not-false}
+use borrow.Author.Tests.{lt-ltb, le-ltb}
 use Rattle.one_point.specs.Internal.Parts.{accept_words}
 use Rattle.one_point.proofs.AcceptLaws.{rule-within, above_in}
-use borrow.Author.Rules.{rules}
 use Rattle.one_point.proofs.parts.accept.Goals as goal
 
 pub returns-in_default : goal.returns-in_default

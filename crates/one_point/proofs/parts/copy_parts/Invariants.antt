@@ -1,14 +1,9 @@
-use borrow.Author.Rules.{rules}
-use mathlib.Core.Path.{◌≡◌, refl, sym, ◌∙◌}
+use mathlib.Core.Path.{◌≡◌}
 use mathlib.Core.List.{List}
 use Prim.Native.Nat.{ℕ, ◌-◌}
 use lib.ListN.{length}
-use native.Mathlib.Omega.{arith}
 use Rattle.places.specs.Internal.Positions.{Beside, parts_at}
 use Rattle.one_point.specs.Internal.Parts.{PartsCopied}
-use Rattle.places.proofs.PartsLaws.{open-both, part_of, beside-in}
-use Rattle.places.proofs.StepLaws.{parts_none, left_is, middle-is, right_is, end_is, part_in, next-is}
-use Rattle.one_point.proofs.PartsStepLaws.{copied_none, wrote-length, copy-on}
 use Rattle.one_point.proofs.parts.copy_parts.Given as goal
 
 abbrev pub invariant-loop-todo : goal.invariant-loop-todo

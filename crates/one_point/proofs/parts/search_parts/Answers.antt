@@ -1,14 +1,5 @@
-use borrow.Author.Rules.{rules}
-use mathlib.Core.Path.{◌≡◌, refl, sym, ◌∙◌}
-use mathlib.Core.List.{List}
-use Prim.Native.Nat.{ℕ, ◌-◌}
-use lib.ListN.{length}
+use mathlib.Core.Path.{refl, sym, ◌∙◌}
 use native.Mathlib.Omega.{arith}
-use Rattle.rules.specs.Scan.{offer_parts}
-use Rattle.places.specs.Internal.Positions.{Beside, parts_at}
-use Rattle.one_point.specs.Internal.Parts.{PartsTold}
-use Rattle.places.specs.declared.sides.Replacement.{Replacement}
-use Rattle.places.specs.declared.sides.Replacement.TheVariants.{Not}
 use Rattle.places.proofs.PartsLaws.{open-both, part_of, beside-in}
 use Rattle.places.proofs.StepLaws.{parts_none, left_is, middle-is, right_is, end_is, part_in, next-is}
 use Rattle.one_point.proofs.PartsStepLaws.{wrote-length, search-none, search-pass, search-take}

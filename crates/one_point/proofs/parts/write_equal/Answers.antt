@@ -2,7 +2,6 @@ use mathlib.Core.Path.{◌∙◌}
 use native.Mathlib.Omega.{arith}
 use lib.ListN.{length-set}
 use Rattle.places.proofs.WroteLaws.{wrote-equal}
-use borrow.Author.Rules.{rules}
 use Rattle.one_point.proofs.parts.write_equal.Goals as goal
 
 pub copy_part-middle-requires : goal.copy_part-middle-requires

@@ -1,6 +1,5 @@
 use mathlib.Core.Path.{refl}
 use mathlib.Core.Path.{refl}
-use borrow.Author.Rules.{rules}
 use Rattle.one_point.proofs.reduce.is_bad.Goals as goal
 
 pub returns-in-No : goal.returns-in-No

@@ -1,5 +1,4 @@
 use Rattle.one_point.proofs.PlaceLaws.{sure-deep, sure-none, sure-not, sure-read}
-use borrow.Author.Rules.{rules}
 use Rattle.one_point.proofs.reduce.is_sure.Goals as goal
 
 pub returns-then-depth-left : goal.returns-then-depth-left

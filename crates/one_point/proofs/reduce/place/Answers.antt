@@ -1,4 +1,3 @@
-use borrow.Author.Rules.{rules}
 use mathlib.Core.Path.{refl, sym, ◌∙◌}
 use mathlib.Core.List.{[]}
 use native.Mathlib.Omega.{arith}
@@ -7,7 +6,6 @@ use Rattle.places.proofs.SidesLaws.{told-plain, told-marks, told-not-bad}
 use Rattle.one_point.proofs.HeadedLaws.{head-two, head-count}
 use Rattle.one_point.proofs.PlaceLaws.{marking-of, can-raise, raised-rest, place-low, putting, sure-fitting}
 use Rattle.one_point.proofs.RestLaws.{placed_row}
-use borrow.Author.Rules.{rules}
 use Rattle.tree.proofs.Pairs.{both}
 use Rattle.one_point.proofs.reduce.place.Goals as goal
 

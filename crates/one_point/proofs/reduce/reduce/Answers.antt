@@ -5,7 +5,6 @@ use Rattle.shift.proofs.CheckedLaws.{passed}
 use Rattle.one_point.specs.Internal.Reduce.{operator_in, decls_in, body_outcome, is_bad}
 use Rattle.one_point.proofs.PointLaws.{told-again, bad-refusal, same-deeper, still-reducing, fresh-reading}
 use Rattle.one_point.proofs.PlaceLaws.{fresh-cleared}
-use borrow.Author.Rules.{rules}
 use Rattle.tree.proofs.Pairs.{both}
 use Rattle.one_point.proofs.reduce.reduce.Goals as goal
 

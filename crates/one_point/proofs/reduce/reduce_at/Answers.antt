@@ -1,7 +1,6 @@
 use native.Mathlib.Omega.{arith}
 use Rattle.one_point.proofs.PlaceLaws.{fresh-cleared}
 use Rattle.one_point.proofs.PointLaws.{fresh-reading}
-use borrow.Author.Rules.{rules}
 use Rattle.one_point.proofs.reduce.reduce_at.Goals as goal
 
 pub reduce_in-requires : goal.reduce_in-requires

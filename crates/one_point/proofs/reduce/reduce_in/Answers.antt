@@ -1,4 +1,3 @@
-use borrow.Author.Rules.{rules}
 use mathlib.Core.Path.{refl, sym, ap}
 use Prim.Native.Nat.{◌≤◌}
 use native.Mathlib.Omega.{arith}
@@ -10,7 +9,6 @@ use Rattle.rules.specs.Point.{polarity}
 use Rattle.one_point.proofs.MarkLaws.{all-clear}
 use Rattle.one_point.proofs.HeadedLaws.{head-two, head-count}
 use Rattle.one_point.proofs.PointLaws.{scan-there, marks-there, empty-there, body-lost, body-longer, none-taken, took, part_in, stop-low, stop-fits, placing, part-cleared, rest-marking, shallow, placed-is}
-use borrow.Author.Rules.{rules}
 use Rattle.tree.proofs.Pairs.{both}
 use Rattle.one_point.proofs.reduce.reduce_in.Goals as goal
 

@@ -4,7 +4,6 @@ use native.Mathlib.Omega.{arith}
 use Rattle.shift.proofs.CheckedLaws.{passed}
 use Rattle.one_point.specs.Internal.Reduce.{operator_in, decls_in, body_outcome, is_bad}
 use Rattle.one_point.proofs.PointLaws.{told-again, bad-refusal, same-deeper, still-reducing}
-use borrow.Author.Rules.{rules}
 use Rattle.tree.proofs.Pairs.{both}
 use Rattle.one_point.proofs.reduce.reduce_long.Goals as goal
 

@@ -1,4 +1,3 @@
-use borrow.Author.Rules.{rules}
 use borrow.Author.Tests.{eq-eqb, ne_eqb}
 use Rattle.shift.proofs.ItemLaws.{not_yes, not-no}
 use Rattle.one_point.proofs.PlaceLaws.{first_word}

@@ -1,7 +1,6 @@
 use native.Mathlib.Omega.{arith}
 use Rattle.one_point.proofs.HeadedLaws.{head-two, head-most}
 use Rattle.one_point.proofs.RestLaws.{apart-plain, apart-first, apart-behind, apart-same, apart_by}
-use borrow.Author.Rules.{rules}
 use Rattle.one_point.proofs.rest.is_apart.Goals as goal
 
 pub bounds-head-0 : goal.bounds-head-0

@@ -1,6 +1,4 @@
-use borrow.Author.Rules.{rules}
 use Rattle.one_point.proofs.HeadedLaws.{simple-not, simple-by}
-use borrow.Author.Rules.{rules}
 use Rattle.one_point.proofs.rest.is_simple.Goals as goal
 
 pub returns-then-head-gt860 : goal.returns-then-head-gt860

@@ -2,19 +2,11 @@
 -- function that calls another at the same place.
 use mathlib.Core.Path.{◌≡◌, refl, sym, ◌∙◌}
 use mathlib.Core.Bool.{true, not}
-use mathlib.Core.List.{List}
-use Prim.Native.Nat.{ℕ, ◌+◌, ◌-◌, ◌*◌, ◌≤◌, ◌<◌}
+use Prim.Native.Nat.{◌+◌, ◌-◌, ◌*◌, ◌≤◌, ◌<◌}
 use native.Mathlib.Omega.{arith}
-use borrow.Author.Rules.{rules}
 use borrow.Author.Tests.{not-true, not-false, eqb-true}
 use lib.ListN.{length, get_or, set, length-set}
-use Rattle.tree.specs.Form.{encode_all}
-use Rattle.rules.specs.Scan.{scan, scan_all}
-use Rattle.one_point.specs.Internal.Scans.{kids_at, are_kids, KidsTold}
-use Rattle.reader.specs.Internal.Reads.{mark_all}
-use Rattle.one_point.specs.Internal.Marks.{lefts_of, ClearFrom}
-use Rattle.places.specs.declared.sides.Replacement.{Replacement}
-use Rattle.places.specs.declared.sides.Replacement.TheVariants.{Not}
+use Rattle.rules.specs.Scan.{scan}
 use Rattle.one_point.proofs.ReadLaws.{told-ok, told-no, tell_no, bounds, none-past, none_deep, no-count, few-count, junction-got, junction-no}
 use Rattle.one_point.proofs.BecameLaws.{child-room, not-no, not-gone, not-became}
 use Rattle.one_point.proofs.TwiceLaws.{twice-shallow, second-in, twice-no, twice-gone, twice-room, twice-became, twice-gone-marks, twice-marks}

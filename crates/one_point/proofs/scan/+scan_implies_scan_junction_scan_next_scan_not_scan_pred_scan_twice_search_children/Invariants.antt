@@ -1,27 +1,15 @@
-use mathlib.Core.Path.{◌≡◌, refl, sym, ◌∙◌}
-use mathlib.Core.Bool.{true, not}
+use mathlib.Core.Path.{◌≡◌}
+use mathlib.Core.Bool.{true}
 use mathlib.Core.List.{List}
-use Prim.Native.Nat.{ℕ, ◌+◌, ◌-◌, ◌*◌, ◌≤◌, ◌<◌}
-use native.Mathlib.Omega.{arith}
-use borrow.Author.Rules.{rules}
-use borrow.Author.Tests.{not-true, not-false, eqb-true}
-use lib.ListN.{length, get_or, set, length-set}
+use Prim.Native.Nat.{ℕ, ◌+◌, ◌-◌, ◌*◌, ◌≤◌}
+use lib.ListN.{length}
 use Rattle.tree.specs.Form.{encode_all}
-use Rattle.rules.specs.Scan.{scan, scan_all}
+use Rattle.rules.specs.Scan.{scan_all}
 use Rattle.one_point.specs.Internal.Scans.{kids_at, are_kids, KidsTold}
 use Rattle.reader.specs.Internal.Reads.{mark_all}
 use Rattle.one_point.specs.Internal.Marks.{lefts_of, ClearFrom}
 use Rattle.places.specs.declared.sides.Replacement.{Replacement}
 use Rattle.places.specs.declared.sides.Replacement.TheVariants.{Not}
-use Rattle.one_point.proofs.ReadLaws.{told-ok, told-no, tell_no, bounds, none-past, none_deep, no-count, few-count, junction-got, junction-no}
-use Rattle.one_point.proofs.BecameLaws.{child-room, not-no, not-gone, not-became}
-use Rattle.one_point.proofs.TwiceLaws.{twice-shallow, second-in, twice-no, twice-gone, twice-room, twice-became, twice-gone-marks, twice-marks}
-use Rattle.one_point.proofs.ImpliesLaws.{left-no, right-no, right-alone, both_left, left_alone, alone-marks, both-marks, left-only-marks, start-low, start-pos, start-end}
-use Rattle.one_point.proofs.ChildrenLaws.{kids-none, kids-bad, kids-read, kids-inside, kids-copied}
-use Rattle.one_point.proofs.JunctionLaws.{child-same, child-passed, child-taken, child-ends, passed-marks, taken-marks, over-marks, lost-marks, search-lost, search-over, one_at_most}
-use Rattle.one_point.proofs.NodeLaws.{junction-tag, junction-told, junction-marks, kids-end, next-copied, next-scanned, role-and, role-or, other-told, no-entry, no-entry-below}
-use Rattle.one_point.proofs.MarkLaws.{no-marks}
-use Rattle.one_point.proofs.ScanMarkLaws.{quiet-marks, child-marks, clean-in, clean_after, start-clean, not-gone-marks, not-marks, next-copied-marks, next-scanned-marks, other-marks}
 use Rattle.one_point.proofs.scan.+scan_implies_scan_junction_scan_next_scan_not_scan_pred_scan_twice_search_children.Given as goal
 
 abbrev pub decreases-scan_implies : goal.decreases-scan_implies

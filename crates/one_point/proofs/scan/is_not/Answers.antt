@@ -1,6 +1,5 @@
 use mathlib.Core.Path.{refl}
 use lib.ListN.{get_or-eq_default}
-use borrow.Author.Rules.{rules}
 use Rattle.one_point.proofs.scan.is_not.Goals as goal
 
 pub returns-then-row-at : goal.returns-then-row-at

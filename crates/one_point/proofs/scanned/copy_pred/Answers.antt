@@ -4,7 +4,6 @@ use Rattle.tree.specs.Tag.{pred}
 use Rattle.one_point.proofs.ScanLaws.{ends_at, ends-not, fits, copied-form}
 use Rattle.one_point.proofs.ReadLaws.{tell, tell_no}
 use Rattle.one_point.proofs.MarkLaws.{no-marks, plain-marks}
-use borrow.Author.Rules.{rules}
 use Rattle.one_point.proofs.scanned.copy_pred.Goals as goal
 
 pub mark_pred-requires : goal.mark_pred-requires

@@ -1,6 +1,5 @@
 use mathlib.Core.Path.{refl}
 use Rattle.places.proofs.WroteLaws.{put-wrote, part-long}
-use borrow.Author.Rules.{rules}
 use Rattle.one_point.proofs.writes.copy_part.Goals as goal
 
 pub returns : goal.returns

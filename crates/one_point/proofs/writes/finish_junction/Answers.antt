@@ -1,7 +1,6 @@
 use native.Mathlib.Omega.{arith}
 use lib.ListN.{length-set}
 use Rattle.one_point.proofs.WriteLaws.{join-none, join_one, join_more}
-use borrow.Author.Rules.{rules}
 use Rattle.one_point.proofs.writes.finish_junction.Goals as goal
 
 pub returns-then-k-eq0 : goal.returns-then-k-eq0

@@ -1,5 +1,4 @@
 use Rattle.one_point.proofs.WriteMarks.{join-marks-one, join-marks}
-use borrow.Author.Rules.{rules}
 use Rattle.one_point.proofs.writes.finish_marks.Goals as goal
 
 pub returns-then-k-eq1 : goal.returns-then-k-eq1

@@ -1,7 +1,6 @@
 use native.Mathlib.Omega.{arith}
 use Rattle.one_point.proofs.WriteLaws.{unsay, say}
 use Rattle.one_point.proofs.WriteMarks.{unsay-marks, say-marks}
-use borrow.Author.Rules.{rules}
 use Rattle.one_point.proofs.writes.finish_not.Goals as goal
 
 pub move_down-requires : goal.move_down-requires

@@ -1,6 +1,5 @@
 use native.Mathlib.Omega.{arith}
 use Rattle.one_point.proofs.WriteMarks.{twice-other, twice-other-marks, twice-one, twice-one-marks, twice_two, twice-two-marks}
-use borrow.Author.Rules.{rules}
 use Rattle.one_point.proofs.writes.finish_twice.Goals as goal
 
 pub returns-then-out-pos-ne-NOT : goal.returns-then-out-pos-ne-NOT

@@ -1,7 +1,6 @@
 use mathlib.Core.Path.{◌≡◌, refl}
-use mathlib.Core.List.{◌++◌}
-use Prim.Native.Nat.{◌+◌, ◌-◌, ◌≤◌}
-use lib.ListN.{length, take, drop, length-drop, length-set}
+use Prim.Native.Nat.{◌+◌}
+use lib.ListN.{drop, length-drop, length-set}
 use native.Mathlib.Omega.{arith}
 use Rattle.one_point.proofs.WriteLaws.{copy-none, copy_more, copy-all, move-word, move-rest}
 use Rattle.one_point.proofs.writes.move_down.Goals as goal

@@ -1,9 +1,7 @@
-use mathlib.Core.Path.{◌≡◌, refl}
+use mathlib.Core.Path.{◌≡◌}
 use mathlib.Core.List.{◌++◌}
 use Prim.Native.Nat.{◌+◌, ◌-◌, ◌≤◌}
-use lib.ListN.{length, take, drop, length-drop, length-set}
-use native.Mathlib.Omega.{arith}
-use Rattle.one_point.proofs.WriteLaws.{copy-none, copy_more, copy-all, move-word, move-rest}
+use lib.ListN.{length, take, drop}
 use Rattle.one_point.proofs.writes.move_down.Given as goal
 
 abbrev pub invariant-loop-i : goal.invariant-loop-i

@@ -2,7 +2,6 @@ use native.Mathlib.Omega.{arith}
 use lib.ListN.{length-set}
 use Rattle.one_point.proofs.WriteLaws.{moved-end}
 use Rattle.one_point.proofs.MarkLaws.{moved_marks}
-use borrow.Author.Rules.{rules}
 use Rattle.one_point.proofs.writes.move_marks_down.Goals as goal
 
 pub offset_bounds-marks-n : goal.offset_bounds-marks-n

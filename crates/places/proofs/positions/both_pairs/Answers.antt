@@ -4,7 +4,6 @@ use borrow.Author.Tests.{eq-eqb, ne_eqb}
 use lib.Dec.{eqb}
 use lib.ListN.{get_or, get_or-eq_default}
 use Rattle.places.specs.Internal.Positions.{both_pairs}
-use borrow.Author.Rules.{rules}
 use Rattle.places.proofs.positions.both_pairs.Goals as goal
 
 pub returns-then-row-p : goal.returns-then-row-p

@@ -1,7 +1,6 @@
 use mathlib.Core.Path.{sym, ◌∙◌}
 use Rattle.places.specs.Internal.Positions.{part_words}
 use native.Mathlib.Omega.{arith}
-use borrow.Author.Rules.{rules}
 use Rattle.places.proofs.SidesLaws.{skip_is}
 use Rattle.places.proofs.positions.expr_end.Goals as goal
 

@@ -1,5 +1,4 @@
 use Rattle.places.specs.Internal.Positions.{part_words}
-use borrow.Author.Rules.{rules}
 use Rattle.places.proofs.positions.part_at.Goals as goal
 
 pub returns : goal.returns

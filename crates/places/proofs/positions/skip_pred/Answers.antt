@@ -1,5 +1,4 @@
 use Rattle.places.proofs.SidesLaws.{told-ends}
-use borrow.Author.Rules.{rules}
 use Rattle.places.proofs.positions.skip_pred.Goals as goal
 
 pub returns : goal.returns

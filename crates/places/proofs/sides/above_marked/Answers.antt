@@ -1,9 +1,7 @@
 use mathlib.Core.Path.{◌∙◌}
 use native.Mathlib.Omega.{arith}
-use borrow.Author.Tests.{not-true, not-false}
 use Rattle.shift.proofs.CheckedLaws.{not_found, marked-fresh}
 use Rattle.places.proofs.SidesLaws.{above-missing, above-marked}
-use borrow.Author.Rules.{rules}
 use Rattle.places.proofs.sides.above_marked.Goals as goal
 
 pub returns-then-not-mark_form : goal.returns-then-not-mark_form

@@ -2,7 +2,6 @@ use mathlib.Core.Path.{ap, sym, ◌∙◌}
 use Rattle.places.specs.Internal.Sides.{sides_from}
 use Rattle.places.proofs.SidesLaws.{skip_is, equality-empty, equality-other, equality-is}
 use native.Mathlib.Omega.{arith}
-use borrow.Author.Rules.{rules}
 use Rattle.places.proofs.sides.equality_of.Goals as goal
 
 pub returns-then-row-eq0 : goal.returns-then-row-eq0

@@ -1,7 +1,6 @@
 use borrow.Author.Tests.{eq-eqb, ne_eqb}
 use Rattle.form.proofs.HeadLaws.{gone, here}
 use Rattle.places.specs.Internal.Sides.{index_words}
-use borrow.Author.Rules.{rules}
 use Rattle.places.proofs.sides.index_at.Goals as goal
 
 pub returns-then-row-at : goal.returns-then-row-at

@@ -1,4 +1,3 @@
-use borrow.Author.Rules.{rules}
 use Rattle.places.proofs.SidesLaws.{above-high, above_low, above-long}
 use Rattle.places.proofs.sides.is_above.Goals as goal
 

@@ -1,7 +1,6 @@
 use mathlib.Core.Path.{sym, ◌∙◌}
 use borrow.Author.Tests.{lt-ltb, le-ltb}
 use Rattle.places.specs.Internal.Sides.{replacement_words}
-use borrow.Author.Rules.{rules}
 use Rattle.places.proofs.sides.match_replacement.Goals as goal
 
 pub returns-in_default-index_at : goal.returns-in_default-index_at

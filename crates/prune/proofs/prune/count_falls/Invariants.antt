@@ -1,11 +1,7 @@
-use mathlib.Core.Path.{◌≡◌, refl, ◌∙◌}
-use native.Mathlib.Omega.{arith}
-use borrow.Author.Rules.{rules}
-use Prim.Native.Nat.{ℕ, ◌+◌, ◌-◌, ◌≤◌}
-use lib.ListN.{length, get_or, drop, length-set}
+use mathlib.Core.Path.{◌≡◌}
+use Prim.Native.Nat.{ℕ, ◌-◌, ◌≤◌}
+use lib.ListN.{length, get_or, drop}
 use Rattle.replace.specs.Internal.Pieces.{filled_words}
-use Rattle.replace.proofs.PieceLaws.{filled-few, falls-none, falls-next}
-use Rattle.prune.proofs.FallLaws.{table-next, table-made}
 use Rattle.prune.proofs.prune.count_falls.Given as goal
 
 abbrev pub invariant-loop-s : goal.invariant-loop-s

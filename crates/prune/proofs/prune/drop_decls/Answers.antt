@@ -3,7 +3,6 @@ use Prim.Native.Nat.{◌-◌}
 use lib.ListN.{length}
 use Rattle.shift.proofs.CheckedLaws.{refused}
 use Rattle.prune.proofs.FallLaws.{falls-all, head-fits, put-fits, same-fits, table_fits, dropped-none, dropped-room, dropped-done}
-use borrow.Author.Rules.{rules}
 use Rattle.tree.proofs.Pairs.{both}
 use Rattle.prune.proofs.prune.drop_decls.Goals as goal
 

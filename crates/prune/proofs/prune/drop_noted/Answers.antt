@@ -6,7 +6,6 @@ use Rattle.shift.proofs.CheckedLaws.{passed}
 use Rattle.replace.proofs.BuildLaws.{built-fits}
 use Rattle.decls.proofs.HeadLaws.{room-enough}
 use Rattle.prune.proofs.PruneLaws.{same-dropped, front-short}
-use borrow.Author.Rules.{rules}
 use Rattle.tree.proofs.Pairs.{both}
 use Rattle.prune.proofs.prune.drop_noted.Goals as goal
 

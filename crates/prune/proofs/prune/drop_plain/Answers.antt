@@ -5,7 +5,6 @@ use lib.Seq.{length-take-le}
 use Rattle.shift.proofs.CheckedLaws.{passed}
 use Rattle.replace.proofs.BuildLaws.{built-fits}
 use Rattle.prune.proofs.PruneLaws.{same-dropped, front-short}
-use borrow.Author.Rules.{rules}
 use Rattle.tree.proofs.Pairs.{both}
 use Rattle.prune.proofs.prune.drop_plain.Goals as goal
 

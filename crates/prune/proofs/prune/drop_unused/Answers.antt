@@ -2,7 +2,6 @@ use mathlib.Core.Path.{refl, sym}
 use native.Mathlib.Omega.{arith}
 use Rattle.shift.proofs.CheckedLaws.{passed}
 use Rattle.prune.proofs.PruneLaws.{ones-length, unused-fits, unused-few, unused-apart, left-plain, left-noted}
-use borrow.Author.Rules.{rules}
 use Rattle.tree.proofs.Pairs.{both}
 use Rattle.prune.proofs.prune.drop_unused.Goals as goal
 

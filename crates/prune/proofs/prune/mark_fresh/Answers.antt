@@ -1,5 +1,4 @@
 use Rattle.replace.proofs.MarkLaws.{marked-fresh}
-use borrow.Author.Rules.{rules}
 use Rattle.prune.proofs.prune.mark_fresh.Goals as goal
 
 pub returns : goal.returns

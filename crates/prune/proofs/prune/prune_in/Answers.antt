@@ -5,7 +5,6 @@ use Rattle.shift.proofs.CheckedLaws.{refused, refused-up, checked}
 use Rattle.decls.proofs.RowHeads.{no-quant}
 use Rattle.prune.proofs.FallLaws.{same-fits}
 use Rattle.prune.proofs.PruneLaws.{prune-refused, prune-other, pruning}
-use borrow.Author.Rules.{rules}
 use Rattle.tree.proofs.Pairs.{both}
 use Rattle.prune.proofs.prune.prune_in.Goals as goal
 

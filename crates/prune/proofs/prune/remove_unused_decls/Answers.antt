@@ -2,7 +2,6 @@ use mathlib.Core.Path.{refl}
 use native.Mathlib.Omega.{arith}
 use Rattle.shift.proofs.CheckedLaws.{refused}
 use Rattle.prune.proofs.PruneLaws.{prune-long}
-use borrow.Author.Rules.{rules}
 use Rattle.tree.proofs.Pairs.{both}
 use Rattle.prune.proofs.prune.remove_unused_decls.Goals as goal
 

@@ -1,10 +1,9 @@
-use mathlib.Core.Path.{◌≡◌, refl, sym, ap, ◌∙◌}
+use mathlib.Core.Path.{refl, sym, ap, ◌∙◌}
 use native.Mathlib.Omega.{arith}
 use borrow.Author.Rules.{rules}
-use Prim.Native.Nat.{◌+◌, ◌-◌, ◌≤◌}
 use native.Mathlib.Nat.{le_refl}
 use lib.ListN.{length, get_or, drop, set, length-set}
-use Rattle.shift.specs.Internal.Items.{wordwise, store}
+use Rattle.shift.specs.Internal.Items.{store}
 use Rattle.prune.specs.Internal.Dropped.{fall_at}
 use Rattle.shift.proofs.SlotLaws.{slot-most}
 use Rattle.shift.proofs.WordwiseLaws.{back_one, word_more, word_none}

@@ -1,14 +1,8 @@
-use mathlib.Core.Path.{◌≡◌, refl, sym, ap, ◌∙◌}
-use native.Mathlib.Omega.{arith}
-use borrow.Author.Rules.{rules}
+use mathlib.Core.Path.{◌≡◌}
 use Prim.Native.Nat.{◌+◌, ◌-◌, ◌≤◌}
-use native.Mathlib.Nat.{le_refl}
-use lib.ListN.{length, get_or, drop, set, length-set}
+use lib.ListN.{length, get_or, drop}
 use Rattle.shift.specs.Internal.Items.{wordwise, store}
 use Rattle.prune.specs.Internal.Dropped.{fall_at}
-use Rattle.shift.proofs.SlotLaws.{slot-most}
-use Rattle.shift.proofs.WordwiseLaws.{back_one, word_more, word_none}
-use Rattle.prune.proofs.FallLaws.{slot-here, fallen, unfallen, fallen-items}
 use Rattle.prune.proofs.prune.write_fallen.Given as goal
 
 abbrev pub invariant-loop-i : goal.invariant-loop-i

@@ -1,6 +1,5 @@
 use mathlib.Core.Path.{sym, ◌∙◌}
 use Rattle.reader.proofs.CheckLaws.{by-none, by-tag}
-use borrow.Author.Rules.{rules}
 use Rattle.reader.proofs.check.begins_expr.Goals as goal
 
 pub returns-then-row-eq0 : goal.returns-then-row-eq0

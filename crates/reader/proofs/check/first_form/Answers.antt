@@ -1,4 +1,3 @@
-use borrow.Author.Rules.{rules}
 use Rattle.reader.proofs.check.first_form.Goals as goal
 
 pub returns-then-is_expr : goal.returns-then-is_expr

@@ -1,6 +1,5 @@
 use Rattle.reader.specs.Internal.Reads.{as_expr}
 use Rattle.reader.proofs.CheckLaws.{either-sort}
-use borrow.Author.Rules.{rules}
 use Rattle.reader.proofs.check.is_expr.Goals as goal
 
 pub returns-in-Expression : goal.returns-in-Expression

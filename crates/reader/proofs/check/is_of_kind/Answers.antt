@@ -1,5 +1,4 @@
 use Rattle.reader.specs.Internal.Reads.{of_kind}
-use borrow.Author.Rules.{rules}
 use Rattle.reader.proofs.check.is_of_kind.Goals as goal
 
 pub returns-in-Expression : goal.returns-in-Expression

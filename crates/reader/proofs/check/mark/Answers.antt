@@ -1,5 +1,4 @@
 use Rattle.reader.proofs.CheckLaws.{row-long, check-long, check_done, check-broken}
-use borrow.Author.Rules.{rules}
 use Rattle.reader.proofs.check.mark.Goals as goal
 
 pub returns-then-row-gt-WORDS : goal.returns-then-row-gt-WORDS

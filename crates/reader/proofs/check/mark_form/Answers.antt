@@ -1,5 +1,4 @@
 use Rattle.reader.proofs.CheckLaws.{row-long, row-bad, row-whole, row-part}
-use borrow.Author.Rules.{rules}
 use Rattle.reader.proofs.check.mark_form.Goals as goal
 
 pub returns-then-row-gt-WORDS : goal.returns-then-row-gt-WORDS

@@ -1,9 +1,5 @@
-use mathlib.Core.Path.{◌≡◌, refl, sym, ◌∙◌}
-use Prim.Native.Nat.{◌-◌}
+use mathlib.Core.Path.{refl, sym, ◌∙◌}
 use native.Mathlib.Omega.{arith}
-use borrow.Author.Rules.{rules}
-use lib.ListN.{length, drop}
-use Rattle.form.specs.Lists.{distinct}
 use Rattle.reader.proofs.TableLaws.{distinct-over, distinct-twice, distinct-on, distinct-end}
 use Rattle.reader.proofs.lists.are_distinct.Goals as goal
 

@@ -3,7 +3,6 @@ use Prim.Native.Nat.{◌≤◌}
 use native.Mathlib.Omega.{arith}
 use lib.ListN.{length}
 use lib.Seq.{length-take-le, take_all}
-use borrow.Author.Rules.{rules}
 use Rattle.reader.proofs.lists.are_first_distinct.Goals as goal
 
 pub returns-then-words-n : goal.returns-then-words-n

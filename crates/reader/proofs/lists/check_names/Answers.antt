@@ -1,7 +1,5 @@
 use mathlib.Core.Bool.{true, false}
-use borrow.Author.Tests.{not-true, not-false}
 use Rattle.reader.proofs.TableLaws.{names-long, names-answer}
-use borrow.Author.Rules.{rules}
 use Rattle.reader.proofs.lists.check_names.Goals as goal
 
 pub returns-then-row-gt-WORDS : goal.returns-then-row-gt-WORDS

@@ -2,7 +2,6 @@ use mathlib.Core.Bool.{true, false}
 use borrow.Author.Tests.{not-true, not-false}
 use Rattle.reader.specs.Internal.Reads.{empty_table}
 use Rattle.reader.proofs.TableLaws.{pairs-long, pairs-none, pairs-answer}
-use borrow.Author.Rules.{rules}
 use Rattle.reader.proofs.lists.check_pairs.Goals as goal
 
 pub returns-then-row-gt-WORDS : goal.returns-then-row-gt-WORDS

@@ -1,7 +1,6 @@
 use borrow.Author.Tests.{not-true, not-false}
 use Rattle.reader.specs.Internal.Reads.{empty_table}
 use Rattle.reader.proofs.TableLaws.{places-long, places-none, places-over, places-more, places-done}
-use borrow.Author.Rules.{rules}
 use Rattle.reader.proofs.lists.check_places.Goals as goal
 
 pub returns-then-row-gt-WORDS : goal.returns-then-row-gt-WORDS

@@ -1,5 +1,4 @@
 use Rattle.reader.proofs.TableLaws.{entry_gone, pair-told, place-told}
-use borrow.Author.Rules.{rules}
 use Rattle.reader.proofs.lists.entry_at.Goals as goal
 
 pub returns-then-row-p : goal.returns-then-row-p

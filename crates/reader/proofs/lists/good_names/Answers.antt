@@ -1,7 +1,6 @@
 use mathlib.Core.Path.{sym, ◌∙◌}
 use Rattle.reader.proofs.TableLaws.{many-names, few-good}
 use native.Mathlib.Omega.{arith}
-use borrow.Author.Rules.{rules}
 use Rattle.reader.proofs.lists.good_names.Goals as goal
 
 pub returns-then-names-gt-LIMIT : goal.returns-then-names-gt-LIMIT

@@ -1,6 +1,5 @@
 use borrow.Author.Tests.{le-leb, lt-leb}
 use Rattle.reader.specs.Internal.Reads.{good_words}
-use borrow.Author.Rules.{rules}
 use Rattle.reader.proofs.lists.good_table.Goals as goal
 
 pub returns-then-n-gt-LIMIT : goal.returns-then-n-gt-LIMIT

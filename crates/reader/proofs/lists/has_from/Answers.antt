@@ -1,8 +1,5 @@
-use mathlib.Core.Path.{◌≡◌, refl, sym, ◌∙◌}
-use Prim.Native.Nat.{◌-◌}
+use mathlib.Core.Path.{refl, sym, ◌∙◌}
 use native.Mathlib.Omega.{arith}
-use lib.ListN.{length, drop}
-use Rattle.reader.specs.Internal.Reads.{member_of}
 use Rattle.reader.proofs.TableLaws.{member-here, member-on, member-end}
 use Rattle.reader.proofs.lists.has_from.Goals as goal
 

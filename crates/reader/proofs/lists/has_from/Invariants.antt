@@ -1,9 +1,7 @@
-use mathlib.Core.Path.{◌≡◌, refl, sym, ◌∙◌}
+use mathlib.Core.Path.{◌≡◌}
 use Prim.Native.Nat.{◌-◌}
-use native.Mathlib.Omega.{arith}
 use lib.ListN.{length, drop}
 use Rattle.reader.specs.Internal.Reads.{member_of}
-use Rattle.reader.proofs.TableLaws.{member-here, member-on, member-end}
 use Rattle.reader.proofs.lists.has_from.Given as goal
 
 abbrev pub invariant-loop-i : goal.invariant-loop-i

@@ -1,15 +1,9 @@
 use mathlib.Core.Path.{◌≡◌, refl, ◌∙◌}
-use mathlib.Core.Bool.{Bool}
-use mathlib.Core.List.{List}
-use mathlib.Core.Logic.{⊎_elim}
-use Prim.Native.Nat.{ℕ, ◌+◌, ◌-◌, ◌≤◌}
+use Prim.Native.Nat.{◌+◌}
 use native.Mathlib.Omega.{arith}
-use lib.ListN.{length, get_or, drop}
-use Rattle.form.specs.Lists.{list_of}
-use Rattle.reader.specs.Internal.Reads.{table_of, add_row, ListingFrom}
-use Rattle.reader.specs.declared.lists.Table.{Table}
+use lib.ListN.{get_or}
+use Rattle.reader.specs.Internal.Reads.{table_of, add_row}
 use Rattle.reader.proofs.TableLaws.{entry-rises, list-more, list-stop, list-end, row-stored, row-counted}
-use borrow.Author.Rules.{rules}
 use Rattle.reader.proofs.lists.mark_list.Goals.{then-n-lt-LIMIT, else-n-lt-LIMIT}
 use Rattle.reader.proofs.lists.mark_list.Goals as goal
 

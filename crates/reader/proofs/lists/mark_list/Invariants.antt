@@ -1,15 +1,11 @@
-use mathlib.Core.Path.{◌≡◌, refl, ◌∙◌}
+use mathlib.Core.Path.{◌≡◌}
 use mathlib.Core.Bool.{Bool}
 use mathlib.Core.List.{List}
-use mathlib.Core.Logic.{⊎_elim}
-use Prim.Native.Nat.{ℕ, ◌+◌, ◌-◌, ◌≤◌}
-use native.Mathlib.Omega.{arith}
-use lib.ListN.{length, get_or, drop}
+use Prim.Native.Nat.{ℕ, ◌-◌, ◌≤◌}
+use lib.ListN.{length, drop}
 use Rattle.form.specs.Lists.{list_of}
-use Rattle.reader.specs.Internal.Reads.{table_of, add_row, ListingFrom}
+use Rattle.reader.specs.Internal.Reads.{table_of, ListingFrom}
 use Rattle.reader.specs.declared.lists.Table.{Table}
-use Rattle.reader.proofs.TableLaws.{entry-rises, list-more, list-stop, list-end, row-stored, row-counted}
-use borrow.Author.Rules.{rules}
 use Rattle.reader.proofs.lists.mark_list.Given as goal
 
 abbrev pub invariant-loop-p : goal.invariant-loop-p

@@ -1,6 +1,5 @@
 use Rattle.reader.proofs.TableLaws.{place_kept, place-bad, place-filled}
 use native.Mathlib.Omega.{arith}
-use borrow.Author.Rules.{rules}
 use Rattle.reader.proofs.lists.place_at.Goals as goal
 
 pub returns-then-w-eq0 : goal.returns-then-w-eq0

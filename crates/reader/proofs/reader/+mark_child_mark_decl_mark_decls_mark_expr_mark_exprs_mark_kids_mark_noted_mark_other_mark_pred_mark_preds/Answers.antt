@@ -1,20 +1,13 @@
 -- The proof of the cycle of calls {mark_child, mark_decl, mark_decls, mark_expr, mark_exprs, mark_kids, mark_noted, mark_other, mark_pred, mark_preds}. The measure is eight times the words that are left, and a little more for a
 -- function that calls another at the same place.
-use mathlib.Core.Path.{◌≡◌, refl, sym, ◌∙◌}
-use mathlib.Core.List.{List}
-use Prim.Native.Nat.{◌+◌, ◌-◌, ◌*◌, ◌≤◌}
+use mathlib.Core.Path.{refl, sym, ◌∙◌}
 use native.Mathlib.Nat.{le_refl, le_trans}
 use native.Mathlib.Omega.{arith}
-use borrow.Author.Rules.{rules}
-use lib.ListN.{length, drop, replicate}
-use Rattle.form.specs.declared.head.Step.{Step}
+use lib.ListN.{length, replicate}
 use Rattle.tree.specs.Tag.{expr, pred}
-use Rattle.form.specs.Decode.{decode, decode_all, decls}
-use Rattle.reader.specs.Internal.Reads.{ToldAll, ToldDecls, words_after}
 use Rattle.form.proofs.HeadLaws.{few, asked_in}
 use Rattle.reader.proofs.ReaderLaws.{leaf-else, leaf-taken, too-deep, past_end, an-other, other_fits, other-left, a-form, kids-after, all-stop, all_more, all_none, rises, rises-all, both_go, both-stop}
 use Rattle.reader.proofs.DeclReads.{fits-noted, words-noted, other-noted, other-bad, decl-no-name, decl-no-flag, decl-bare, decl-typed, decls-more, decls-stop, decls-none, decl-rises, decls-rise, noted-stop, noted-bare, noted_go}
-use Prim.Native.Nat.{ℕ, ◌<◌}
 use borrow.Enum.Refused.{opened}
 use Rattle.reader.proofs.reader.+mark_child_mark_decl_mark_decls_mark_expr_mark_exprs_mark_kids_mark_noted_mark_other_mark_pred_mark_preds.Goals as goal
 

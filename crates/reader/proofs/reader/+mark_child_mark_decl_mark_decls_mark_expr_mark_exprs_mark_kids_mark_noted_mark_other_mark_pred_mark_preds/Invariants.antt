@@ -1,18 +1,12 @@
-use mathlib.Core.Path.{◌≡◌, refl, sym, ◌∙◌}
+use mathlib.Core.Path.{◌≡◌}
 use mathlib.Core.List.{List}
 use Prim.Native.Nat.{◌+◌, ◌-◌, ◌*◌, ◌≤◌}
-use native.Mathlib.Nat.{le_refl, le_trans}
-use native.Mathlib.Omega.{arith}
-use borrow.Author.Rules.{rules}
 use lib.ListN.{length, drop, replicate}
 use Rattle.form.specs.declared.head.Step.{Step}
 use Rattle.tree.specs.Tag.{expr, pred}
 use Rattle.form.specs.Decode.{decode, decode_all, decls}
 use Rattle.reader.specs.Internal.Reads.{ToldAll, ToldDecls, words_after}
-use Rattle.form.proofs.HeadLaws.{few, asked_in}
-use Rattle.reader.proofs.ReaderLaws.{leaf-else, leaf-taken, too-deep, past_end, an-other, other_fits, other-left, a-form, kids-after, all-stop, all_more, all_none, rises, rises-all, both_go, both-stop}
-use Rattle.reader.proofs.DeclReads.{fits-noted, words-noted, other-noted, other-bad, decl-no-name, decl-no-flag, decl-bare, decl-typed, decls-more, decls-stop, decls-none, decl-rises, decls-rise, noted-stop, noted-bare, noted_go}
-use Prim.Native.Nat.{ℕ, ◌<◌}
+use Prim.Native.Nat.{ℕ}
 use Rattle.reader.proofs.reader.+mark_child_mark_decl_mark_decls_mark_expr_mark_exprs_mark_kids_mark_noted_mark_other_mark_pred_mark_preds.Given as goal
 
 abbrev pub decreases-mark_child : goal.decreases-mark_child

@@ -1,5 +1,4 @@
 use Rattle.reader.proofs.DeclReads.{decls-deep, decls-under, decls-many, decls-read}
-use borrow.Author.Rules.{rules}
 use Rattle.reader.proofs.reader.decls_at.Goals as goal
 
 pub returns-then-depth-gt-NAME : goal.returns-then-depth-gt-NAME

@@ -1,5 +1,4 @@
 use Rattle.reader.proofs.ReaderLaws.{told-deep, told_under, told_in}
-use borrow.Author.Rules.{rules}
 use Rattle.reader.proofs.reader.expr_at.Goals as goal
 
 pub returns-then-depth-gt-NAME : goal.returns-then-depth-gt-NAME

@@ -1,7 +1,6 @@
 use mathlib.Core.Path.{refl, sym, ◌∙◌}
 use native.Mathlib.Omega.{arith}
 use Rattle.form.proofs.LeafLaws.{leaf_room}
-use borrow.Author.Rules.{rules}
 use Rattle.reader.proofs.reader.mark_leaf.Goals as goal
 
 pub overflow_add-under : goal.overflow_add-under

@@ -1,7 +1,6 @@
 use native.Mathlib.Numerals.{add-one}
 use Rattle.reader.specs.Internal.Reads.{mark_tag}
 use Rattle.form.proofs.LeafLaws.{leaf-tag, other_tag}
-use borrow.Author.Rules.{rules}
 use Rattle.reader.proofs.reader.mark_tag.Goals as goal
 
 pub returns-then-tag-eq0 : goal.returns-then-tag-eq0

@@ -1,6 +1,5 @@
 use mathlib.Core.Path.{sym}
 use lib.Seq.{set_out}
-use borrow.Author.Rules.{rules}
 use Rattle.reader.proofs.reader.put_mark.Goals as goal
 
 pub returns-else-at-marks : goal.returns-else-at-marks

@@ -1,7 +1,6 @@
 use mathlib.Core.Path.{refl, sym}
 use Rattle.shift.proofs.CheckedLaws.{passed}
 use Rattle.replace.proofs.BuildLaws.{short-sure, same-replaced}
-use borrow.Author.Rules.{rules}
 use Rattle.tree.proofs.Pairs.{both}
 use Rattle.replace.proofs.build.replace.Goals as goal
 

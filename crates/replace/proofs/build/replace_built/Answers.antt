@@ -4,7 +4,6 @@ use lib.Seq.{length-take-le}
 use Rattle.shift.proofs.CheckedLaws.{passed}
 use Rattle.replace.specs.Internal.Pieces.{plan_for}
 use Rattle.replace.proofs.BuildLaws.{built-fits, short-built}
-use borrow.Author.Rules.{rules}
 use Rattle.tree.proofs.Pairs.{both}
 use Rattle.replace.proofs.build.replace_built.Goals as goal
 

@@ -5,7 +5,6 @@ use Rattle.shift.proofs.CheckedLaws.{refused, passed}
 use Rattle.replace.specs.Internal.Pieces.{plan_for}
 use Rattle.replace.proofs.LengthLaws.{not-refused}
 use Rattle.replace.proofs.BuildLaws.{built-fits, long-row, built-row}
-use borrow.Author.Rules.{rules}
 use Rattle.tree.proofs.Pairs.{both}
 use Rattle.replace.proofs.build.replace_checked.Goals as goal
 

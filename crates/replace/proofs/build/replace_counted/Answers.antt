@@ -4,7 +4,6 @@ use Rattle.shift.proofs.CheckedLaws.{refused}
 use Rattle.replace.specs.Internal.Pieces.{plan_for}
 use Rattle.replace.proofs.LengthLaws.{not-refused}
 use Rattle.replace.proofs.BuildLaws.{sure-not, sure-done}
-use borrow.Author.Rules.{rules}
 use Rattle.tree.proofs.Pairs.{both}
 use Rattle.replace.proofs.build.replace_counted.Goals as goal
 

@@ -1,7 +1,6 @@
 use mathlib.Core.Path.{sym, ◌∙◌}
 use Rattle.replace.specs.Internal.Pieces.{plan_for}
 use Rattle.replace.proofs.LengthLaws.{work-short}
-use borrow.Author.Rules.{rules}
 use Rattle.replace.proofs.build.replace_sure.Goals as goal
 
 pub replace_built-requires : goal.replace_built-requires

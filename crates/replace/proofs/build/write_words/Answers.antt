@@ -1,5 +1,4 @@
 use Rattle.replace.proofs.BuildLaws.{stored-after}
-use borrow.Author.Rules.{rules}
 use Rattle.replace.proofs.build.write_words.Goals as goal
 
 pub returns : goal.returns

@@ -1,9 +1,7 @@
-use mathlib.Core.Path.{◌≡◌, refl, sym, ◌∙◌}
+use mathlib.Core.Path.{refl, sym, ◌∙◌}
 use native.Mathlib.Nat.{add-zero}
 use native.Mathlib.Omega.{arith}
-use Prim.Native.Nat.{◌+◌, ◌-◌}
-use lib.ListN.{length, drop, length-set}
-use Rattle.shift.specs.Internal.Items.{store}
+use lib.ListN.{length-set}
 use Rattle.replace.proofs.MarkLaws.{copy_more, copy-none}
 use Rattle.replace.proofs.emit.copy.Goals as goal
 

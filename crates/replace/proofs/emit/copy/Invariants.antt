@@ -1,10 +1,7 @@
-use mathlib.Core.Path.{◌≡◌, refl, sym, ◌∙◌}
-use native.Mathlib.Nat.{add-zero}
-use native.Mathlib.Omega.{arith}
+use mathlib.Core.Path.{◌≡◌}
 use Prim.Native.Nat.{◌+◌, ◌-◌}
-use lib.ListN.{length, drop, length-set}
+use lib.ListN.{length, drop}
 use Rattle.shift.specs.Internal.Items.{store}
-use Rattle.replace.proofs.MarkLaws.{copy_more, copy-none}
 use Rattle.replace.proofs.emit.copy.Given as goal
 
 abbrev pub invariant-loop-i : goal.invariant-loop-i

@@ -1,4 +1,3 @@
-use borrow.Author.Rules.{rules}
 use borrow.Author.Tests.{lt-ltb, le-ltb, eq-eqb, ne_eqb}
 use Rattle.replace.specs.Internal.Pieces.{declared_in}
 use Rattle.replace.proofs.heads.declared.Goals as goal

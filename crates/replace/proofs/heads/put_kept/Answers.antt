@@ -1,6 +1,5 @@
 use mathlib.Core.Path.{refl}
 use native.Mathlib.Omega.{arith}
-use borrow.Author.Rules.{rules}
 use Rattle.shift.specs.Internal.Items.{store}
 use Rattle.replace.proofs.NameLaws.{kept-yes, kept-no}
 use Rattle.replace.proofs.heads.put_kept.Goals as goal

@@ -1,6 +1,5 @@
 use mathlib.Core.Path.{◌∙◌}
 use native.Mathlib.Omega.{arith}
-use borrow.Author.Rules.{rules}
 use lib.ListN.{get_or, drop, length-set}
 use Rattle.replace.specs.Internal.Pieces.{kept_words}
 use Rattle.replace.proofs.NameLaws.{head-none, head-some, kept-short, head-many, head-short, head-tight, head-kept}

@@ -1,9 +1,7 @@
-use mathlib.Core.Path.{◌≡◌, refl, sym, ◌∙◌}
+use mathlib.Core.Path.{refl, sym, ◌∙◌}
 use native.Mathlib.Omega.{arith}
-use Prim.Native.Nat.{◌+◌, ◌-◌, ◌≤◌}
-use lib.ListN.{length, get_or, drop}
-use Rattle.shift.specs.Internal.Items.{store}
-use Rattle.replace.specs.Internal.Pieces.{kept_words}
+use Prim.Native.Nat.{◌+◌}
+use lib.ListN.{get_or}
 use Rattle.replace.proofs.NameLaws.{names_more, names-long, names-end, kept-few, store-empty}
 use Rattle.replace.proofs.heads.write_names.Goals as goal
 
@@ -36,11 +34,11 @@ loop-i-smaller c = omega arith
 
 pub loop-i-preserved : goal.loop-i-preserved
 loop-i-preserved c = (
-      c.loop-i.invariant.0 ∙ names_more c.args.words.now c.args.row.now _ c.loop-i-test.true c.requires.words_in_bounds _ _ _ _ c.put_kept-p.ensures.head_after c.put_kept-p.ensures.value,
-      c.loop-i.invariant.1 ∙ names-long c.args.words.now c.args.row.now _ c.loop-i-test.true c.requires.words_in_bounds _ _ c.put_kept-p.ensures.value,
-      let f = kept-few (get_or c.args.words.now c.loop-i.i 0) (get_or c.args.row.now (c.loop-i.i + 2) 0) in omega arith,
-      c.put_kept-p.auto.head ∙ c.loop-i.invariant.3,
-    )
+  c.loop-i.invariant.0 ∙ names_more c.args.words.now c.args.row.now _ c.loop-i-test.true c.requires.words_in_bounds _ _ _ _ c.put_kept-p.ensures.head_after c.put_kept-p.ensures.value,
+  c.loop-i.invariant.1 ∙ names-long c.args.words.now c.args.row.now _ c.loop-i-test.true c.requires.words_in_bounds _ _ c.put_kept-p.ensures.value,
+  let f = kept-few (get_or c.args.words.now c.loop-i.i 0) (get_or c.args.row.now (c.loop-i.i + 2) 0) in omega arith,
+  c.put_kept-p.auto.head ∙ c.loop-i.invariant.3,
+)
 
 pub returns : goal.returns
 returns c = let n = names-end c.args.words.now c.args.row.now _ c.loop-i-test.false in record { value = sym (c.loop-i.invariant.1 ∙ (rw n (omega arith))); head_after = sym (c.loop-i.invariant.0 ∙ store-empty _ _ n) }

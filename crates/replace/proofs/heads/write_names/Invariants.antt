@@ -1,10 +1,8 @@
-use mathlib.Core.Path.{◌≡◌, refl, sym, ◌∙◌}
-use native.Mathlib.Omega.{arith}
+use mathlib.Core.Path.{◌≡◌}
 use Prim.Native.Nat.{◌+◌, ◌-◌, ◌≤◌}
-use lib.ListN.{length, get_or, drop}
+use lib.ListN.{length, drop}
 use Rattle.shift.specs.Internal.Items.{store}
 use Rattle.replace.specs.Internal.Pieces.{kept_words}
-use Rattle.replace.proofs.NameLaws.{names_more, names-long, names-end, kept-few, store-empty}
 use Rattle.replace.proofs.heads.write_names.Given as goal
 
 abbrev pub invariant-loop-i : goal.invariant-loop-i

@@ -1,7 +1,6 @@
 use mathlib.Core.Path.{ap, sym, ◌∙◌}
 use Prim.Native.Nat.{◌+◌}
 use Rattle.replace.proofs.PartialLaws.{inner-stay, inner-alone, inner-other, inner-joins}
-use borrow.Author.Rules.{rules}
 use Rattle.replace.proofs.instantiate_partial.inner_end.Goals as goal
 
 pub returns-then-stay-gt0 : goal.returns-then-stay-gt0

@@ -1,13 +1,11 @@
 use native.Mathlib.Omega.{arith}
 use mathlib.Core.Path.{refl, sym, ◌∙◌}
 use Prim.Native.Nat.{◌-◌}
-use borrow.Author.Tests.{not-true, not-false}
 use lib.ListN.{length, length-take, drop}
 use lib.Seq.{length-take-le}
 use Rattle.shift.proofs.CheckedLaws.{refused, passed}
 use Rattle.replace.proofs.BuildLaws.{built-fits}
 use Rattle.replace.proofs.PartialLaws.{inner-low, fits_all, partial-not, partial-put}
-use borrow.Author.Rules.{rules}
 use Rattle.tree.proofs.Pairs.{both}
 use Rattle.replace.proofs.instantiate_partial.instantiate_partial.Goals as goal
 

@@ -2,7 +2,6 @@ use native.Mathlib.Omega.{arith}
 use mathlib.Core.Path.{refl, ◌∙◌}
 use lib.ListN.{length-set}
 use Rattle.replace.proofs.PartialLaws.{no-head, a-head}
-use borrow.Author.Rules.{rules}
 use Rattle.replace.proofs.instantiate_partial.write_head.Goals as goal
 
 pub returns-then-c-eq2 : goal.returns-then-c-eq2

@@ -1,7 +1,6 @@
 use mathlib.Core.Path.{sym}
 use Rattle.replace.specs.Internal.Pieces.{half}
 use Rattle.replace.proofs.LengthLaws.{half_pos, fit-over, fit-test}
-use borrow.Author.Rules.{rules}
 use Rattle.replace.proofs.length.always_fit.Goals as goal
 
 pub returns-then-most-head : goal.returns-then-most-head

@@ -1,5 +1,4 @@
 use Rattle.replace.proofs.LengthLaws.{longest-two}
-use borrow.Author.Rules.{rules}
 use Rattle.replace.proofs.length.fit_work.Goals as goal
 
 pub always_fit-requires : goal.always_fit-requires

@@ -3,7 +3,6 @@ use native.Mathlib.Omega.{arith}
 use Rattle.replace.specs.Internal.Pieces.{plan_for}
 use Rattle.replace.proofs.LengthLaws.{longest-two, always-short, refusal-none, refusal-many, refusal-room}
 use Rattle.replace.proofs.PieceLaws.{capped-low, capped-high}
-use borrow.Author.Rules.{rules}
 use Rattle.replace.proofs.length.length_refusal.Goals as goal
 
 pub always_fit-requires : goal.always_fit-requires

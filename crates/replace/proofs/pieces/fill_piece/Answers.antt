@@ -2,7 +2,6 @@ use mathlib.Core.Path.{sym}
 use borrow.Author.Tests.{lt-ltb, le-ltb, le-leb, lt-leb, eq-eqb}
 use Rattle.replace.specs.Internal.Pieces.{place_piece, fill_piece, plan_for}
 use Rattle.replace.proofs.PieceLaws.{used-first, used-few, part-is}
-use borrow.Author.Rules.{rules}
 use Rattle.replace.proofs.pieces.fill_piece.Goals as goal
 
 pub returns-then-v-b : goal.returns-then-v-b

@@ -1,9 +1,6 @@
-use mathlib.Core.Path.{◌≡◌, sym, ◌∙◌}
+use mathlib.Core.Path.{sym, ◌∙◌}
 use native.Mathlib.Omega.{arith}
-use borrow.Author.Rules.{rules}
-use Prim.Native.Nat.{◌+◌, ◌-◌, ◌≤◌}
-use lib.ListN.{length, get_or, drop}
-use Rattle.replace.specs.Internal.Pieces.{filled_words}
+use lib.ListN.{get_or}
 use Rattle.replace.proofs.PieceLaws.{filled-few, filled_next, filled-end}
 use Rattle.replace.proofs.pieces.filled_from.Goals as goal
 

@@ -1,10 +1,7 @@
-use mathlib.Core.Path.{◌≡◌, sym, ◌∙◌}
-use native.Mathlib.Omega.{arith}
-use borrow.Author.Rules.{rules}
+use mathlib.Core.Path.{◌≡◌}
 use Prim.Native.Nat.{◌+◌, ◌-◌, ◌≤◌}
-use lib.ListN.{length, get_or, drop}
+use lib.ListN.{length, drop}
 use Rattle.replace.specs.Internal.Pieces.{filled_words}
-use Rattle.replace.proofs.PieceLaws.{filled-few, filled_next, filled-end}
 use Rattle.replace.proofs.pieces.filled_from.Given as goal
 
 abbrev pub invariant-loop-i : goal.invariant-loop-i

@@ -2,7 +2,6 @@ use mathlib.Core.Path.{sym}
 use borrow.Author.Tests.{le-leb, lt-leb}
 use Rattle.replace.specs.Internal.Pieces.{free_piece, plan_for}
 use Rattle.replace.proofs.PieceLaws.{used-first}
-use borrow.Author.Rules.{rules}
 use Rattle.replace.proofs.pieces.free_piece.Goals as goal
 
 pub slice_bounds-index_of-end : goal.slice_bounds-index_of-end

@@ -1,8 +1,5 @@
-use mathlib.Core.Path.{◌≡◌, sym, ◌∙◌}
+use mathlib.Core.Path.{sym, ◌∙◌}
 use native.Mathlib.Omega.{arith}
-use Prim.Native.Nat.{◌+◌, ◌-◌}
-use lib.ListN.{length, drop}
-use Rattle.replace.specs.Internal.Pieces.{spot}
 use Rattle.replace.proofs.PieceLaws.{spot-here, spot_on, spot-end}
 use Rattle.replace.proofs.pieces.index_of.Goals as goal
 

@@ -1,9 +1,7 @@
-use mathlib.Core.Path.{◌≡◌, sym, ◌∙◌}
-use native.Mathlib.Omega.{arith}
+use mathlib.Core.Path.{◌≡◌}
 use Prim.Native.Nat.{◌+◌, ◌-◌}
 use lib.ListN.{length, drop}
 use Rattle.replace.specs.Internal.Pieces.{spot}
-use Rattle.replace.proofs.PieceLaws.{spot-here, spot_on, spot-end}
 use Rattle.replace.proofs.pieces.index_of.Given as goal
 
 abbrev pub invariant-loop-i : goal.invariant-loop-i

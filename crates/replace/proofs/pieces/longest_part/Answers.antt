@@ -1,7 +1,6 @@
 use mathlib.Core.Path.{◌≡◌, ap, sym, ◌∙◌}
-use Prim.Native.Nat.{ℕ, ◌-◌, ◌≤◌}
+use Prim.Native.Nat.{ℕ}
 use native.Mathlib.Omega.{arith}
-use borrow.Author.Rules.{rules}
 use Rattle.replace.specs.Internal.Pieces.{longest}
 use Rattle.replace.proofs.LengthLaws.{longest-none, longest-next}
 use Rattle.replace.proofs.pieces.longest_part.Goals as goal

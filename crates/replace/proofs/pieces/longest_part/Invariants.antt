@@ -1,9 +1,6 @@
-use mathlib.Core.Path.{◌≡◌, ap, sym, ◌∙◌}
-use Prim.Native.Nat.{ℕ, ◌-◌, ◌≤◌}
-use native.Mathlib.Omega.{arith}
-use borrow.Author.Rules.{rules}
+use mathlib.Core.Path.{◌≡◌}
+use Prim.Native.Nat.{◌-◌, ◌≤◌}
 use Rattle.replace.specs.Internal.Pieces.{longest}
-use Rattle.replace.proofs.LengthLaws.{longest-none, longest-next}
 use Rattle.replace.proofs.pieces.longest_part.Given as goal
 
 abbrev pub invariant-loop-i : goal.invariant-loop-i

@@ -1,5 +1,4 @@
 use mathlib.Core.Path.{sym, ◌∙◌}
-use borrow.Author.Rules.{rules}
 use borrow.Author.Tests.{eq-eqb, ne_eqb}
 use Rattle.replace.specs.Internal.Pieces.{piece_of}
 use Rattle.replace.proofs.PieceLaws.{pick_yes, pick_no}

@@ -1,5 +1,4 @@
 use Rattle.replace.specs.Internal.Pieces.{piece_size}
-use borrow.Author.Rules.{rules}
 use Rattle.replace.proofs.pieces.piece_size.Goals as goal
 
 pub returns-in-Same : goal.returns-in-Same

@@ -1,11 +1,7 @@
-use mathlib.Core.Path.{◌≡◌, sym, ◌∙◌}
+use mathlib.Core.Path.{sym, ◌∙◌}
 use native.Mathlib.Omega.{arith}
-use borrow.Author.Rules.{rules}
-use Prim.Native.Nat.{◌+◌, ◌-◌, ◌≤◌}
 use native.Mathlib.Nat.{zero-add}
-use lib.ListN.{length, drop}
-use Rattle.shift.specs.Internal.Items.{items}
-use Rattle.replace.specs.Internal.Pieces.{sizes, capped, plan_for}
+use Rattle.replace.specs.Internal.Pieces.{plan_for}
 use Rattle.shift.proofs.ItemLaws.{size_in}
 use Rattle.replace.proofs.PieceLaws.{ident-step, ident-size, plain_step, plain_size, plain-same, needed-next, needed-over, needed-end}
 use Rattle.replace.proofs.pieces.words_needed.Goals as goal
@@ -28,9 +24,9 @@ loop-i-smaller-in_default c = let s = size_in _ c.args.marks.now _ c.loop-i-test
 
 pub loop-i-preserved-in_default : goal.loop-i-preserved-in_default
 loop-i-preserved-in_default c = (
-      c.loop-i.invariant.0 ∙ (needed-next (plan_for c.args.rule c.args.words.now c.args.starts.now c.args.ends.now) _ (plain-same c.in_default.is (plan_for c.args.rule c.args.words.now c.args.starts.now c.args.ends.now)) (plain_size c.in_default.is) c.args.row.now c.args.marks.now _ c.loop-i-test.true c.item_at-it.ensures _ ∙ rw (plain_step c.in_default.is)),
-      omega arith,
-    )
+  c.loop-i.invariant.0 ∙ (needed-next (plan_for c.args.rule c.args.words.now c.args.starts.now c.args.ends.now) _ (plain-same c.in_default.is (plan_for c.args.rule c.args.words.now c.args.starts.now c.args.ends.now)) (plain_size c.in_default.is) c.args.row.now c.args.marks.now _ c.loop-i-test.true c.item_at-it.ensures _ ∙ rw (plain_step c.in_default.is)),
+  omega arith,
+)
 
 pub piece_of-requires : goal.piece_of-requires
 piece_of-requires c = c.requires
@@ -52,9 +48,9 @@ loop-i-smaller c = let s = size_in _ c.args.marks.now _ c.loop-i-test.true c.ite
 
 pub loop-i-preserved : goal.loop-i-preserved
 loop-i-preserved c = (
-      c.loop-i.invariant.0 ∙ (needed-next (plan_for c.args.rule c.args.words.now c.args.starts.now c.args.ends.now) _ c.piece_of.ensures c.piece_size-size.ensures c.args.row.now c.args.marks.now _ c.loop-i-test.true (sym c.in-Ident.is ∙ c.item_at-it.ensures) _ ∙ rw ident-size),
-      omega arith,
-    )
+  c.loop-i.invariant.0 ∙ (needed-next (plan_for c.args.rule c.args.words.now c.args.starts.now c.args.ends.now) _ c.piece_of.ensures c.piece_size-size.ensures c.args.row.now c.args.marks.now _ c.loop-i-test.true (sym c.in-Ident.is ∙ c.item_at-it.ensures) _ ∙ rw ident-size),
+  omega arith,
+)
 
 pub returns : goal.returns
 returns c = sym (c.loop-i.invariant.0 ∙ needed-end _ c.args.row.now c.args.marks.now _ _ c.loop-i-test.false c.loop-i.invariant.1)

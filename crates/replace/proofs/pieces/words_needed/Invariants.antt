@@ -1,13 +1,8 @@
-use mathlib.Core.Path.{◌≡◌, sym, ◌∙◌}
-use native.Mathlib.Omega.{arith}
-use borrow.Author.Rules.{rules}
+use mathlib.Core.Path.{◌≡◌}
 use Prim.Native.Nat.{◌+◌, ◌-◌, ◌≤◌}
-use native.Mathlib.Nat.{zero-add}
 use lib.ListN.{length, drop}
 use Rattle.shift.specs.Internal.Items.{items}
 use Rattle.replace.specs.Internal.Pieces.{sizes, capped, plan_for}
-use Rattle.shift.proofs.ItemLaws.{size_in}
-use Rattle.replace.proofs.PieceLaws.{ident-step, ident-size, plain_step, plain_size, plain-same, needed-next, needed-over, needed-end}
 use Rattle.replace.proofs.pieces.words_needed.Given as goal
 
 abbrev pub invariant-loop-i : goal.invariant-loop-i

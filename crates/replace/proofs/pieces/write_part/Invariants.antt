@@ -1,13 +1,7 @@
-use mathlib.Core.Path.{◌≡◌, refl, sym, ◌∙◌}
-use native.Mathlib.Omega.{arith}
-use borrow.Author.Rules.{rules}
+use mathlib.Core.Path.{◌≡◌}
 use Prim.Native.Nat.{◌+◌, ◌-◌}
-use native.Mathlib.Nat.{add-zero}
 use lib.ListN.{length, drop}
-use Rattle.shift.specs.Internal.Items.{items, size_of, rewritten, moved_words, store}
-use Rattle.shift.proofs.ItemLaws.{size_in, size-pos}
-use Rattle.shift.proofs.ShiftLaws.{keeps}
-use Rattle.replace.proofs.PieceLaws.{store-next, store-stop}
+use Rattle.shift.specs.Internal.Items.{items, rewritten, moved_words, store}
 use Rattle.replace.proofs.pieces.write_part.Given as goal
 
 abbrev pub invariant-loop-i : goal.invariant-loop-i

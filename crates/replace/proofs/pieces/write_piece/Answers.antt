@@ -1,5 +1,4 @@
 use native.Mathlib.Omega.{arith}
-use borrow.Author.Rules.{rules}
 use lib.ListN.{length, length-set}
 use Rattle.shift.specs.Internal.Items.{store}
 use Rattle.replace.specs.Internal.Pieces.{part, piece_words}

@@ -1,10 +1,7 @@
-use mathlib.Core.Path.{◌≡◌, refl, sym, ap, ◌∙◌}
+use mathlib.Core.Path.{refl, sym, ap, ◌∙◌}
 use native.Mathlib.Omega.{arith}
-use borrow.Author.Rules.{rules}
-use Prim.Native.Nat.{ℕ, ◌+◌, ◌-◌, ◌≤◌}
-use lib.ListN.{length, drop}
-use Rattle.shift.specs.Internal.Items.{items, rewritten, store}
-use Rattle.replace.specs.Internal.Pieces.{planned, sizes, plan_for}
+use Prim.Native.Nat.{ℕ, ◌+◌}
+use Rattle.replace.specs.Internal.Pieces.{planned, plan_for}
 use Rattle.shift.proofs.ItemLaws.{size_in}
 use Rattle.replace.proofs.PieceLaws.{piece-fits, ident-step, ident-size, plain_step, plain_size, plain-same, plain-words, store-next, store-stop, planned-size, sizes_step, sizes-stop}
 use Rattle.replace.proofs.pieces.write_pieces.Goals as goal

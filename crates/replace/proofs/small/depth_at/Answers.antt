@@ -1,5 +1,4 @@
 use mathlib.Core.Path.{◌∙◌}
-use borrow.Author.Rules.{rules}
 use Rattle.replace.proofs.SmallLaws.{at_none, at-past, at_part}
 use Rattle.replace.proofs.small.depth_at.Goals as goal
 

@@ -1,9 +1,6 @@
-use borrow.Author.Rules.{rules}
-use mathlib.Core.Path.{sym, ◌∙◌}
 use Prim.Native.Nat.{◌-◌}
-use native.Mathlib.Omega.{arith}
 use Rattle.replace.specs.Internal.Pieces.{deep_part}
-use Rattle.replace.proofs.SmallLaws.{Tried, tried-none, tried_here, tried-more, tried-past, next-is}
+use Rattle.replace.proofs.SmallLaws.{Tried}
 use Rattle.replace.proofs.small.depth_from.Given as goal
 
 abbrev pub invariant-loop-d : goal.invariant-loop-d

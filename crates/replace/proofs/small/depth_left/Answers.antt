@@ -1,6 +1,4 @@
 use mathlib.Core.Path.{sym, ◌∙◌}
-use borrow.Author.Tests.{not-true, not-false}
-use borrow.Author.Rules.{rules}
 use Rattle.replace.proofs.SmallLaws.{left-none, left_is, depth-most}
 use Rattle.replace.proofs.small.depth_left.Goals as goal
 

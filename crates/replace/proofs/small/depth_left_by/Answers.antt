@@ -1,7 +1,5 @@
 use mathlib.Core.Path.{sym, ◌∙◌}
-use borrow.Author.Tests.{not-true, not-false}
 use Rattle.replace.proofs.SmallLaws.{left-many, left-high, left-parts, depth-most}
-use borrow.Author.Rules.{rules}
 use Rattle.replace.proofs.small.depth_left_by.Goals as goal
 
 pub returns-then-n-gt-LIMIT : goal.returns-then-n-gt-LIMIT

@@ -1,4 +1,3 @@
-use borrow.Author.Rules.{rules}
 use Rattle.replace.proofs.SmallLaws.{deep-bad, deep-rest, deep-whole}
 use Rattle.replace.proofs.small.is_within.Goals as goal
 

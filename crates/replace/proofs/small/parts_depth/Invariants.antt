@@ -1,8 +1,6 @@
 use mathlib.Core.Path.{◌≡◌}
 use Prim.Native.Nat.{◌-◌, ◌≤◌}
-use native.Mathlib.Omega.{arith}
 use Rattle.replace.specs.Internal.Pieces.{deep_parts, depth_from}
-use Rattle.replace.proofs.SmallLaws.{parts_none, parts_next, parts_all, depth-most}
 use Rattle.replace.proofs.small.parts_depth.Given as goal
 
 abbrev pub invariant-loop-i : goal.invariant-loop-i

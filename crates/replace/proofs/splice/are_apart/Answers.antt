@@ -1,11 +1,7 @@
-use mathlib.Core.Path.{◌≡◌, refl}
+use mathlib.Core.Path.{refl}
 use native.Mathlib.Omega.{arith}
-use borrow.Author.Rules.{rules}
-use mathlib.Core.Bool.{◌&&◌}
-use Prim.Native.Nat.{◌-◌, ◌<◌}
 use borrow.Author.Tests.{le-leb, lt-leb, lt-ltb, le-ltb}
-use lib.ListN.{length, drop}
-use Rattle.shift.specs.Internal.Items.{apart}
+use lib.ListN.{length}
 use Rattle.replace.proofs.SpliceLaws.{pairs-more, pairs_end}
 use Rattle.replace.proofs.splice.are_apart.Goals as goal
 

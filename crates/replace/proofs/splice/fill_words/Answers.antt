@@ -1,11 +1,9 @@
 use mathlib.Core.Path.{refl, sym}
 use native.Mathlib.Omega.{arith}
-use borrow.Author.Rules.{rules}
 use Rattle.replace.specs.Internal.Pieces.{plan_for}
 use Rattle.shift.proofs.ItemLaws.{not-no}
 use Rattle.replace.proofs.PieceLaws.{used-first}
 use Rattle.replace.proofs.SpliceLaws.{splicing}
-use borrow.Author.Rules.{rules}
 use Rattle.replace.proofs.splice.fill_words.Goals as goal
 
 pub overflow_cast-n : goal.overflow_cast-n
@@ -31,12 +29,12 @@ slice_bounds-write_filled-end-2 c = sym c.set_slots.auto.falls
 
 pub write_filled-requires : goal.write_filled-requires
 write_filled-requires c = record {
-      splices = splicing c.args.rule.n _ _ _ _ _ _ _ _ c.requires.ready.0 c.requires.marks_in_bounds _ c.are_apart.ensures (not-no _ c.if-not-are_apart.false-raw);
-      is-fill = c.requires.ready.1;
-      slots = c.set_slots.ensures;
-      cuts-long = c.set_slots.auto.cuts;
-      falls-long = c.set_slots.auto.falls;
-    }
+  splices = splicing c.args.rule.n _ _ _ _ _ _ _ _ c.requires.ready.0 c.requires.marks_in_bounds _ c.are_apart.ensures (not-no _ c.if-not-are_apart.false-raw);
+  is-fill = c.requires.ready.1;
+  slots = c.set_slots.ensures;
+  cuts-long = c.set_slots.auto.cuts;
+  falls-long = c.set_slots.auto.falls;
+}
 
 pub returns : goal.returns
 returns c = record { value = c.write_filled.ensures.value; out_after = c.write_filled.ensures.out_after }

@@ -1,10 +1,8 @@
 use mathlib.Core.Path.{refl, sym}
-use borrow.Author.Rules.{rules}
 use Rattle.replace.specs.Internal.Pieces.{plan_for}
 use Rattle.shift.proofs.ItemLaws.{not-no}
 use Rattle.replace.proofs.PieceLaws.{used-first}
 use Rattle.replace.proofs.SpliceLaws.{splicing}
-use borrow.Author.Rules.{rules}
 use Rattle.replace.proofs.splice.free_words.Goals as goal
 
 pub write_pieces-requires : goal.write_pieces-requires
@@ -24,11 +22,11 @@ slice_bounds-write_freed-end c = sym c.set_keys.auto.keys
 
 pub write_freed-requires : goal.write_freed-requires
 write_freed-requires c = record {
-      splices = splicing 0 _ _ _ _ _ _ _ _ c.requires.ready.0 c.requires.marks_in_bounds _ c.are_apart.ensures (not-no _ c.if-not-are_apart.false-raw);
-      is_free = c.requires.ready.1;
-      known = c.set_keys.ensures;
-      keys-long = c.set_keys.auto.keys;
-    }
+  splices = splicing 0 _ _ _ _ _ _ _ _ c.requires.ready.0 c.requires.marks_in_bounds _ c.are_apart.ensures (not-no _ c.if-not-are_apart.false-raw);
+  is_free = c.requires.ready.1;
+  known = c.set_keys.ensures;
+  keys-long = c.set_keys.auto.keys;
+}
 
 pub returns : goal.returns
 returns c = record { value = c.write_freed.ensures.value; out_after = c.write_freed.ensures.out_after }

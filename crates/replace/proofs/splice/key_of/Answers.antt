@@ -1,5 +1,4 @@
 use Rattle.replace.specs.Internal.Splice.{key_of}
-use borrow.Author.Rules.{rules}
 use Rattle.replace.proofs.splice.key_of.Goals as goal
 
 pub returns-then-t-m : goal.returns-then-t-m

@@ -1,7 +1,5 @@
 use native.Mathlib.Omega.{arith}
-use borrow.Author.Rules.{rules}
 use Rattle.replace.proofs.SpliceSlots.{key-low, spot-none, spot-some}
-use borrow.Author.Rules.{rules}
 use Rattle.replace.proofs.splice.name_spot.Goals as goal
 
 pub offset_bounds-keys-key : goal.offset_bounds-keys-key

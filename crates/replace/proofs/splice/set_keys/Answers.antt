@@ -1,7 +1,6 @@
-use mathlib.Core.Path.{◌≡◌, refl, sym, ap, ◌∙◌}
+use mathlib.Core.Path.{refl, sym, ap, ◌∙◌}
 use native.Mathlib.Omega.{arith}
-use borrow.Author.Rules.{rules}
-use Prim.Native.Nat.{ℕ, ◌-◌, ◌%◌, ◌<◌}
+use Prim.Native.Nat.{◌%◌}
 use lib.ListN.{length, get_or, length-set}
 use lib.Seq.{get_or-set_other}
 use Rattle.replace.proofs.SpliceSlots.{key_more}
@@ -24,10 +23,10 @@ loop-i-smaller c = omega arith
 
 pub loop-i-preserved : goal.loop-i-preserved
 loop-i-preserved c = (
-      key_more c.args.words.now c.loop-i.keys c.loop-i.i c.loop-i.invariant.0 (omega arith),
-      get_or-set_other c.loop-i.keys (get_or c.args.words.now c.loop-i.i 0 % 64) 64 1 0 (λ e. omega arith) ∙ c.loop-i.invariant.1,
-      length-set c.loop-i.keys (get_or c.args.words.now c.loop-i.i 0 % 64) 1 ∙ c.loop-i.invariant.2,
-    )
+  key_more c.args.words.now c.loop-i.keys c.loop-i.i c.loop-i.invariant.0 (omega arith),
+  get_or-set_other c.loop-i.keys (get_or c.args.words.now c.loop-i.i 0 % 64) 64 1 0 (λ e. omega arith) ∙ c.loop-i.invariant.1,
+  length-set c.loop-i.keys (get_or c.args.words.now c.loop-i.i 0 % 64) 1 ∙ c.loop-i.invariant.2,
+)
 
 pub shape_of-keys : goal.shape_of-keys
 shape_of-keys c = c.loop-i.invariant.2 ∙ sym (ap length c.requires)

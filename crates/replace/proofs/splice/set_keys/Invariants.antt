@@ -1,10 +1,6 @@
-use mathlib.Core.Path.{◌≡◌, refl, sym, ap, ◌∙◌}
-use native.Mathlib.Omega.{arith}
-use borrow.Author.Rules.{rules}
+use mathlib.Core.Path.{◌≡◌}
 use Prim.Native.Nat.{ℕ, ◌-◌, ◌%◌, ◌<◌}
-use lib.ListN.{length, get_or, length-set}
-use lib.Seq.{get_or-set_other}
-use Rattle.replace.proofs.SpliceSlots.{key_more}
+use lib.ListN.{length, get_or}
 use Rattle.replace.proofs.splice.set_keys.Given as goal
 
 abbrev pub invariant-loop-i : goal.invariant-loop-i

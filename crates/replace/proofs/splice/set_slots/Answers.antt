@@ -1,7 +1,6 @@
 use mathlib.Core.Path.{◌≡◌, refl, sym, ap, ◌∙◌}
 use native.Mathlib.Omega.{arith}
-use borrow.Author.Rules.{rules}
-use Prim.Native.Nat.{ℕ, ◌+◌, ◌-◌, ◌≤◌, ◌<◌}
+use Prim.Native.Nat.{◌+◌, ◌-◌}
 use lib.ListN.{length, get_or, drop, length-set}
 use lib.Seq.{get_or-set_same, get_or-set_other}
 use Rattle.replace.specs.Internal.Pieces.{filled_words}
@@ -12,17 +11,17 @@ use Rattle.replace.proofs.splice.set_slots.Goals as goal
 
 pub loop-s-init : goal.loop-s-init
 loop-s-init c = (
-      (λ i l h. absurd (omega arith)),
-      (λ i l h. absurd (omega arith)),
-      rw c.requires.1 refl,
-      rw c.requires.1 (replicate-at 34 (length c.args.words.now + 1) 0),
-      rw c.requires.2 (replicate-at 34 (length c.args.words.now + 1) 0),
-      falls-none c.args.words.now,
-      omega arith,
-      omega arith,
-      rw c.requires.1 refl,
-      rw c.requires.2 refl,
-    )
+  (λ i l h. absurd (omega arith)),
+  (λ i l h. absurd (omega arith)),
+  rw c.requires.1 refl,
+  rw c.requires.1 (replicate-at 34 (length c.args.words.now + 1) 0),
+  rw c.requires.2 (replicate-at 34 (length c.args.words.now + 1) 0),
+  falls-none c.args.words.now,
+  omega arith,
+  omega arith,
+  rw c.requires.1 refl,
+  rw c.requires.2 refl,
+)
 
 pub overflow_sub-cuts : goal.overflow_sub-cuts
 overflow_sub-cuts c = omega arith
@@ -59,17 +58,17 @@ loop-s-smaller c = omega arith
 
 pub loop-s-preserved : goal.loop-s-preserved
 loop-s-preserved c = let b : c.loop-s.s - 1 + 1 ≡ c.loop-s.s = omega arith in (
-      table_step (length c.args.words.now) c.loop-s.s _ c.loop-s.cuts (λ i. get_or c.args.words.now (i - 1) 0) (omega arith) c.loop-s.invariant.0 refl,
-      table_step (length c.args.words.now) c.loop-s.s _ c.loop-s.falls (λ i. filled_words (drop i c.args.words.now)) (omega arith) c.loop-s.invariant.1 c.loop-s.invariant.5,
-      get_or-set_other c.loop-s.cuts c.loop-s.s 0 _ 0 (λ z. omega arith) ∙ c.loop-s.invariant.2,
-      get_or-set_other c.loop-s.cuts c.loop-s.s (length c.args.words.now + 1) _ 0 (λ z. omega arith) ∙ c.loop-s.invariant.3,
-      get_or-set_other c.loop-s.falls c.loop-s.s (length c.args.words.now + 1) _ 0 (λ z. omega arith) ∙ c.loop-s.invariant.4,
-      falls-next c.args.words.now (c.loop-s.s - 1) (omega arith) c.loop-s.inside _ (rw b c.loop-s.invariant.5) c.one_if-inside.ensures,
-      (let e = filled-few (get_or c.args.words.now (c.loop-s.s - 1) 0) in omega arith),
-      omega arith,
-      length-set c.loop-s.cuts c.loop-s.s _ ∙ c.loop-s.invariant.8,
-      length-set c.loop-s.falls c.loop-s.s _ ∙ c.loop-s.invariant.9,
-    )
+  table_step (length c.args.words.now) c.loop-s.s _ c.loop-s.cuts (λ i. get_or c.args.words.now (i - 1) 0) (omega arith) c.loop-s.invariant.0 refl,
+  table_step (length c.args.words.now) c.loop-s.s _ c.loop-s.falls (λ i. filled_words (drop i c.args.words.now)) (omega arith) c.loop-s.invariant.1 c.loop-s.invariant.5,
+  get_or-set_other c.loop-s.cuts c.loop-s.s 0 _ 0 (λ z. omega arith) ∙ c.loop-s.invariant.2,
+  get_or-set_other c.loop-s.cuts c.loop-s.s (length c.args.words.now + 1) _ 0 (λ z. omega arith) ∙ c.loop-s.invariant.3,
+  get_or-set_other c.loop-s.falls c.loop-s.s (length c.args.words.now + 1) _ 0 (λ z. omega arith) ∙ c.loop-s.invariant.4,
+  falls-next c.args.words.now (c.loop-s.s - 1) (omega arith) c.loop-s.inside _ (rw b c.loop-s.invariant.5) c.one_if-inside.ensures,
+  (let e = filled-few (get_or c.args.words.now (c.loop-s.s - 1) 0) in omega arith),
+  omega arith,
+  length-set c.loop-s.cuts c.loop-s.s _ ∙ c.loop-s.invariant.8,
+  length-set c.loop-s.falls c.loop-s.s _ ∙ c.loop-s.invariant.9,
+)
 
 pub bounds-falls-0 : goal.bounds-falls-0
 bounds-falls-0 c = omega arith

@@ -1,13 +1,7 @@
-use mathlib.Core.Path.{◌≡◌, refl, sym, ap, ◌∙◌}
-use native.Mathlib.Omega.{arith}
-use borrow.Author.Rules.{rules}
+use mathlib.Core.Path.{◌≡◌}
 use Prim.Native.Nat.{ℕ, ◌+◌, ◌-◌, ◌≤◌, ◌<◌}
-use lib.ListN.{length, get_or, drop, length-set}
-use lib.Seq.{get_or-set_same, get_or-set_other}
+use lib.ListN.{length, get_or, drop}
 use Rattle.replace.specs.Internal.Pieces.{filled_words}
-use Rattle.replace.proofs.PieceLaws.{filled-few, falls-none, falls-next}
-use Rattle.rules.proofs.ReplicateLaws.{replicate-at}
-use Rattle.replace.proofs.SpliceSlots.{table_step}
 use Rattle.replace.proofs.splice.set_slots.Given as goal
 
 abbrev pub invariant-loop-s : goal.invariant-loop-s

@@ -1,5 +1,4 @@
 use mathlib.Core.Path.{sym, ◌∙◌}
-use borrow.Author.Rules.{rules}
 use Rattle.replace.proofs.splice.still_apart.Goals as goal
 
 pub returns-then-pair_ok : goal.returns-then-pair_ok

@@ -1,6 +1,5 @@
 use mathlib.Core.Path.{sym}
 use lib.ListN.{get_or-eq_default}
-use borrow.Author.Rules.{rules}
 use Rattle.replace.proofs.splice.word_at.Goals as goal
 
 pub returns-then-row-at : goal.returns-then-row-at

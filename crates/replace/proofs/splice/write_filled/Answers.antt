@@ -1,10 +1,6 @@
-use mathlib.Core.Path.{◌∙◌}
 use native.Mathlib.Omega.{arith}
-use borrow.Author.Rules.{rules}
-use Prim.Native.Nat.{◌-◌}
-use lib.ListN.{length}
-use Rattle.replace.specs.Internal.Pieces.{piece_size, plan_for, Fits}
-use Rattle.replace.proofs.SpliceLaws.{Storing, storing, last-room, last_done}
+use Rattle.replace.specs.Internal.Pieces.{piece_size, Fits}
+use Rattle.replace.proofs.SpliceLaws.{storing, last-room, last_done}
 use Rattle.replace.proofs.SpliceSlots.{slot-low, fill-room, fill-next, place-slot, place-mark, place_inside, place-room, place-next}
 use Rattle.tree.proofs.Pairs.{both}
 use Rattle.replace.proofs.splice.write_filled.Goals as goal

@@ -1,11 +1,8 @@
-use mathlib.Core.Path.{refl, sym, ◌∙◌}
+use mathlib.Core.Path.{refl, sym}
 use native.Mathlib.Omega.{arith}
-use borrow.Author.Rules.{rules}
-use Prim.Native.Nat.{◌-◌}
-use lib.ListN.{length, get_or}
-use Rattle.replace.specs.Internal.Pieces.{piece_size, plan_for, Fits}
+use Rattle.replace.specs.Internal.Pieces.{piece_size, Fits}
 use Rattle.replace.proofs.PieceLaws.{used-first}
-use Rattle.replace.proofs.SpliceLaws.{Storing, storing, last-room, last_done}
+use Rattle.replace.proofs.SpliceLaws.{storing, last-room, last_done}
 use Rattle.replace.proofs.SpliceSlots.{free-room, free-next, entry-mark, entry-inside, entry-room, entry-next}
 use Rattle.tree.proofs.Pairs.{both}
 use Rattle.replace.proofs.splice.write_freed.Goals as goal

@@ -1,9 +1,7 @@
 use mathlib.Core.Path.{refl}
 use native.Mathlib.Omega.{arith}
-use borrow.Author.Rules.{rules}
 use borrow.Author.Tests.{lt-ltb, le-ltb}
 use lib.ListN.{length, length-set}
-use borrow.Author.Rules.{rules}
 use Rattle.replace.proofs.splice.write_last.Goals as goal
 
 pub bounds-out-p : goal.bounds-out-p

@@ -1,7 +1,5 @@
-use mathlib.Core.Path.{◌≡◌, refl, sym, ◌∙◌}
-use Prim.Native.Nat.{◌≤◌}
+use mathlib.Core.Path.{refl, sym, ◌∙◌}
 use native.Mathlib.Omega.{arith}
-use Rattle.replace.specs.Internal.Pieces.{parts_in}
 use Rattle.replace.proofs.ReadyLaws.{parts-turned, parts-outside, parts_more, parts_none}
 use Rattle.replace.proofs.tables.are_inside.Goals as goal
 

@@ -1,8 +1,6 @@
-use mathlib.Core.Path.{◌≡◌, refl, sym, ◌∙◌}
+use mathlib.Core.Path.{◌≡◌}
 use Prim.Native.Nat.{◌≤◌}
-use native.Mathlib.Omega.{arith}
 use Rattle.replace.specs.Internal.Pieces.{parts_in}
-use Rattle.replace.proofs.ReadyLaws.{parts-turned, parts-outside, parts_more, parts_none}
 use Rattle.replace.proofs.tables.are_inside.Given as goal
 
 abbrev pub invariant-loop-i : goal.invariant-loop-i

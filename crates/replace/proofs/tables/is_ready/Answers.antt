@@ -1,6 +1,5 @@
 use mathlib.Core.Path.{◌∙◌}
 use lib.ListN.{length}
-use borrow.Author.Rules.{rules}
 use Rattle.replace.proofs.ReadyLaws.{test-many, test_short, test_parts}
 use Rattle.replace.proofs.tables.is_ready.Goals as goal
 

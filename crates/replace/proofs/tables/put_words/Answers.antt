@@ -2,7 +2,6 @@ use native.Mathlib.Omega.{arith}
 use Prim.Native.Nat.{◌+◌}
 use borrow.Author.Tests.{le-leb, lt-leb}
 use lib.ListN.{length}
-use borrow.Author.Rules.{rules}
 use Rattle.replace.proofs.tables.put_words.Goals as goal
 
 pub returns-then-out-words : goal.returns-then-out-words

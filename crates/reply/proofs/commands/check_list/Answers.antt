@@ -1,4 +1,3 @@
-use borrow.Author.Rules.{rules}
 use Rattle.reply.proofs.commands.check_list.Goals as goal
 
 pub returns-in-Nothing : goal.returns-in-Nothing

@@ -1,5 +1,4 @@
 use Rattle.reply.proofs.LateLaws.{form-tests, test-no, test-yes}
-use borrow.Author.Rules.{rules}
 use Rattle.reply.proofs.commands.check_parts.Goals as goal
 
 pub returns-in_default : goal.returns-in_default

@@ -2,7 +2,6 @@ use mathlib.Core.Path.{sym}
 use native.Mathlib.Omega.{arith}
 use lib.Seq.{length-take-le}
 use Rattle.reply.proofs.LateLaws.{told-long, form-tests, held-long, held_fits, held-row}
-use borrow.Author.Rules.{rules}
 use Rattle.reply.proofs.late.check_form_part.Goals as goal
 
 pub returns-then-count-gt-WORDS : goal.returns-then-count-gt-WORDS

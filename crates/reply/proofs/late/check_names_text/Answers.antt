@@ -1,8 +1,6 @@
 use mathlib.Core.Path.{sym, ◌∙◌}
 use mathlib.Core.Bool.{true, false}
-use borrow.Author.Tests.{not-true, not-false}
 use Rattle.reply.proofs.LateLaws.{told-long, names-tests, names-told}
-use borrow.Author.Rules.{rules}
 use Rattle.reply.proofs.late.check_names_text.Goals as goal
 
 pub returns-then-row-gt-WORDS : goal.returns-then-row-gt-WORDS

@@ -1,8 +1,6 @@
 use mathlib.Core.Path.{sym}
 use mathlib.Core.Bool.{true, false}
-use borrow.Author.Tests.{not-true, not-false}
 use Rattle.reply.proofs.LateLaws.{late-refused, late-told}
-use borrow.Author.Rules.{rules}
 use Rattle.reply.proofs.late.check_row.Goals as goal
 
 pub returns-in_default : goal.returns-in_default

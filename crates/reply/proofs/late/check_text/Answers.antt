@@ -1,8 +1,6 @@
 use mathlib.Core.Path.{sym, ◌∙◌}
 use mathlib.Core.Bool.{true, false}
-use borrow.Author.Tests.{not-true, not-false}
 use Rattle.reply.proofs.LateLaws.{late-row, late-fits}
-use borrow.Author.Rules.{rules}
 use Rattle.reply.proofs.late.check_text.Goals as goal
 
 pub returns-then-not-fits_form : goal.returns-then-not-fits_form

@@ -1,11 +1,9 @@
 use mathlib.Core.Path.{refl, sym, ◌∙◌}
-use borrow.Author.Tests.{not-true, not-false}
 use lib.ListN.{length}
 use lib.Seq.{length-take-le}
 use Rattle.shift.proofs.SignedLaws.{back}
 use Rattle.reply.proofs.LateLaws.{row-holds, parts-refused, parts-passed}
 use Rattle.reply.proofs.ReplyLaws.{not-enough, misspelled, held_both, command-said}
-use borrow.Author.Rules.{rules}
 use Rattle.tree.proofs.Pairs.{both}
 use Rattle.reply.proofs.reply.answer_line.Goals as goal
 

@@ -4,7 +4,6 @@ use lib.ListN.{length}
 use Rattle.reply.specs.Reply.{line_outcome, reply_outcome}
 use Rattle.calls.proofs.CallLaws.{said_same}
 use Rattle.reply.proofs.ReplyLaws.{too_short, row-there, no-there}
-use borrow.Author.Rules.{rules}
 use Rattle.tree.proofs.Pairs.{both}
 use Rattle.reply.proofs.reply.reply.Goals as goal
 

@@ -1,9 +1,6 @@
-use mathlib.Core.Path.{◌≡◌, sym, ◌∙◌}
+use mathlib.Core.Path.{sym, ◌∙◌}
 use native.Mathlib.Omega.{arith}
 use native.Mathlib.Nat.{zero-add}
-use Prim.Native.Nat.{◌+◌, ◌-◌}
-use lib.ListN.{length, drop}
-use Rattle.reply.specs.Split.{newline_in}
 use Rattle.reply.proofs.SplitLaws.{newline-here, newline-on, newline-end}
 use Rattle.reply.proofs.split.newline.Goals as goal
 

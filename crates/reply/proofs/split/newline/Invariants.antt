@@ -1,10 +1,7 @@
-use mathlib.Core.Path.{◌≡◌, sym, ◌∙◌}
-use native.Mathlib.Omega.{arith}
-use native.Mathlib.Nat.{zero-add}
+use mathlib.Core.Path.{◌≡◌}
 use Prim.Native.Nat.{◌+◌, ◌-◌}
 use lib.ListN.{length, drop}
 use Rattle.reply.specs.Split.{newline_in}
-use Rattle.reply.proofs.SplitLaws.{newline-here, newline-on, newline-end}
 use Rattle.reply.proofs.split.newline.Given as goal
 
 abbrev pub invariant-loop-i : goal.invariant-loop-i

@@ -1,6 +1,5 @@
 use borrow.Author.Tests.{lt-ltb, le-ltb}
 use Rattle.reply.proofs.SplitLaws.{next-is}
-use borrow.Author.Rules.{rules}
 use Rattle.reply.proofs.split.next_line.Goals as goal
 
 pub returns-then-skipping : goal.returns-then-skipping

@@ -1,5 +1,4 @@
 use Rattle.rounds.proofs.HeadLaws.{join-short, join-many, join_last}
-use borrow.Author.Rules.{rules}
 use Rattle.rounds.proofs.rounds.can_join.Goals as goal
 
 pub returns-then-h-lt2 : goal.returns-then-h-lt2

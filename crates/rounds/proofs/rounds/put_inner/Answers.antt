@@ -2,7 +2,6 @@ use mathlib.Core.Path.{refl}
 use native.Mathlib.Omega.{arith}
 use lib.ListN.{length-set}
 use Rattle.rounds.proofs.HeadLaws.{inner-none, inner-some, inner-put}
-use borrow.Author.Rules.{rules}
 use Rattle.rounds.proofs.rounds.put_inner.Goals as goal
 
 pub returns-then-h-inner : goal.returns-then-h-inner

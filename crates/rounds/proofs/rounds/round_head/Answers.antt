@@ -3,7 +3,6 @@ use native.Mathlib.Omega.{arith}
 use lib.ListN.{length, take}
 use Rattle.shift.proofs.ItemLaws.{not_yes, not-no}
 use Rattle.rounds.proofs.HeadLaws.{round-narrow, round-high, alone-fits, alone-head, alone-from, names-fits, names-head, names-from, notes-fits, notes-head, notes-from, no_join, by_names, not-names, not-clear, by-notes, not-notes, written-short, written_is, written-few}
-use borrow.Author.Rules.{rules}
 use Rattle.rounds.proofs.rounds.round_head.Goals as goal
 
 pub returns-then-head-lt8192 : goal.returns-then-head-lt8192

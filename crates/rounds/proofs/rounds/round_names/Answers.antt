@@ -6,7 +6,6 @@ use lib.ListN.{length, get_or, take, drop, replicate}
 use Rattle.shift.proofs.ItemLaws.{not_yes, not-no}
 use Rattle.rounds.specs.Internal.Round.{head_names}
 use Rattle.rounds.proofs.HeadLaws.{join-all, join-refused, join-test, names-fit-as, names-done, names-plain, names-flagged, names-count, names-taken, flags-in, flags-are, from-done}
-use borrow.Author.Rules.{rules}
 use Rattle.rounds.proofs.rounds.round_names.Goals as goal
 
 pub returns-then-not-can_join : goal.returns-then-not-can_join

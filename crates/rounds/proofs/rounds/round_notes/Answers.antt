@@ -7,7 +7,6 @@ use Rattle.shift.proofs.ItemLaws.{not_yes, not-no}
 use Rattle.decls.specs.Internal.Noted.{decls_end}
 use Rattle.rounds.specs.Internal.Round.{head_notes}
 use Rattle.rounds.proofs.HeadLaws.{join-refused, join-test, count-few, end-in, notes-fit-as, notes-done, from-done}
-use borrow.Author.Rules.{rules}
 use Rattle.rounds.proofs.rounds.round_notes.Goals as goal
 
 pub returns-then-not-can_join : goal.returns-then-not-can_join

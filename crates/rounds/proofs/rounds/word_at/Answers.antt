@@ -1,5 +1,4 @@
 use Rattle.rounds.proofs.HeadLaws.{past_end}
-use borrow.Author.Rules.{rules}
 use Rattle.rounds.proofs.rounds.word_at.Goals as goal
 
 pub returns-then-row-i : goal.returns-then-row-i

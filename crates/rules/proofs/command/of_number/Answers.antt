@@ -1,5 +1,4 @@
 use native.Mathlib.Omega.{arith}
-use borrow.Author.Rules.{rules}
 use Rattle.rules.proofs.CommandLaws.{number-none, number-over, number_at}
 use Rattle.rules.proofs.command.of_number.Goals as goal
 

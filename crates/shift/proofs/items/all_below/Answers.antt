@@ -1,5 +1,4 @@
-use Rattle.std.proofs.Common.{◌≡◌, ◌-◌, ◌&&◌, length, drop, refl, rules}
-use Rattle.shift.specs.Internal.Items.{all_below}
+use Rattle.std.proofs.Common.{refl}
 use Rattle.shift.proofs.ItemLaws.{below_more, below_end}
 use Rattle.shift.proofs.items.all_below.Goals as goal
 

@@ -1,6 +1,5 @@
-use Rattle.std.proofs.Common.{◌≡◌, ◌-◌, ◌&&◌, length, drop, refl, rules}
+use Rattle.std.proofs.Common.{◌≡◌, ◌-◌, ◌&&◌, length, drop}
 use Rattle.shift.specs.Internal.Items.{all_below}
-use Rattle.shift.proofs.ItemLaws.{below_more, below_end}
 use Rattle.shift.proofs.items.all_below.Given as goal
 
 abbrev pub invariant-loop-i : goal.invariant-loop-i

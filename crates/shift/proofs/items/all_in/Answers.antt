@@ -1,4 +1,4 @@
-use Rattle.std.proofs.Common.{sym, ◌∙◌, rules}
+use Rattle.std.proofs.Common.{sym, ◌∙◌}
 use Rattle.shift.proofs.ItemLaws.{below_in}
 use Rattle.shift.proofs.items.all_in.Goals as goal
 

@@ -1,5 +1,4 @@
-use Rattle.std.proofs.Common.{◌≡◌, ◌-◌, length, drop, sym, refl, ◌∙◌, arith, rules}
-use Rattle.shift.specs.Internal.Items.{items, all_items, item_in}
+use Rattle.std.proofs.Common.{sym, refl, ◌∙◌, arith}
 use Rattle.shift.proofs.ItemLaws.{all_more, all-stop, all_none, size_in, size-pos, not_yes, not-no}
 use Rattle.shift.proofs.items.each_in.Goals as goal
 

@@ -1,6 +1,5 @@
-use Rattle.std.proofs.Common.{◌≡◌, ◌-◌, length, drop, sym, refl, ◌∙◌, arith, rules}
+use Rattle.std.proofs.Common.{◌≡◌, ◌-◌, length, drop}
 use Rattle.shift.specs.Internal.Items.{items, all_items, item_in}
-use Rattle.shift.proofs.ItemLaws.{all_more, all-stop, all_none, size_in, size-pos, not_yes, not-no}
 use Rattle.shift.proofs.items.each_in.Given as goal
 
 abbrev pub invariant-loop-i : goal.invariant-loop-i

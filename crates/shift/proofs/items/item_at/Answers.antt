@@ -1,5 +1,4 @@
 use Rattle.shift.proofs.ItemLaws.{item-gone, item-none, item-zero, item-last, item-ident}
-use Rattle.std.proofs.Common.{rules}
 use Rattle.shift.proofs.items.item_at.Goals as goal
 
 pub returns-then-row-i : goal.returns-then-row-i

@@ -1,4 +1,4 @@
-use Rattle.std.proofs.Common.{sym, rules}
+use Rattle.std.proofs.Common.{sym}
 use lib.Seq.{set_out}
 use Rattle.shift.specs.Internal.Items.{words_of, store}
 use Rattle.shift.proofs.ItemLaws.{store_out}

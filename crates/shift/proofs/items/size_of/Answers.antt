@@ -1,5 +1,4 @@
 use Rattle.shift.specs.Internal.Items.{size_of}
-use Rattle.std.proofs.Common.{rules}
 use Rattle.shift.proofs.items.size_of.Goals as goal
 
 pub returns-in-Plain : goal.returns-in-Plain

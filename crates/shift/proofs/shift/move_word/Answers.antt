@@ -1,4 +1,4 @@
-use Rattle.std.proofs.Common.{arith, rules}
+use Rattle.std.proofs.Common.{arith}
 use Rattle.shift.specs.Internal.Items.{move_word}
 use Rattle.shift.proofs.shift.move_word.Goals as goal
 

@@ -1,5 +1,4 @@
 use Rattle.shift.proofs.ShiftLaws.{at_none, at-below, at_above}
-use Rattle.std.proofs.Common.{rules}
 use Rattle.shift.proofs.shift.moved_at.Goals as goal
 
 pub returns-then-k-eq0 : goal.returns-then-k-eq0

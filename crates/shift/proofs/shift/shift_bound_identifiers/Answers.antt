@@ -1,4 +1,4 @@
-use Rattle.std.proofs.Common.{refl, arith, rules}
+use Rattle.std.proofs.Common.{refl, arith}
 use Rattle.shift.proofs.SignedLaws.{back}
 use Rattle.shift.proofs.CheckedLaws.{refused}
 use Rattle.shift.proofs.ShiftLaws.{shift-long}

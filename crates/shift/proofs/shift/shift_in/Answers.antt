@@ -1,4 +1,4 @@
-use Rattle.std.proofs.Common.{ap, ◌∙◌, rules}
+use Rattle.std.proofs.Common.{ap, ◌∙◌}
 use Rattle.shift.specs.Internal.Items.{up_by, down_by}
 use Rattle.shift.proofs.SignedLaws.{back}
 use Rattle.shift.proofs.CheckedLaws.{refused-up, passed, checked-fresh}

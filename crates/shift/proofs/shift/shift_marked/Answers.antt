@@ -1,4 +1,4 @@
-use Rattle.std.proofs.Common.{length, refl, rules, le-leb}
+use Rattle.std.proofs.Common.{length, refl, le-leb}
 use borrow.Author.Tests.{lt-leb}
 use Rattle.shift.specs.Internal.Items.{shift_words}
 use Rattle.shift.proofs.ItemLaws.{not_yes, not-no}

@@ -1,5 +1,4 @@
-use Rattle.std.proofs.Common.{◌≡◌, ◌-◌, ◌≤◌, length, get_or, drop, set, sym, refl, ap, ◌∙◌, arith, length-set, rules}
-use Rattle.shift.specs.Internal.Items.{wordwise, move_at, store}
+use Rattle.std.proofs.Common.{get_or, set, sym, refl, ap, ◌∙◌, arith, length-set}
 use Rattle.shift.proofs.WordwiseLaws.{word_more, word_none, back_one}
 use Rattle.shift.proofs.ShiftLaws.{unmoved}
 use Rattle.shift.proofs.shift.write_moved.Goals as goal

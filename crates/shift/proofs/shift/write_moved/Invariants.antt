@@ -1,7 +1,5 @@
-use Rattle.std.proofs.Common.{◌≡◌, ◌-◌, ◌≤◌, length, get_or, drop, set, sym, refl, ap, ◌∙◌, arith, length-set, rules}
+use Rattle.std.proofs.Common.{◌≡◌, ◌-◌, ◌≤◌, length, get_or, drop}
 use Rattle.shift.specs.Internal.Items.{wordwise, move_at, store}
-use Rattle.shift.proofs.WordwiseLaws.{word_more, word_none, back_one}
-use Rattle.shift.proofs.ShiftLaws.{unmoved}
 use Rattle.shift.proofs.shift.write_moved.Given as goal
 
 abbrev pub invariant-loop-i : goal.invariant-loop-i

@@ -1,5 +1,4 @@
 use Rattle.shift.proofs.SlotLaws.{slot-in, slot-out}
-use Rattle.std.proofs.Common.{rules}
 use Rattle.shift.proofs.slots.slot_of.Goals as goal
 
 pub returns-then-dangles : goal.returns-then-dangles

@@ -1,6 +1,5 @@
 use mathlib.Core.Path.{ap, ◌∙◌}
 use Rattle.sogbayile.specs.Code.{code_of}
-use borrow.Author.Rules.{rules}
 use Rattle.sogbayile.proofs.checks.sgb_check_predicate.Goals as goal
 
 pub returns : goal.returns

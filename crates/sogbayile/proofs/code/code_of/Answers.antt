@@ -1,7 +1,6 @@
 use mathlib.Core.Path.{sym, ap, ◌∙◌}
 use Rattle.sogbayile.specs.Code.{code_of}
 use Rattle.sogbayile.proofs.CodeLaws.{code-done, code-no}
-use borrow.Author.Rules.{rules}
 use Rattle.sogbayile.proofs.code.code_of.Goals as goal
 
 pub returns-in-Done : goal.returns-in-Done

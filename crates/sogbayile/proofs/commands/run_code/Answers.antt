@@ -3,7 +3,6 @@ use lib.ListN.{length}
 use Rattle.shift.proofs.SignedLaws.{back}
 use Rattle.rules.specs.declared.command.Command.TheVariants.{Shift, Free, Bind, Fill, Prune, Point, Member, Named}
 use Rattle.sogbayile.proofs.RunLaws.{run-coded}
-use borrow.Author.Rules.{rules}
 use Rattle.tree.proofs.Pairs.{both}
 use Rattle.sogbayile.proofs.commands.run_code.Goals as goal
 

@@ -1,7 +1,6 @@
 -- Made by crates/sogbayile/commands.py.
 use mathlib.Core.Path.{ap, ◌∙◌}
 use Rattle.sogbayile.specs.Code.{code_of}
-use borrow.Author.Rules.{rules}
 use Rattle.sogbayile.proofs.commands.sgb_prune.Goals as goal
 
 pub returns : goal.returns

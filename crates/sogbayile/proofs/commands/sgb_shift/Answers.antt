@@ -2,7 +2,6 @@
 use mathlib.Core.Path.{ap, ◌∙◌}
 use Rattle.sogbayile.specs.Code.{code_of}
 use Rattle.shift.proofs.SignedLaws.{back}
-use borrow.Author.Rules.{rules}
 use Rattle.sogbayile.proofs.commands.sgb_shift.Goals as goal
 
 pub returns : goal.returns

@@ -4,7 +4,6 @@ use Rattle.rules.specs.Lift.{lift_part}
 use Rattle.subst.proofs.LiftLaws.{lift-long}
 use Rattle.sogbayile.specs.Internal.{made_code}
 use Rattle.sogbayile.proofs.CodeLaws.{part-short, made-code}
-use borrow.Author.Rules.{rules}
 use Rattle.sogbayile.proofs.indices.sgb_lift.Goals as goal
 
 pub returns-then-base-gt-WORDS : goal.returns-then-base-gt-WORDS

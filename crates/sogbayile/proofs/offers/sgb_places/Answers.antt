@@ -1,6 +1,5 @@
 use mathlib.Core.Path.{ap, ◌∙◌}
 use Rattle.sogbayile.specs.Code.{packed}
-use borrow.Author.Rules.{rules}
 use Rattle.sogbayile.proofs.offers.sgb_places.Goals as goal
 
 pub returns : goal.returns

@@ -1,7 +1,6 @@
 use lib.ListN.{length}
 use Rattle.shift.proofs.SignedLaws.{back}
 use Rattle.sogbayile.proofs.RunLaws.{none-coded, number-coded}
-use borrow.Author.Rules.{rules}
 use Rattle.tree.proofs.Pairs.{both}
 use Rattle.sogbayile.proofs.run.sgb_run.Goals as goal
 

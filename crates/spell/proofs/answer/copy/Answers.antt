@@ -1,8 +1,6 @@
-use mathlib.Core.Path.{◌≡◌, refl, sym, ◌∙◌}
-use Prim.Native.Nat.{◌-◌}
+use mathlib.Core.Path.{refl, sym, ◌∙◌}
 use native.Mathlib.Omega.{arith}
-use lib.ListN.{length, drop, length-set}
-use Rattle.spell.specs.Put.{put}
+use lib.ListN.{length-set}
 use Rattle.spell.proofs.AnswerLaws.{copy_more, copy-none}
 use Rattle.spell.proofs.answer.copy.Goals as goal
 

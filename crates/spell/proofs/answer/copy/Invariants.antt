@@ -1,9 +1,7 @@
-use mathlib.Core.Path.{◌≡◌, refl, sym, ◌∙◌}
+use mathlib.Core.Path.{◌≡◌}
 use Prim.Native.Nat.{◌-◌}
-use native.Mathlib.Omega.{arith}
-use lib.ListN.{length, drop, length-set}
+use lib.ListN.{length, drop}
 use Rattle.spell.specs.Put.{put}
-use Rattle.spell.proofs.AnswerLaws.{copy_more, copy-none}
 use Rattle.spell.proofs.answer.copy.Given as goal
 
 abbrev pub invariant-loop-i : goal.invariant-loop-i

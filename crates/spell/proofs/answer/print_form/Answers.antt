@@ -1,6 +1,5 @@
 use native.Mathlib.Omega.{arith}
 use Rattle.spell.proofs.AnswerLaws.{zeros, form-long}
-use borrow.Author.Rules.{rules}
 use Rattle.tree.proofs.Pairs.{both}
 use Rattle.spell.proofs.answer.print_form.Goals as goal
 

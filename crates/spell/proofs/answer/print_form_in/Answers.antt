@@ -1,7 +1,6 @@
 use mathlib.Core.Path.{sym}
 use lib.Seq.{length-take-le}
 use Rattle.spell.proofs.AnswerLaws.{form-none, form-room, form-within, form-done}
-use borrow.Author.Rules.{rules}
 use Rattle.tree.proofs.Pairs.{both}
 use Rattle.spell.proofs.answer.print_form_in.Goals as goal
 

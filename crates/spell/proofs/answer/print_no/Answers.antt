@@ -1,6 +1,4 @@
-use borrow.Author.Rules.{rules}
 use Rattle.spell.proofs.AnswerLaws.{no_room, no-done}
-use borrow.Author.Rules.{rules}
 use Rattle.tree.proofs.Pairs.{both}
 use Rattle.spell.proofs.answer.print_no.Goals as goal
 

@@ -1,7 +1,6 @@
 use native.Mathlib.Omega.{arith}
 use Rattle.spell.proofs.WriteLaws.{wrote-end, decimal-few}
 use Rattle.spell.proofs.AnswerLaws.{ending-short, ending-long}
-use borrow.Author.Rules.{rules}
 use Rattle.spell.proofs.answer.put_ending.Goals as goal
 
 pub returns-then-k-ne2 : goal.returns-then-k-ne2

@@ -1,4 +1,3 @@
-use mathlib.Core.Path.{◌∙◌}
 use native.Mathlib.Omega.{arith}
 use Rattle.spell.proofs.WriteLaws.{wrote-end, decimal-few}
 use Rattle.spell.proofs.AnswerLaws.{wrote-no}

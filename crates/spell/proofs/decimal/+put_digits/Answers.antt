@@ -1,12 +1,8 @@
 -- The proof of the cycle of calls {put_digits}. The measure is the number of digits that may follow.
 --
-use mathlib.Core.Path.{◌∙◌}
 use Prim.Native.Nat.{◌-◌, ◌/◌}
 use native.Mathlib.Omega.{arith}
-use borrow.Author.Rules.{rules}
 use Rattle.spell.proofs.WriteLaws.{no-digits, last-digit, more-digits, wrote-end, digits-few}
-use Prim.Native.Nat.{ℕ}
-use Prim.Native.Nat.{◌<◌}
 use Rattle.spell.proofs.decimal.+put_digits.Goals as goal
 
 pub returns-then-places-eq0 : goal.returns-then-places-eq0

@@ -1,5 +1,4 @@
 use Rattle.spell.proofs.WriteLaws.{wrote-byte, wrote-out}
-use borrow.Author.Rules.{rules}
 use Rattle.spell.proofs.decimal.put_byte.Goals as goal
 
 pub returns-then-out-o : goal.returns-then-out-o

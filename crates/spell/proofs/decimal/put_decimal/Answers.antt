@@ -1,6 +1,5 @@
 use native.Mathlib.Omega.{arith}
 use Rattle.spell.proofs.WriteLaws.{wrote-end, one-digit, two_digits, three-digits, wrote-decimal}
-use borrow.Author.Rules.{rules}
 use Rattle.spell.proofs.decimal.put_decimal.Goals as goal
 
 pub returns-then-n-lt10 : goal.returns-then-n-lt10

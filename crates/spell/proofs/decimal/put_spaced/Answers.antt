@@ -1,11 +1,8 @@
 use mathlib.Core.Path.{◌≡◌, refl, ◌∙◌}
-use mathlib.Core.List.{List}
-use Prim.Native.Nat.{ℕ, ◌+◌, ◌-◌, ◌*◌, ◌≤◌}
+use Prim.Native.Nat.{◌+◌}
 use native.Mathlib.Nat.{le_refl}
 use native.Mathlib.Omega.{arith}
-use lib.ListN.{length, get_or, take, drop}
-use Rattle.spell.specs.Spell.{spaced}
-use Rattle.spell.specs.Internal.Writes.{Wrote}
+use lib.ListN.{get_or}
 use Rattle.spell.proofs.WriteLaws.{wrote-end, decimal-few, spaced-more, spaced-none}
 use Rattle.spell.proofs.decimal.put_spaced.Goals as goal
 

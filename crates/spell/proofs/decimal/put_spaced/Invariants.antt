@@ -1,12 +1,9 @@
-use mathlib.Core.Path.{◌≡◌, refl, ◌∙◌}
+use mathlib.Core.Path.{◌≡◌}
 use mathlib.Core.List.{List}
 use Prim.Native.Nat.{ℕ, ◌+◌, ◌-◌, ◌*◌, ◌≤◌}
-use native.Mathlib.Nat.{le_refl}
-use native.Mathlib.Omega.{arith}
-use lib.ListN.{length, get_or, take, drop}
+use lib.ListN.{length, take, drop}
 use Rattle.spell.specs.Spell.{spaced}
 use Rattle.spell.specs.Internal.Writes.{Wrote}
-use Rattle.spell.proofs.WriteLaws.{wrote-end, decimal-few, spaced-more, spaced-none}
 use Rattle.spell.proofs.decimal.put_spaced.Given as goal
 
 abbrev pub invariant-loop-p : goal.invariant-loop-p

@@ -1,15 +1,11 @@
-use mathlib.Core.Path.{◌≡◌, refl, ◌∙◌}
+use mathlib.Core.Path.{◌≡◌}
 use Prim.Native.Nat.{◌+◌}
 use mathlib.Core.List.{List}
 use Prim.Native.Nat.{ℕ, ◌-◌, ◌*◌, ◌≤◌}
-use native.Mathlib.Omega.{arith}
-use borrow.Author.Rules.{rules}
 use lib.ListN.{length, drop}
 use Rattle.form.specs.Lists.{entries, list_of}
 use Rattle.spell.specs.Internal.Writes.{PrintedEntries}
 use Rattle.spell.specs.declared.whole.Spelled.{Spelled}
-use Rattle.spell.proofs.WriteLaws.{wrote-end}
-use Rattle.spell.proofs.EntryLaws.{entries_none, entries-fuel, entries-stop, entries-more, entry-within}
 use Rattle.spell.proofs.entries.print_entries.Given as goal
 
 abbrev pub invariant-loop-p : goal.invariant-loop-p

@@ -1,5 +1,3 @@
-use borrow.Author.Rules.{rules}
-use borrow.Author.Rules.{rules}
 use Rattle.spell.proofs.entries.print_entry.Goals as goal
 
 pub returns-in-Pairs : goal.returns-in-Pairs

@@ -1,10 +1,8 @@
-use mathlib.Core.Path.{◌≡◌, ◌∙◌}
+use mathlib.Core.Path.{◌≡◌}
 use Prim.Native.Nat.{◌+◌}
 use native.Mathlib.Omega.{arith}
-use borrow.Author.Rules.{rules}
 use Rattle.spell.proofs.WriteLaws.{wrote-end}
 use Rattle.spell.proofs.EntryLaws.{list-stop, list-empty, list-end, at_most}
-use borrow.Author.Rules.{rules}
 use Rattle.spell.proofs.entries.print_list.Goals as goal
 
 pub returns-in_default : goal.returns-in_default

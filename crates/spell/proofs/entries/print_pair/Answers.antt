@@ -1,12 +1,10 @@
-use mathlib.Core.Path.{◌≡◌, ◌∙◌}
+use mathlib.Core.Path.{◌≡◌}
 use Prim.Native.Nat.{◌+◌}
 use native.Mathlib.Omega.{arith}
-use borrow.Author.Rules.{rules}
 use lib.ListN.{get_or}
 use Rattle.spell.proofs.WriteLaws.{wrote-end, decimal-few}
 use Rattle.spell.proofs.PrintLaws.{printed-within}
 use Rattle.spell.proofs.EntryLaws.{pair-past, pair-stop, pair-go}
-use borrow.Author.Rules.{rules}
 use Rattle.spell.proofs.entries.print_pair.Goals as goal
 
 pub returns-then-row-at : goal.returns-then-row-at

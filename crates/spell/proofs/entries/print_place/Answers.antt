@@ -1,10 +1,8 @@
-use mathlib.Core.Path.{◌≡◌, ◌∙◌}
+use mathlib.Core.Path.{◌≡◌}
 use Prim.Native.Nat.{◌+◌}
 use native.Mathlib.Omega.{arith}
-use borrow.Author.Rules.{rules}
 use Rattle.spell.proofs.WriteLaws.{wrote-end}
 use Rattle.spell.proofs.EntryLaws.{place-past, place_other, place-go, place_kept}
-use borrow.Author.Rules.{rules}
 use Rattle.spell.proofs.entries.print_place.Goals as goal
 
 pub returns-then-row-at : goal.returns-then-row-at

@@ -1,7 +1,6 @@
 use native.Mathlib.Omega.{arith}
 use Rattle.spell.proofs.AnswerLaws.{zeros}
 use Rattle.spell.proofs.FitLaws.{form-text}
-use borrow.Author.Rules.{rules}
 use Rattle.spell.proofs.fits.fits_form.Goals as goal
 
 pub fits_form_in-requires : goal.fits_form_in-requires

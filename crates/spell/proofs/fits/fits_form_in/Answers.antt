@@ -1,7 +1,6 @@
 use mathlib.Core.Path.{◌∙◌}
 use native.Mathlib.Omega.{arith}
 use Rattle.spell.proofs.FitLaws.{form-row, form-not, form-other, form-same}
-use borrow.Author.Rules.{rules}
 use Rattle.spell.proofs.fits.fits_form_in.Goals as goal
 
 pub returns-then-row-gt8192 : goal.returns-then-row-gt8192

@@ -1,7 +1,6 @@
 use native.Mathlib.Omega.{arith}
 use Rattle.spell.proofs.AnswerLaws.{zeros}
 use Rattle.spell.proofs.FitLaws.{list-text}
-use borrow.Author.Rules.{rules}
 use Rattle.spell.proofs.fits.fits_list.Goals as goal
 
 pub fits_list_in-requires : goal.fits_list_in-requires

@@ -1,7 +1,6 @@
 use native.Mathlib.Omega.{arith}
 use Rattle.spell.proofs.AnswerLaws.{zeros}
 use Rattle.spell.proofs.FitLaws.{names-text}
-use borrow.Author.Rules.{rules}
 use Rattle.spell.proofs.fits.fits_names.Goals as goal
 
 pub fits_names_in-requires : goal.fits_names_in-requires

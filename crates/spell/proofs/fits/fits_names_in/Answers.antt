@@ -1,7 +1,6 @@
 use mathlib.Core.Path.{◌∙◌}
 use native.Mathlib.Omega.{arith}
 use Rattle.spell.proofs.FitLaws.{names-row, names-other, names_same}
-use borrow.Author.Rules.{rules}
 use Rattle.spell.proofs.fits.fits_names_in.Goals as goal
 
 pub returns-then-row-gt8192 : goal.returns-then-row-gt8192

@@ -1,10 +1,7 @@
-use mathlib.Core.Path.{◌≡◌, refl, sym, ◌∙◌}
+use mathlib.Core.Path.{◌≡◌}
 use Prim.Native.Nat.{◌-◌}
-use native.Mathlib.Omega.{arith}
 use lib.ListN.{length, take, drop}
-use lib.Seq.{length-take-le, get_or-take}
 use Rattle.spell.specs.Spell.{same_bytes}
-use Rattle.spell.proofs.AnswerLaws.{same-other, same_more, same-done}
 use Rattle.spell.proofs.fits.same.Given as goal
 
 abbrev pub invariant-loop-i : goal.invariant-loop-i

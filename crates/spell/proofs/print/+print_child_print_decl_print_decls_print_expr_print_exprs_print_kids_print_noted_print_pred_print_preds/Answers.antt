@@ -1,23 +1,17 @@
 -- The proof of the cycle of calls {print_child, print_decl, print_decls, print_expr, print_exprs, print_kids, print_noted, print_pred, print_preds}. The measure is eight times the words that are left, and a little more for a
 -- function that calls another at the same place.
 use mathlib.Core.Path.{◌≡◌, refl, sym, ◌∙◌}
-use mathlib.Core.List.{List, []}
+use mathlib.Core.List.{[]}
 use Prim.Native.Nat.{◌+◌, ◌-◌, ◌*◌, ◌≤◌}
 use native.Mathlib.Nat.{le_refl, le_trans}
 use native.Mathlib.Omega.{arith}
-use borrow.Author.Rules.{rules}
-use lib.ListN.{length, drop, replicate}
+use lib.ListN.{replicate}
 use Rattle.tree.specs.Tag.{expr, pred}
-use Rattle.form.specs.Decode.{decode, decode_all, decls}
-use Rattle.spell.specs.declared.print.Ends.{Ends}
-use Rattle.spell.specs.Internal.Writes.{PrintedAll, PrintedDecls}
 use Rattle.form.proofs.LeafLaws.{leaf_room}
 use Rattle.spell.proofs.WriteLaws.{wrote-end}
 use Rattle.spell.proofs.PrintLaws.{printed-within, all-within, all_more, all-stop, all_none, both_go, both-stop}
 use Rattle.spell.proofs.PrintDecls.{byte-room, spaced-two, decl-no-name, decl-no-flag, decl-bare, decl-typed, decls-more, decls-stop, decls-none, decl-within, decls-within, noted-stop, noted-bare, noted-end, noted_go}
 use Rattle.spell.proofs.NodeLaws.{opening-few, too-deep, past_end, no_own, kids-stop, a-form, kids-within, leaf-printed, a-noted, flags-within}
-use Prim.Native.Nat.{ℕ}
-use Prim.Native.Nat.{◌<◌}
 use Rattle.form.proofs.HeadLaws.{asked_in}
 use Rattle.spell.proofs.print.+print_child_print_decl_print_decls_print_expr_print_exprs_print_kids_print_noted_print_pred_print_preds.Goals as goal
 

@@ -4,7 +4,6 @@ use native.Mathlib.Omega.{arith}
 use lib.ListN.{get_or}
 use Rattle.spell.proofs.WriteLaws.{wrote-end, decimal-few}
 use Rattle.spell.proofs.NodeLaws.{wrote-leaf}
-use borrow.Author.Rules.{rules}
 use Rattle.spell.proofs.print.put_leaf.Goals as goal
 
 pub put_decimal-q-requires : goal.put_decimal-q-requires

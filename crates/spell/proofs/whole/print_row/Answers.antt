@@ -1,5 +1,4 @@
 use Rattle.spell.proofs.AnswerLaws.{printed-form}
-use borrow.Author.Rules.{rules}
 use Rattle.spell.proofs.whole.print_row.Goals as goal
 
 pub returns : goal.returns

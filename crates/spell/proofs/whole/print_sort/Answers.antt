@@ -1,6 +1,4 @@
-use borrow.Author.Rules.{rules}
 use Rattle.spell.proofs.AnswerLaws.{sort-bad, sort-whole, sort-part}
-use borrow.Author.Rules.{rules}
 use Rattle.spell.proofs.whole.print_sort.Goals as goal
 
 pub returns-in_default : goal.returns-in_default

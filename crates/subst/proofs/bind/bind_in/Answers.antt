@@ -2,7 +2,6 @@ use mathlib.Core.Path.{refl, sym, ◌∙◌}
 use Rattle.shift.proofs.ItemLaws.{not_yes, not-no}
 use Rattle.shift.proofs.CheckedLaws.{refused, refused-up, passed, checked-fresh}
 use Rattle.subst.proofs.BindLaws.{good-few, bind-refused, bind-long, bind-names, bind-row}
-use borrow.Author.Rules.{rules}
 use Rattle.tree.proofs.Pairs.{both}
 use Rattle.subst.proofs.bind.bind_in.Goals as goal
 

@@ -5,7 +5,6 @@ use Rattle.shift.proofs.CheckedLaws.{refused}
 use Rattle.shift.proofs.SameLengthLaws.{fails, no_room, answers}
 use Rattle.shift.proofs.ItemLaws.{rewritten-length}
 use Rattle.subst.proofs.BindLaws.{keeps}
-use borrow.Author.Rules.{rules}
 use Rattle.tree.proofs.Pairs.{both}
 use Rattle.subst.proofs.bind.bind_marked.Goals as goal
 

@@ -2,7 +2,6 @@ use mathlib.Core.Path.{sym, ◌∙◌}
 use native.Mathlib.Omega.{arith}
 use borrow.Author.Tests.{eq-eqb, ne_eqb, lt-ltb, le-ltb}
 use Rattle.subst.specs.Internal.Binding.{bound_item}
-use borrow.Author.Rules.{rules}
 use Rattle.subst.proofs.bind.bound_item.Goals as goal
 
 pub returns-in_default : goal.returns-in_default

@@ -1,8 +1,5 @@
-use mathlib.Core.Path.{◌≡◌, refl, sym, ◌∙◌}
+use mathlib.Core.Path.{refl, sym, ◌∙◌}
 use native.Mathlib.Omega.{arith}
-use Prim.Native.Nat.{◌-◌}
-use lib.ListN.{length, drop}
-use Rattle.subst.specs.Internal.Binding.{seek_name}
 use Rattle.subst.proofs.BindLaws.{seek-here, seek-on, seek-end}
 use Rattle.subst.proofs.bind.seek.Goals as goal
 

@@ -1,9 +1,7 @@
-use mathlib.Core.Path.{◌≡◌, refl, sym, ◌∙◌}
-use native.Mathlib.Omega.{arith}
+use mathlib.Core.Path.{◌≡◌}
 use Prim.Native.Nat.{◌-◌}
 use lib.ListN.{length, drop}
 use Rattle.subst.specs.Internal.Binding.{seek_name}
-use Rattle.subst.proofs.BindLaws.{seek-here, seek-on, seek-end}
 use Rattle.subst.proofs.bind.seek.Given as goal
 
 abbrev pub invariant-loop-i : goal.invariant-loop-i

@@ -1,10 +1,5 @@
-use mathlib.Core.Path.{◌≡◌, refl, sym, ◌∙◌}
+use mathlib.Core.Path.{refl, sym, ◌∙◌}
 use native.Mathlib.Omega.{arith}
-use Prim.Native.Nat.{◌-◌}
-use lib.ListN.{length, drop}
-use borrow.Author.Rules.{rules}
-use Rattle.shift.specs.Internal.Items.{items, rewritten, store}
-use Rattle.subst.specs.Internal.Binding.{bound_words}
 use Rattle.shift.proofs.ItemLaws.{store-more, store-none, size_in, size-pos}
 use Rattle.subst.proofs.BindLaws.{keeps}
 use Rattle.subst.proofs.bind.write_bound.Goals as goal

@@ -1,11 +1,7 @@
-use mathlib.Core.Path.{◌≡◌, sym, ◌∙◌}
+use mathlib.Core.Path.{sym, ◌∙◌}
 use native.Mathlib.Omega.{arith}
-use Prim.Native.Nat.{◌+◌, ◌-◌, ◌≤◌}
-use lib.ListN.{length, drop}
-use borrow.Author.Rules.{rules}
 use native.Mathlib.Nat.{zero-add, add-zero}
 use lib.ListN.{get_or}
-use Rattle.subst.specs.Internal.Flags.{selected}
 use Rattle.subst.proofs.DanglingLaws.{count_next, selected-none, flag_one}
 use Rattle.subst.proofs.dangling.count_flags.Goals as goal
 

@@ -1,12 +1,7 @@
-use mathlib.Core.Path.{◌≡◌, sym, ◌∙◌}
-use native.Mathlib.Omega.{arith}
+use mathlib.Core.Path.{◌≡◌}
 use Prim.Native.Nat.{◌+◌, ◌-◌, ◌≤◌}
 use lib.ListN.{length, drop}
-use borrow.Author.Rules.{rules}
-use native.Mathlib.Nat.{zero-add, add-zero}
-use lib.ListN.{get_or}
 use Rattle.subst.specs.Internal.Flags.{selected}
-use Rattle.subst.proofs.DanglingLaws.{count_next, selected-none, flag_one}
 use Rattle.subst.proofs.dangling.count_flags.Given as goal
 
 abbrev pub invariant-loop-i : goal.invariant-loop-i

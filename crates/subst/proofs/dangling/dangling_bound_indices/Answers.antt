@@ -2,7 +2,6 @@ use mathlib.Core.Path.{refl}
 use native.Mathlib.Omega.{arith}
 use Rattle.shift.proofs.CheckedLaws.{refused}
 use Rattle.subst.proofs.DanglingLaws.{dangling-long}
-use borrow.Author.Rules.{rules}
 use Rattle.tree.proofs.Pairs.{both}
 use Rattle.subst.proofs.dangling.dangling_bound_indices.Goals as goal
 

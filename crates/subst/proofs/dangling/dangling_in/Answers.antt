@@ -1,6 +1,5 @@
 use Rattle.shift.proofs.CheckedLaws.{refused-up, passed, checked-fresh}
 use Rattle.subst.proofs.DanglingLaws.{dangling-refused, all_small, dangling-row}
-use borrow.Author.Rules.{rules}
 use Rattle.tree.proofs.Pairs.{both}
 use Rattle.subst.proofs.dangling.dangling_in.Goals as goal
 

@@ -2,7 +2,6 @@ use mathlib.Core.Path.{sym}
 use lib.Seq.{set_out}
 use borrow.Author.Tests.{eq-eqb, ne_eqb, lt-ltb, le-ltb}
 use Rattle.subst.specs.Internal.Flags.{index_words, flag_all}
-use borrow.Author.Rules.{rules}
 use Rattle.subst.proofs.dangling.flag_item.Goals as goal
 
 pub returns-in_default : goal.returns-in_default

@@ -1,10 +1,5 @@
-use mathlib.Core.Path.{◌≡◌, refl, sym, ◌∙◌}
+use mathlib.Core.Path.{refl, sym, ◌∙◌}
 use native.Mathlib.Omega.{arith}
-use Prim.Native.Nat.{◌-◌}
-use lib.ListN.{length, drop}
-use borrow.Author.Rules.{rules}
-use Rattle.shift.specs.Internal.Items.{items, rewritten}
-use Rattle.subst.specs.Internal.Flags.{index_words, flag_all}
 use Rattle.shift.proofs.ItemLaws.{size_in, size-pos}
 use Rattle.subst.proofs.DanglingLaws.{flags-more, flags-none}
 use Rattle.subst.proofs.dangling.flag_items.Goals as goal

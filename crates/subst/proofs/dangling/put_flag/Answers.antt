@@ -2,7 +2,6 @@ use native.Mathlib.Nat.{add-zero}
 use Rattle.subst.specs.Internal.Flags.{flag_words}
 use Rattle.shift.specs.Internal.Items.{store}
 use Rattle.subst.proofs.DanglingLaws.{put-set, put-out}
-use borrow.Author.Rules.{rules}
 use Rattle.tree.proofs.Pairs.{both}
 use Rattle.subst.proofs.dangling.put_flag.Goals as goal
 

@@ -2,7 +2,6 @@ use mathlib.Core.Path.{refl}
 use native.Mathlib.Omega.{arith}
 use Rattle.shift.proofs.CheckedLaws.{refused}
 use Rattle.subst.proofs.DanglingLaws.{set_room, set-answers}
-use borrow.Author.Rules.{rules}
 use Rattle.tree.proofs.Pairs.{both}
 use Rattle.subst.proofs.dangling.set_flagged.Goals as goal
 

@@ -1,6 +1,5 @@
 use mathlib.Core.Path.{refl, sym, ◌∙◌}
 use native.Mathlib.Omega.{arith}
-use borrow.Author.Rules.{rules}
 use Rattle.subst.proofs.dangling.set_marked.Goals as goal
 
 pub set_flagged-requires : goal.set_flagged-requires

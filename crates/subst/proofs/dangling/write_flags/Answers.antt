@@ -1,9 +1,6 @@
-use mathlib.Core.Path.{◌≡◌, refl, sym, ◌∙◌}
+use mathlib.Core.Path.{refl, sym, ◌∙◌}
 use native.Mathlib.Omega.{arith}
-use Prim.Native.Nat.{◌-◌, ◌≤◌}
-use lib.ListN.{length, drop}
 use lib.ListN.{get_or}
-use Rattle.subst.specs.Internal.Flags.{selected}
 use Rattle.shift.specs.Internal.Items.{store}
 use Rattle.subst.proofs.DanglingLaws.{write-next, selected-none, flag_one}
 use Rattle.subst.proofs.dangling.write_flags.Goals as goal

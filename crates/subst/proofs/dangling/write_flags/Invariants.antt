@@ -1,11 +1,8 @@
-use mathlib.Core.Path.{◌≡◌, refl, sym, ◌∙◌}
-use native.Mathlib.Omega.{arith}
+use mathlib.Core.Path.{◌≡◌}
 use Prim.Native.Nat.{◌-◌, ◌≤◌}
 use lib.ListN.{length, drop}
-use lib.ListN.{get_or}
 use Rattle.subst.specs.Internal.Flags.{selected}
 use Rattle.shift.specs.Internal.Items.{store}
-use Rattle.subst.proofs.DanglingLaws.{write-next, selected-none, flag_one}
 use Rattle.subst.proofs.dangling.write_flags.Given as goal
 
 abbrev pub invariant-loop-i : goal.invariant-loop-i

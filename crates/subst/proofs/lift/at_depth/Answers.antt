@@ -1,9 +1,7 @@
 use mathlib.Core.Path.{◌∙◌}
-use borrow.Author.Rules.{rules}
 use lib.ListN.{length}
 use Rattle.rules.specs.Lift.{lift_part}
 use Rattle.subst.proofs.LiftLaws.{part-is, part-at}
-use borrow.Author.Rules.{rules}
 use Rattle.subst.proofs.lift.at_depth.Goals as goal
 
 pub returns : goal.returns

@@ -1,8 +1,6 @@
 use mathlib.Core.Path.{sym}
 use lib.Seq.{length-take-le}
-use borrow.Author.Rules.{rules}
 use borrow.Author.Tests.{le-leb, lt-leb}
-use borrow.Author.Rules.{rules}
 use Rattle.subst.proofs.lift.choose.Goals as goal
 
 pub slice_bounds-result-end : goal.slice_bounds-result-end

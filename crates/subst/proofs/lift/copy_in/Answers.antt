@@ -1,7 +1,5 @@
-use borrow.Author.Tests.{not-true, not-false}
 use Rattle.shift.proofs.CheckedLaws.{not_found, marked-fresh}
 use Rattle.subst.proofs.LiftLaws.{lift-missing, lift-zero, lift-closed, lift-refused, lift-copied}
-use borrow.Author.Rules.{rules}
 use Rattle.tree.proofs.Pairs.{both}
 use Rattle.subst.proofs.lift.copy_in.Goals as goal
 

@@ -4,8 +4,6 @@ use Rattle.tree.specs.Tag.{expr_tags}
 use Rattle.tree.proofs.Ranges.{expr-on}
 use Rattle.tree.proofs.tag.expr_shape.Statement.{statement}
 use Rattle.tree.proofs.tag.expr_shape.Tie as tie
-use Rattle.tree.proofs.tag.expr_shape.Reads as reads
-use Rattle.tree.proofs.tag.expr_shape.Lts as lts
 
 returns : tie.Need-returns-in-3
 unfolding expr_tags

@@ -5,8 +5,6 @@ use Rattle.tree.proofs.Ranges.{pred-on, split}
 use mathlib.Core.Logic.{⊎_elim}
 use Rattle.tree.proofs.tag.pred_shape.Statement.{statement}
 use Rattle.tree.proofs.tag.pred_shape.Tie as tie
-use Rattle.tree.proofs.tag.pred_shape.Reads as reads
-use Rattle.tree.proofs.tag.pred_shape.Lts as lts
 
 returns : tie.Need-returns-in-7
 unfolding pred_tags

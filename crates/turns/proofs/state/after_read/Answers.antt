@@ -1,6 +1,5 @@
 use mathlib.Core.Path.{◌∙◌}
 use Rattle.turns.proofs.TurnLaws.{read_none, read-over, read_past, read_more}
-use borrow.Author.Rules.{rules}
 use Rattle.turns.proofs.state.after_read.Goals as goal
 
 pub returns-then-got-eq0 : goal.returns-then-got-eq0

@@ -1,11 +1,8 @@
 use Prim.Native.Nat.{◌-◌}
 use mathlib.Core.Path.{◌≡◌}
-use native.Mathlib.Omega.{arith}
 use Prim.Native.Nat.{◌≤◌}
 use lib.ListN.{take, drop}
-use borrow.Author.Rules.{rules}
 use Rattle.spell.specs.Put.{put}
-use Rattle.turns.proofs.PutLaws.{copied, copied_none, copied-long, copied_all}
 use Rattle.turns.proofs.state.move_bytes.Given as goal
 
 abbrev pub invariant-loop-i : goal.invariant-loop-i

@@ -1,8 +1,6 @@
 use mathlib.Core.Path.{sym, ◌∙◌}
 use native.Mathlib.Omega.{arith}
-use borrow.Author.Tests.{not-true, not-false}
 use Rattle.turns.proofs.TurnLaws.{moved-are, moved-not, moved-done}
-use borrow.Author.Rules.{rules}
 use Rattle.tree.proofs.Pairs.{both}
 use Rattle.turns.proofs.state.move_down.Goals as goal
 

@@ -1,8 +1,6 @@
 use mathlib.Core.Path.{sym, ◌∙◌}
 use native.Mathlib.Omega.{arith}
-use borrow.Author.Tests.{not-true, not-false}
 use Rattle.turns.proofs.TurnLaws.{decide-rows, decide-unfit, decide-full, decide-piece, fits-are}
-use borrow.Author.Rules.{rules}
 use Rattle.tree.proofs.Pairs.{both}
 use Rattle.turns.proofs.turn.decide.Goals as goal
 

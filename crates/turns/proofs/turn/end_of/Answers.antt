@@ -1,7 +1,6 @@
 use mathlib.Core.Path.{◌≡◌}
 use native.Mathlib.Omega.{arith}
 use Rattle.form.proofs.DecodeLaws.{clash}
-use borrow.Author.Rules.{rules}
 use Rattle.turns.proofs.turn.end_of.Goals as goal
 
 pub returns-in_default : goal.returns-in_default

@@ -1,4 +1,3 @@
-use borrow.Author.Rules.{rules}
 use Rattle.turns.proofs.turn.idle.Goals as goal
 
 pub returns-then-st : goal.returns-then-st

@@ -2,7 +2,6 @@ use mathlib.Core.Path.{refl}
 use mathlib.Core.Bool.{true, false}
 use native.Mathlib.Omega.{arith}
 use Rattle.turns.proofs.TurnLaws.{of_none, of-pass, of-line, rest-none, rest-skipped, rest-last, rest-unread}
-use borrow.Author.Rules.{rules}
 use Rattle.turns.proofs.turn.unfinished.Goals as goal
 
 pub returns-then-n-eq0 : goal.returns-then-n-eq0

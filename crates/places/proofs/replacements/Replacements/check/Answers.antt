@@ -1,7 +1,5 @@
 use mathlib.Core.Path.{sym, ◌∙◌}
-use borrow.Author.Tests.{not-true, not-false}
 use Rattle.places.proofs.PlacesLaws.{pred-form, offer-long, offer-missing, offer-many, offer-none, offer-not, offer-is}
-use borrow.Author.Rules.{rules}
 use Rattle.places.proofs.replacements.Replacements.check.Goals as goal
 
 pub returns-then-row-gt-WORDS : goal.returns-then-row-gt-WORDS

@@ -1,6 +1,5 @@
 use borrow.Author.Tests.{le-leb, lt-leb}
 use Rattle.places.specs.Places.{new_of}
-use borrow.Author.Rules.{rules}
 use Rattle.places.proofs.replacements.Replacements.new.Goals as goal
 
 pub returns-then-n-gt-LIMIT : goal.returns-then-n-gt-LIMIT

@@ -1,10 +1,9 @@
 use mathlib.Core.Path.{sym, ◌∙◌}
 use native.Mathlib.Omega.{arith}
-use borrow.Author.Tests.{eq-eqb, ne_eqb, lt-ltb, le-ltb, not-true, not-false}
+use borrow.Author.Tests.{eq-eqb, ne_eqb, lt-ltb, le-ltb}
 use Rattle.places.specs.Internal.Sides.{offer_part}
 use Rattle.places.proofs.SidesLaws.{above-is}
 use Rattle.places.proofs.PlacesLaws.{place-from}
-use borrow.Author.Rules.{rules}
 use Rattle.places.proofs.replacements.Replacements.offer.Goals as goal
 
 pub returns-then-n-index : goal.returns-then-n-index
