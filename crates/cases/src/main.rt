@@ -16,8 +16,8 @@ mod text;
 
 use crate::text::{find, part, read_words, size_at, word_at, words_part};
 use form::answer::Answer;
-use libc::STDIN_FILENO;
 use places::replacements::Replacements;
+use std::io::{self, Input, Read};
 
 fn offset(param: u32, sign: u32) -> i32 {
     match sign {
@@ -50,6 +50,7 @@ fn answer_of(
 
 // The call on rows of the asked lengths.
 fn run_call(
+    rt: &impl Print,
     call: u32,
     by: i32,
     list: &[u32],
@@ -58,52 +59,67 @@ fn run_call(
     w: usize,
     out: &mut [u32],
     o: usize,
-) {
+) -> io::Result<()> {
     if work.len() < w {
-        return;
+        return Ok(());
     }
     if out.len() < o {
-        return;
+        return Ok(());
     }
     let a = answer_of(call, by, list, row, &mut work[..w], &mut out[..o]);
-    print::answer(a);
-    print::words(words_part(out, 0, o));
+    print::answer(rt, a)?;
+    print::words(rt, words_part(out, 0, o))
 }
 
 // A call with rows of its own.
-fn run_fresh(call: u32, by: i32, list: &[u32], row: &[u32], w: usize, o: usize) {
+fn run_fresh(
+    rt: &impl Print,
+    call: u32,
+    by: i32,
+    list: &[u32],
+    row: &[u32],
+    w: usize,
+    o: usize,
+) -> io::Result<()> {
     let mut work = [77u32; 16400];
     let mut out = [88u32; 8200];
-    run_call(call, by, list, row, &mut work, w, &mut out, o);
+    run_call(rt, call, by, list, row, &mut work, w, &mut out, o)
 }
 
-fn run_lift(base: &[u32], work: &mut [u32], w: usize, depth: u32) {
+fn run_lift(
+    rt: &impl Print,
+    base: &[u32],
+    work: &mut [u32],
+    w: usize,
+    depth: u32,
+) -> io::Result<()> {
     if work.len() < w {
-        return;
+        return Ok(());
     }
     let part = subst::lift::at_depth(base, &mut work[..w], depth);
-    print::count(part.len());
-    print::words(part);
+    print::count(rt, part.len())?;
+    print::words(rt, part)
 }
 
-fn lift_fresh(base: &[u32], w: usize, depth: u32) {
+fn lift_fresh(rt: &impl Print, base: &[u32], w: usize, depth: u32) -> io::Result<()> {
     let mut work = [77u32; 16400];
-    run_lift(base, &mut work, w, depth);
+    run_lift(rt, base, &mut work, w, depth)
 }
 
 // The case that these words say.
-fn run_words(words: &[u32]) {
+fn run_words(rt: &impl Print, words: &[u32]) -> io::Result<()> {
     let call = word_at(words, 0);
     let w = size_at(words, 2);
     let param = word_at(words, 3);
     let n = size_at(words, 5);
     let row = words_part(words, 6 + n, words.len());
     match call {
-        102 => lift_fresh(row, w, param),
-        103 => place_sets::run(row, Replacements::new(param as usize)),
-        104 => place_sets::run(row, place_sets::forced(param as usize)),
-        105 => print::answer(reader::lists::check_places(row, param)),
+        102 => lift_fresh(rt, row, w, param),
+        103 => place_sets::run(rt, row, Replacements::new(param as usize)),
+        104 => place_sets::run(rt, row, place_sets::forced(param as usize)),
+        105 => print::answer(rt, reader::lists::check_places(row, param)),
         _ => run_fresh(
+            rt,
             call,
             offset(param, word_at(words, 4)),
             words_part(words, 6, 6 + n),
@@ -114,45 +130,48 @@ fn run_words(words: &[u32]) {
     }
 }
 
-fn run_case(name: &[u8], text: &[u8]) {
+fn run_case(rt: &impl Print, name: &[u8], text: &[u8]) -> io::Result<()> {
     let mut words = [0u32; 16400];
     let n = read_words(text, &mut words);
-    print::text(name);
-    print::text(b":");
-    run_words(words_part(&words, 0, n));
-    print::text(b"\n");
+    print::text(rt, name)?;
+    print::text(rt, b":")?;
+    run_words(rt, words_part(&words, 0, n))?;
+    print::text(rt, b"\n")
 }
 
 // The case that starts here: where the next one does.
-fn step(input: &[u8], at: usize) -> usize {
+fn step(rt: &impl Print, input: &[u8], at: usize) -> io::Result<usize> {
     let middle = find(input, at, b';');
     let end = find(input, middle, b'\n');
-    run_case(part(input, at, middle), part(input, middle, end));
+    run_case(rt, part(input, at, middle), part(input, middle, end))?;
     if input.len() <= end {
-        return input.len();
+        return Ok(input.len());
     }
-    end + 1
+    Ok(end + 1)
 }
 
-fn run(input: &[u8]) {
+fn run(rt: &impl Print, input: &[u8]) -> io::Result<()> {
     let mut at = 0;
     let mut left = input.len();
     while left > 0 && at < input.len() {
-        at = step(input, at);
+        at = step(rt, input, at)?;
         left -= 1;
     }
+    Ok(())
 }
 
-fn read_and_run(input: &mut [u8]) {
-    let n = io::read_full(STDIN_FILENO, input);
-    if input.len() <= n {
-        print::text(b"too long\n");
-        return;
+// At most so many bytes are read. An input with as many may go on behind them, and is too long.
+const ROOM: usize = 65536;
+
+fn read_and_run(rt: &(impl Input + Print + Alloc)) -> io::Result<()> {
+    let mut input = Vec::new(rt.alloc());
+    rt.reader().take(ROOM as u64).read_to_end(&mut input)?;
+    if ROOM <= input.len() {
+        return print::text(rt, b"too long\n");
     }
-    run(&input[..n]);
+    run(rt, &input)
 }
 
-fn main() {
-    let mut input = [0u8; 65536];
-    read_and_run(&mut input);
+fn main(rt: HostRuntime) -> io::Result<()> {
+    read_and_run(&rt)
 }

@@ -1,10 +1,12 @@
 // `cell --explain K`: what refusal K means, and what to look at.
 ghost use Rattle.std.specs.Prelude.{◌≤◌};
 
-use libc::{STDERR_FILENO, STDOUT_FILENO};
+use std::env::FillError;
+use std::io;
+use std::rt::Env;
 
-fn say(text: &[u8]) {
-    io::write_all(STDOUT_FILENO, text);
+fn say(rt: &impl Print, text: &[u8]) -> io::Result<()> {
+    rt.write_all(text)
 }
 
 fn is_same(a: &[u8], b: &[u8]) -> bool {
@@ -47,71 +49,90 @@ fn number(digits: &[u8]) -> u32 {
 }
 
 // Writes the text of refusal k, if there is one.
-fn explain(k: u32) -> bool {
+fn explain(rt: &impl Print, k: u32) -> io::Result<bool> {
     match k {
         1 => say(
-            b"1: A row has more than 8,192 words.\n_look at the length of the form and of the list; neither may be longer.\n",
-        ),
+            rt,
+            b"1: A row has more than 8,192 words.\nLook at the length of the form and of the list; neither may be longer.\n",
+        )?,
         2 => say(
-            b"2: A row is not exactly one form, or one list, of the kind that the command takes, within the limits of words, depth, names and declarations.\n_in [no 2 p] the words before p are right and word p cannot stand there: leave out the brackets, count the words of the form from 0, and look at word p; if there are only p words, words are missing at the end.\n_in [named FORM] every occurrence is a name: if word p is a 2 where an expression may begin, an index stands there.\n_if the form is not refused by 2 in [shift 0 FORM], or in [prune FORM] where the command takes a predicate, then count in the list; in a list of places, empty brackets are a word 0, and a word 1 stands before the words of any other.\n",
-        ),
+            rt,
+            b"2: A row is not exactly one form, or one list, of the kind that the command takes, within the limits of words, depth, names and declarations.\nIn [no 2 p] the words before p are right and word p cannot stand there: leave out the brackets, count the words of the form from 0, and look at word p; if there are only p words, words are missing at the end.\nIn [named FORM] every occurrence is a name: if word p is a 2 where an expression may begin, an index stands there.\nIf the form is not refused by 2 in [shift 0 FORM], or in [prune FORM] where the command takes a predicate, then count in the list; in a list of places, empty brackets are a word 0, and a word 1 stands before the words of any other.\n",
+        )?,
         3 => say(
-            b"3: Fill and prune take a quantified predicate, and this form is none.\n_look at its first word: it must be 851, 852, 861 or 862.\n",
-        ),
+            rt,
+            b"3: Fill and prune take a quantified predicate, and this form is none.\nLook at its first word: it must be 851, 852, 861 or 862.\n",
+        )?,
         4 => say(
-            b"4: A list has a name twice, a name over 65,535, or over 32 names.\n_look at the names of the list.\n",
-        ),
+            rt,
+            b"4: A list has a name twice, a name over 65,535, or over 32 names.\nLook at the names of the list.\n",
+        )?,
         5 => say(
-            b"5: A fill has more places than the form has declarations, or a set of places is for over 32 declarations.\n_count the places and the declarations; fewer places are no fault, since those that are missing at the end count as kept.\n",
-        ),
+            rt,
+            b"5: A fill has more places than the form has declarations, or a set of places is for over 32 declarations.\nCount the places and the declarations; fewer places are no fault, since those that are missing at the end count as kept.\n",
+        )?,
         6 => say(
-            b"6: The shift would bring a dangling index below its depth, and a declaration would capture it.\n_look at the lowest dangling index: the offset may take it to 0 and no lower.\n",
-        ),
+            rt,
+            b"6: The shift would bring a dangling index below its depth, and a declaration would capture it.\nLook at the lowest dangling index: the offset may take it to 0 and no lower.\n",
+        )?,
         7 => say(
-            b"7: The result would be outside the limits of a row: 8,192 words, depth 64, names and indices up to 65,535, 32 declarations in one quantifier.\n_form and list are right; together they give too much.\n",
-        ),
+            rt,
+            b"7: The result would be outside the limits of a row: 8,192 words, depth 64, names and indices up to 65,535, 32 declarations in one quantifier.\nForm and list are right; together they give too much.\n",
+        )?,
         8 => say(
-            b"8: The line is not a command, or brackets do not hold exactly one node, pair or place.\n_look for an unknown head, a missing bracket or argument, two spaces, a leading zero, or a number that does not fit 32 bits.\n",
-        ),
+            rt,
+            b"8: The line is not a command, or brackets do not hold exactly one node, pair or place.\nLook for an unknown head, a missing bracket or argument, two spaces, a leading zero, or a number that does not fit 32 bits.\n",
+        )?,
         9 => say(
-            b"9: There is nothing to rewrite: every declaration is used, no equality can be taken, or the form is no element of a comprehension.\n_the form may be kept as it is.\n",
-        ),
+            rt,
+            b"9: There is nothing to rewrite: every declaration is used, no equality can be taken, or the form is no element of a comprehension.\nThe form may be kept as it is.\n",
+        )?,
         10 => say(
-            b"10: An offer to a set of places is not an equality, 101, with an index on one side.\n_only calls of the library answer so.\n",
-        ),
+            rt,
+            b"10: An offer to a set of places is not an equality, 101, with an index on one side.\nOnly calls of the library answer so.\n",
+        )?,
         11 => say(
-            b"11: The index that an offered equality fixes is not one of the declarations of the set.\n_only calls of the library answer so.\n",
-        ),
+            rt,
+            b"11: The index that an offered equality fixes is not one of the declarations of the set.\nOnly calls of the library answer so.\n",
+        )?,
         12 => say(
-            b"12: The replacement that an offered equality gives has a dangling index that is not above its target.\n_only calls of the library answer so.\n",
-        ),
+            rt,
+            b"12: The replacement that an offered equality gives has a dangling index that is not above its target.\nOnly calls of the library answer so.\n",
+        )?,
         13 => say(
-            b"13: The place that an offered equality would fill is filled.\n_only calls of the library answer so.\n",
-        ),
+            rt,
+            b"13: The place that an offered equality would fill is filled.\nOnly calls of the library answer so.\n",
+        )?,
         14 => say(
-            b"14: The output row is shorter than the result.\n_only calls of the library answer so; an output row of 8,192 words is never too short.\n",
-        ),
+            rt,
+            b"14: The output row is shorter than the result.\nOnly calls of the library answer so; an output row of 8,192 words is never too short.\n",
+        )?,
         15 => say(
-            b"15: The work row has under 16,384 words.\n_only calls of the library answer so.\n",
-        ),
-        _ => return false,
+            rt,
+            b"15: The work row has under 16,384 words.\nOnly calls of the library answer so.\n",
+        )?,
+        _ => return Ok(false),
     }
-    true
+    Ok(true)
+}
+
+// Whether the program was given an argument, of any length.
+pub(crate) fn has_arguments(rt: &impl Env) -> bool {
+    !matches!(rt.arg(1, &mut []), Err(FillError::NotPresent))
 }
 
 // The answer to the program's arguments: the text of a refusal, or how the program is used. No command is read then.
-pub(crate) fn answer_arguments() {
+pub(crate) fn answer_arguments(rt: &(impl Env + Print + Eprint)) -> io::Result<()> {
     let mut word = [0u8; 16];
-    let n = os::arg(1, &mut word);
+    let n = rt.arg(1, &mut word).unwrap_or(0);
     let mut digits = [0u8; 2];
-    let m = os::arg(2, &mut digits);
+    let m = rt.arg(2, &mut digits).unwrap_or(0);
     if is_same(&word[..n], b"--explain") {
-        if explain(number(&digits[..m])) {
-            return;
+        if explain(rt, number(&digits[..m]))? {
+            return Ok(());
         }
     }
-    io::write_all(
-        STDERR_FILENO,
-        b"cell reads commands from standard input; cell --explain K tells what refusal K, from 1 to 15, means\n",
-    );
+    eprintln!(rt;
+        "cell reads commands from standard input; cell --explain K tells what refusal K, from 1 to 15, means"
+    )
 }
