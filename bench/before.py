@@ -5,9 +5,9 @@ annotations, which no library before Paper 8 reads.
 Where its code lies in memory changes the time of a call by up to a quarter. So both libraries are linked in eight layouts: either one first, the
 code moved by 0, 16, 32 and 48 bytes; the least time of each library over all layouts counts.
 
-  python3 bench/before.py BEFORE.a [ROUNDS [RUNS]]        in the repository's root, after rt staticlib sogbayile there and at the earlier landing;
-                                                          prints a table in Markdown: nanoseconds a row, the least of RUNS runs (default 1) of each
-                                                          layout
+  python3 bench/before.py BEFORE.a [ROUNDS [RUNS]]        in the repository's root, after rt lib in crates/sogbayile; BEFORE.a is the library of the
+                                                          earlier landing; prints a table in Markdown: nanoseconds a row, the least of RUNS runs
+                                                          (default 1) of each layout
 """
 import os
 import subprocess
@@ -16,7 +16,7 @@ import sys
 sys.path.insert(0, "bench")
 from refused import COMMANDS, SIZES, parts
 
-LIBRARY = "target/staticlib/libsogbayile.a"
+LIBRARY = "crates/sogbayile/out/libsogbayile.a"
 EARLIER = "target/bench/libbefore.a"
 
 

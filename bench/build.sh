@@ -2,7 +2,7 @@
 # Builds the measuring driver: bench/build.sh, then target/bench/driver ROUNDS > docs/benchmarks.csv
 #   SRC   where the published Rust stands (see oracle/README.md); nothing of it is kept in the repository
 #   CC    the C compiler for plain.c (default: cc)
-# Needs target/staticlib/libsogbayile.a (rt staticlib sogbayile), cargo, and what oracle/README.md names.
+# Needs crates/sogbayile/out/libsogbayile.a (rt lib in crates/sogbayile), cargo, and what oracle/README.md names.
 set -eu
 here=$(cd "$(dirname "$0")" && pwd)
 top=$(cd "$here/.." && pwd)

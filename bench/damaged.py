@@ -3,9 +3,9 @@
 its spelling, rows and lists apart from the program's definitions, held against the cell program's answers. The
 position that is printed with 2 is that of oracle/position.py.
 
-  python3 bench/damaged.py SEED COUNT        in the repository's root, after rt check cell
+  python3 bench/damaged.py SEED COUNT        in the repository's root, after rt run in crates/cell
   --annotations           lines of all seven commands, many of whose quantifiers have annotations (document 02, Paper 8)
-  --program PROGRAM       another program than target/bin/cell
+  --program PROGRAM       another program than crates/cell/out/cell
 """
 import argparse
 import collections
@@ -405,7 +405,7 @@ if __name__ == '__main__':
     a.add_argument('seed', type=int)
     a.add_argument('count', type=int)
     a.add_argument('--annotations', action='store_true')
-    a.add_argument('--program', default='target/bin/cell')
+    a.add_argument('--program', default='crates/cell/out/cell')
     o = a.parse_args()
     R = random.Random(o.seed)
     commands = 'shift,free,bind,fill,prune'

@@ -2,11 +2,11 @@
 """Damaged rows and the position at which each breaks: forms, lists of pairs and lists of places, of up to 8,192 words and up to 70 deep.
 The model of crates/cases, which shares nothing with the program, predicts the position; the cell program must print it.
 
-  python3 bench/damaged_rows.py SEED COUNT        in the repository's root, after rt check cell
+  python3 bench/damaged_rows.py SEED COUNT        in the repository's root, after rt run in crates/cell
   python3 bench/damaged_rows.py SEED COUNT --lines        prints some of the lines, each followed by its answer: the list that stands in crates/cell/stdin
   --annotations           half of the quantifiers have annotations (document 02, Paper 8), and the damages know their tags and flags
   --named                 named rows alone (document 02, Paper 1): forms of either sort without an index, and the damages put indices in
-  --program PROGRAM       another program than target/bin/cell
+  --program PROGRAM       another program than crates/cell/out/cell
 
 A row is sent without inner brackets, so that a row that is accepted is refused by 8, after its 2.
 """
@@ -196,7 +196,7 @@ def main():
     a.add_argument("--lines", action="store_true")
     a.add_argument("--annotations", action="store_true")
     a.add_argument("--named", action="store_true")
-    a.add_argument("--program", default="target/bin/cell")
+    a.add_argument("--program", default="crates/cell/out/cell")
     o = a.parse_args()
     random.seed(o.seed)
     if o.annotations:

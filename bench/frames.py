@@ -2,15 +2,15 @@
 """The stack frame of each function of the static library, by its code: bytes that the function takes beside the registers that it saves. A buffer
 that the compiler moved into a caller is seen here.
 
-  python3 bench/frames.py        in the repository's root, after rt staticlib sogbayile; exits with 1 where a function in the path of every row of
+  python3 bench/frames.py        in the repository's root, after rt lib in crates/sogbayile; exits with 1 where a function in the path of every row of
                                  fill, prune, one point or named has a frame of a page or more, which only a buffer for long rows needs
 """
 import re
 import subprocess
 import sys
 
-LIBRARY = "target/staticlib/libsogbayile.a"
-PLAIN = "listed::fill::fill_marked", "prune::prune::prune_in", "one_point::reduce::reduce_in", "sogbayile::commands::sgb_fill", "sogbayile::commands::sgb_point"
+LIBRARY = "crates/sogbayile/out/libsogbayile.a"
+PLAIN = "listed::fill::fill_marked", "prune::prune::prune_in", "one_point::reduce::reduce_in", "sgb_fill", "sgb_point"
 PAGE = 4096
 
 
@@ -37,6 +37,9 @@ def main():
     taken = frames()
     for name, size in sorted(taken.items(), key=lambda item: -item[1]):
         print("%7d  %s" % (size, name))
+    missing = [name for name in PLAIN if name not in taken]
+    if missing:
+        sys.exit("the compiler left no function of its own for " + ", ".join(missing))
     wide = [name for name in PLAIN if taken[name] >= PAGE]
     if wide:
         sys.exit("a buffer stands in the path of every row: " + ", ".join(wide))

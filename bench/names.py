@@ -3,7 +3,7 @@
 for bind, which have the same shape, of 20 to 8,000 words and of lengths between; then rows of 8,000 words under 1,920 open declarations, of 2,000 words under 896 and of 500 words under 256,
 in which every occurrence names an outer one. Their time a word is held against that of ordinary rows, for 500 words those of 200.
 
-  python3 bench/names.py [ROUNDS]        in the repository's root, after rt staticlib sogbayile; prints tables in Markdown: nanoseconds a word
+  python3 bench/names.py [ROUNDS]        in the repository's root, after rt lib in crates/sogbayile; prints tables in Markdown: nanoseconds a word
 """
 import os
 import random
@@ -13,7 +13,7 @@ import sys
 sys.path.insert(0, "bench")
 from refused import SIZES, parts
 
-LIBRARY = "target/staticlib/libsogbayile.a"
+LIBRARY = "crates/sogbayile/out/libsogbayile.a"
 BETWEEN = (225, 64), (300, 64), (400, 64), (540, 64), (700, 48), (1000, 32), (2200, 24)       # a row has at most so many words; how many rows
 BOUND = [3, 7, 1, 12]           # the names that bind is given
 EACH = 32                       # declarations of a quantifier

@@ -2,7 +2,7 @@
 """What a refusal by 2 costs: rows of bench/rows.py, good and with a damaged last word, through the static library (bench/refused.c). The rows of
 a name with +notes have annotations.
 
-  python3 bench/refused.py [ROUNDS]        in the repository's root, after rt staticlib sogbayile; prints a table in Markdown
+  python3 bench/refused.py [ROUNDS]        in the repository's root, after rt lib in crates/sogbayile; prints a table in Markdown
 """
 import os
 import subprocess
@@ -45,7 +45,7 @@ def parts(line):
 def main():
     os.makedirs("target/bench", exist_ok=True)
     subprocess.run(["cc", "-std=gnu11", "-O3", "-c", "-o", "target/bench/plain.o", "bench/plain.c"], check=True)
-    subprocess.run(["cc", "-O2", "-Iinclude", "-o", "target/bench/refused", "bench/refused.c", "target/bench/plain.o", "target/staticlib/libsogbayile.a"], check=True)
+    subprocess.run(["cc", "-O2", "-Iinclude", "-o", "target/bench/refused", "bench/refused.c", "target/bench/plain.o", "crates/sogbayile/out/libsogbayile.a"], check=True)
     sets = []
     for command, more in [(c, more) for more in ([], ["annotated"]) for c in COMMANDS + ["named"]]:
         for size, count in SIZES:

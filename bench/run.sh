@@ -7,8 +7,8 @@ set -eu
 top=$(cd "$(dirname "$0")/.." && pwd)
 cd "$top"
 runs=${1:-3}
-rt staticlib sogbayile >/dev/null
-rt check cell >/dev/null
+(cd crates/sogbayile && rt lib) >/dev/null
+(cd crates/cell && rt run </dev/null) >/dev/null
 bench/build.sh
 out=target/bench
 rm -f "$out"/run.*.csv "$out"/noted.*.csv
@@ -19,13 +19,13 @@ done
 python3 bench/chart.py docs/benchmarks.svg "$out"/run.*.csv -- "$out"/noted.*.csv
 python3 bench/names.py
 python3 bench/refused.py
-python3 bench/lines.py target/bin/cell "$out/oracle/oracle" 7
+python3 bench/lines.py crates/cell/out/cell "$out/oracle/oracle" 7
 command -v valgrind >/dev/null || exit 0
 for command in shift free bind fill prune point member named; do
     for words in 2000 8000; do
         for kind in "" annotated; do
             python3 bench/rows.py "$command" "$words" 40 "$words" $kind >"$out/rows"
-            valgrind --tool=callgrind --callgrind-out-file="$out/cg" target/bin/cell <"$out/rows" 2>&1 >/dev/null |
+            valgrind --tool=callgrind --callgrind-out-file="$out/cg" crates/cell/out/cell <"$out/rows" 2>&1 >/dev/null |
                 sed -n "s/.*Collected : /instructions of $command, 40 rows of $words words${kind:+, annotated}: /p"
         done
     done

@@ -2,8 +2,8 @@
 
     python3 bench/sizes.py
 
-Empty lines, comments and imports are not counted. A law is a line of a file directly under proofs/, a proof of a function a line of a
-Proof.antt below it.
+Empty lines, comments and imports are not counted. A law is a line of a file directly under proofs/, a proof of a function a line of an
+Answers.antt, an Invariants.antt or a Proof.antt below it.
 """
 import glob
 import os
@@ -22,17 +22,17 @@ def lines(pattern, skipped):
 
 
 def main():
-    imports = ("--", "use ", "pub mod ")
+    imports = ("--", "use ", "mod ", "pub mod ")
     total = [0, 0, 0, 0]
     print("| Crate | code | definitions | laws | proofs of functions |")
     print("|---|---|---|---|---|")
     for entry in open(os.path.join(TOP, "crates.txt"), encoding="utf-8"):
-        crate = entry.split(":")[0].strip()
+        crate = entry.split(":")[0].split()[0]
         row = [
-            lines(crate + "/src/**/*.rt", ("//", "use ", "ghost use ", "mod ", "pub mod ")),
+            lines(crate + "/src/**/*.rt", ("//", "use ", "pub use ", "ghost use ", "mod ", "pub mod ")),
             lines(crate + "/specs/**/*.antt", imports),
             lines(crate + "/proofs/*.antt", imports),
-            lines(crate + "/proofs/**/Proof.antt", imports),
+            sum(lines(crate + "/proofs/*/**/%s.antt" % kind, imports) for kind in ("Answers", "Invariants", "Proof")),
         ]
         total = [a + b for a, b in zip(total, row)]
         print("| %s | %s |" % (crate, " | ".join("{:,}".format(n) for n in row)))

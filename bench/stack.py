@@ -2,7 +2,7 @@
 """How much stack each call takes (bench/stack.c): rows of some 8,000 words, up to 64 deep, without annotations and with them, heads that one
 point and membership join with the body's own, and names under 1,952 declarations. These are the figures of include/sogbayile.h.
 
-  python3 bench/stack.py        in the repository's root, after rt staticlib sogbayile
+  python3 bench/stack.py        in the repository's root, after rt lib in crates/sogbayile
 """
 import os
 import subprocess
@@ -11,7 +11,7 @@ import sys
 sys.path.insert(0, "bench")
 from refused import COMMANDS, parts
 
-LIBRARY = "target/staticlib/libsogbayile.a"
+LIBRARY = "crates/sogbayile/out/libsogbayile.a"
 ROWS = "shift", "check", "dangling", "lift"
 
 

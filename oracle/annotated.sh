@@ -1,6 +1,6 @@
 #!/bin/sh
 # Compares a program with the oracle on lines with annotations, after ./build.sh: ./annotated.sh PROGRAM ARG..
-#   ./annotated.sh ../target/bin/cell
+#   ./annotated.sh ../crates/cell/out/cell
 #   ./annotated.sh python3 model.py             the model of crates/cases, half an hour
 # All small lines, then 780,000 random ones of the seven commands, 520,000 of which have annotations.
 set -eu
