@@ -1,6 +1,6 @@
 /* Sogbayile: binder surgery on Event-B forms. The static library libsogbayile.a, for C on x86-64 Linux.
  *
- *   rt staticlib sogbayile        writes target/staticlib/libsogbayile.a
+ *   cd crates/sogbayile && rt lib        proves the crate and writes out/libsogbayile.a there
  *
  * ROWS. A form is a row of 32-bit words in prefix order; every row is passed as a pointer and its number of
  * words. Quantifiers with annotations have the tags 861, 862 (for 851, 852) and 871 to 873 (for 801 to 803): after
@@ -21,10 +21,11 @@
  * OWNERSHIP. All rows are the caller's. The library allocates nothing and keeps no pointer, has no state, and
  * may be called from several threads with rows of their own. A work row may hold anything before and after.
  *
- * STACK. As measured on rows of some 8,000 words, up to 64 deep (bench/stack.py), a call takes up to 431 KB of the
- * caller's stack: sgb_point 431 KB, sgb_member 312, sgb_named 289, sgb_fill 165, sgb_free 141, sgb_dangling 110,
- * sgb_prune 77, the others less than 60; on rows without annotations sgb_point 291, sgb_named 289, sgb_member 242,
- * sgb_fill 135, sgb_prune 54. sgb_run takes what the command's own call takes.
+ * STACK. As measured on rows of some 8,000 words, up to 64 deep (bench/stack.py, with the library as an older kit of
+ * Rattle built it), a call takes up to 431 KB of the caller's stack: sgb_point 431 KB, sgb_member 312, sgb_named 289,
+ * sgb_fill 165, sgb_free 141, sgb_dangling 110, sgb_prune 77, the others less than 60; on rows without annotations
+ * sgb_point 291, sgb_named 289, sgb_member 242, sgb_fill 135, sgb_prune 54. sgb_run takes what the command's own call
+ * takes.
  *
  * REFUSALS, in the order in which they are tested: 15, then 1 and 2 for each row (the form first, then the
  * list), 3, 4, 5, 6, 9, 7, 14; for offers 1, 2, 5, 10, 11, 12, 13.

@@ -1,5 +1,5 @@
-//! Links target/staticlib/libsogbayile.a, which `rt staticlib sogbayile` writes; SOGBAYILE_LIB names another folder. Makes the commands from
-//! the proved table, crates/rules/specs/Command.antt, and their documentation from the comments of include/sogbayile.h.
+//! Links crates/sogbayile/out/libsogbayile.a, which `rt lib` writes in crates/sogbayile; SOGBAYILE_LIB names another folder. Makes the commands
+//! from the proved table, crates/rules/specs/Command.antt, and their documentation from the comments of include/sogbayile.h.
 use std::fmt::Write;
 use std::path::{Path, PathBuf};
 
@@ -27,12 +27,12 @@ fn after<'a>(table: &'a str, start: &str) -> &'a str {
 }
 
 fn command<'a>(table: &'a str, name: &'a str) -> Command<'a> {
-    let entry = after(table, &format!("entryOf {name} = ("));
+    let entry = after(table, &format!("entry_of {name} = ("));
     let parts: Vec<&str> = entry.trim_end_matches(')').split(", ").collect();
     let [head, args, kind] = parts[..] else { panic!("an entry has three parts, that of {name} has not") };
     let bytes = head.split(" ∷ ").filter(|byte| *byte != "[]");
     let head: String = bytes.map(|byte| char::from(byte.parse::<u8>().expect("a head is a list of bytes"))).collect();
-    let outcome = after(table, &format!("outcomeOf {name} z list row work room = "));
+    let outcome = after(table, &format!("outcome_of {name} z list row work room = "));
     let given: Vec<&str> = outcome.split(' ').skip(1).collect();
     // the table has names of its own for the offset and for the room in the output
     let is_given = |param: &str| {
@@ -43,7 +43,7 @@ fn command<'a>(table: &'a str, name: &'a str) -> Command<'a> {
         })
     };
     let params = PARAMS.into_iter().filter(|(param, _, _)| is_given(param)).collect();
-    Command { name, head: head.trim_end().to_string() + " ", args, kind, params }
+    Command { name, head, args, kind, params }
 }
 
 impl Command<'_> {
@@ -142,10 +142,10 @@ fn main() {
 
     let folder = match std::env::var("SOGBAYILE_LIB") {
         Ok(folder) => PathBuf::from(folder),
-        Err(_) => here.join("../target/staticlib"),
+        Err(_) => here.join("../crates/sogbayile/out"),
     };
     let archive = folder.join("libsogbayile.a");
-    assert!(archive.exists(), "{} is missing: rt staticlib sogbayile", archive.display());
+    assert!(archive.exists(), "{} is missing: run rt lib in crates/sogbayile", archive.display());
     println!("cargo:rustc-link-search=native={}", folder.display());
     println!("cargo:rustc-link-lib=static=sogbayile");
     println!("cargo:rerun-if-changed={}", archive.display());
