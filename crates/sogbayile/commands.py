@@ -23,7 +23,8 @@ ALL = ["offset", "list", "row", "work", "out"]
 ORDER = ["list", "row", "offset", "work", "out"]
 IN_C = {"list": r"const uint32_t \*(?P<list>\w+), size_t (?P=list)_len", "row": r"const uint32_t \*row, size_t row_len", "offset": "int32_t offset",
         "work": r"uint32_t \*work, size_t work_len", "out": r"uint32_t \*out, size_t out_len"}
-TYPES = {"list": "&[u32]", "row": "&[u32]", "offset": "i32", "work": "&mut [u32]", "out": "&mut [u32]"}
+TYPES = {"command": "Command", "list": "&[u32]", "row": "&[u32]", "offset": "i32", "work": "&mut [u32]", "out": "&mut [u32]"}
+WIDTH = 100         # of a line, for rt fmt
 
 
 def text_of(path):
@@ -38,7 +39,7 @@ def call_of(outcome):
         crate, module = os.path.relpath(path, os.path.join(TOP, "crates")).split(os.sep)[::2]
         with open(path, encoding="utf-8") as f:
             for name, contract in re.findall(r"^pub fn (\w+)\(.*?\) -> Answer\n(.*?)^\{", f.read(), re.M | re.S):
-                if "r ≡ told (%s " % outcome in contract:
+                if "result ≡ told (%s " % outcome in contract:
                     found.append("%s::%s::%s" % (crate, module[:-3], name))
     if len(found) != 1:
         sys.exit("%s is the contract of %d public functions: %s" % (outcome, len(found), ", ".join(found)))
@@ -48,10 +49,10 @@ def call_of(outcome):
 class Command:
     def __init__(self, name, number, table, header):
         self.name, self.number = name, number
-        head = re.search(r"^entryOf %s = \(([\d ∷]*) ∷ \[\]," % name, table, re.M).group(1)
+        head = re.search(r"^entry_of %s = \(([\d ∷]*) ∷ \[\]," % name, table, re.M).group(1)
         self.head = bytes(map(int, head.split(" ∷ "))).decode().strip("[ ")
-        self.outcome, *takes = re.search(r"^outcomeOf %s z list row work room = (.*)$" % name, table, re.M).group(1).split()
-        self.module = re.search(r"^use Rattle·rules·specs\.specs\.(\w+)\.\{%s\}" % self.outcome, table, re.M).group(1)
+        self.outcome, *takes = re.search(r"^outcome_of %s z list row work room = (.*)$" % name, table, re.M).group(1).split()
+        self.module = re.search(r"^use Rattle\.rules\.specs\.(\w+)\.\{%s\}" % self.outcome, table, re.M).group(1)
         self.takes = [NAMES.get(t, t) for t in takes]
         self.call = call_of(self.outcome)
         self.short = self.call.split("::")[-1]
@@ -68,34 +69,35 @@ class Command:
 
 def given(name):
     """A parameter as the contracts cite it."""
-    if name == "offset":
-        return name
-    cited = "now (%s .entry)" % name
-    return "(%s)" % cited if name in ("list", "row") else "(length (%s))" % cited
+    return {"list": "list.now", "row": "row.now", "work": "(length work.old)", "out": "(length out.old)"}.get(name, name)
 
 
 def contract(outcome):
-    return ("    ensures { λ r. ⌜ r ≡ codeOf (told (%s)) ⌝ }\n    ensures { λ _. ⌜ now (out .exit) ≡ written (%s) (now (out .entry)) ⌝ }\n"
-            % (outcome, outcome))
+    return "    ensures value { result ≡ code_of (told (%s)) }\n    ensures out_after { out.new ≡ written (%s) out.old }\n" % (outcome, outcome)
+
+
+def signature(start, params):
+    """On one line, or as rt fmt lays out a longer one."""
+    listed = ["%s: %s" % (p, TYPES[p]) for p in params]
+    whole = start + ", ".join(listed) + ") -> u64"
+    return [whole] if len(whole) <= WIDTH else [start] + ["    %s," % p for p in listed] + [") -> u64"]
 
 
 def source(commands):
     any_command = " ".join(map(given, ALL))
-    rows = ", ".join("%s: %s" % (p, TYPES[p]) for p in ALL)
     lines = ["// The commands, exported. Made by crates/sogbayile/commands.py."]
-    lines += ["use crate::code::code_of;"]
+    lines += ["ghost use Rattle.std.specs.Prelude.{◌≡◌, length};", "ghost use Rattle.form.specs.Answer.{told, written};"]
+    lines += ["ghost use Rattle.rules.specs.Command.{outcome_of};"]
+    lines += ["ghost use Rattle.rules.specs.%s.{%s};" % (c.module, c.outcome) for c in commands]
+    lines += ["ghost use Rattle.sogbayile.specs.Code.{code_of};", "", "use crate::code::code_of;"]
     uses = [c.call for c in commands] + ["rules::command::Command"]
-    lines += ["use %s;" % path for path in sorted(uses)]
-    lines += ["ghost use mathlib.Core.Path.{_≡_};", "ghost use lib.ListN.{length};", "ghost use Rattle·form.specs.Answer.{told, written};"]
-    lines += ["ghost use Rattle·rules.specs.Command.{outcomeOf};"]
-    lines += ["ghost use Rattle·rules.specs.%s.{%s};" % (c.module, c.outcome) for c in commands]
-    lines += ["ghost use Rattle·sogbayile·specs.specs.Code.{codeOf};", ""]
+    lines += ["use %s;" % path for path in sorted(uses)] + [""]
     for c in commands:
-        lines += ["// " + c.says, "#[no_mangle]"]
-        lines += ['pub extern "C" fn sgb_%s(%s) -> u64' % (c.head, ", ".join("%s: %s" % (p, TYPES[p]) for p in c.params))]
+        lines += ["// " + c.says, "#[unsafe(no_mangle)]"]
+        lines += signature('pub extern "C" fn sgb_%s(' % c.head, c.params)
         lines += [contract(c.outcome_of()) + "{", "    code_of(%s(%s))" % (c.short, ", ".join(c.params)), "}", ""]
     lines += ["// Any command. One that takes no offset, no list or no work row does not look at it."]
-    lines += ["pub(crate) fn run_code(command: Command, %s) -> u64" % rows, contract("outcomeOf command " + any_command) + "{", "    match command {"]
+    lines += signature("pub(crate) fn run_code(", ["command"] + ALL) + [contract("outcome_of command " + any_command) + "{", "    match command {"]
     lines += ["        Command::%s => sgb_%s(%s)," % (c.name, c.head, ", ".join(c.params)) for c in commands]
     lines += ["    }", "}", ""]
     return "\n".join(lines)
