@@ -1,6 +1,6 @@
 #!/usr/bin/env python3
 """The static library against that of an earlier landing, in one run (bench/before.c). Rows of bench/rows.py; the rows of a name with +notes have
-annotations, which no library before Paper 8 reads.
+annotations, which no library from before annotations reads.
 
 Where its code lies in memory changes the time of a call by up to a quarter. So both libraries are linked in eight layouts: either one first, the
 code moved by 0, 16, 32 and 48 bytes; the least time of each library over all layouts counts.

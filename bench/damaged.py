@@ -1,10 +1,10 @@
 #!/usr/bin/env python3
-"""Damaged command lines, and which of the refusals 8, 1, 2, 3, 4 and 5 document 01 gives each of them: a reading of
-its spelling, rows and lists apart from the program's definitions, held against the cell program's answers. The
+"""Damaged command lines, and which of the refusals 8, 1, 2, 3, 4 and 5 each of them has: a reading of
+spelling, rows and lists apart from the program's definitions, held against the cell program's answers. The
 position that is printed with 2 is that of oracle/position.py.
 
   python3 bench/damaged.py SEED COUNT        in the repository's root, after rt run in crates/cell
-  --annotations           lines of all seven commands, many of whose quantifiers have annotations (document 02, Paper 8)
+  --annotations           lines of all seven commands, many of whose quantifiers have annotations
   --program PROGRAM       another program than crates/cell/out/cell
 """
 import argparse
@@ -20,7 +20,7 @@ TOP = 2 ** 32 - 1
 
 
 class Bad(Exception):
-    """not document 01's spelling"""
+    """not the spelling of a line"""
 
 
 def number(s, i):

@@ -4,8 +4,8 @@ The model of crates/cases, which shares nothing with the program, predicts the p
 
   python3 bench/damaged_rows.py SEED COUNT        in the repository's root, after rt run in crates/cell
   python3 bench/damaged_rows.py SEED COUNT --lines        prints some of the lines, each followed by its answer: the list that stands in crates/cell/stdin
-  --annotations           half of the quantifiers have annotations (document 02, Paper 8), and the damages know their tags and flags
-  --named                 named rows alone (document 02, Paper 1): forms of either sort without an index, and the damages put indices in
+  --annotations           half of the quantifiers have annotations, and the damages know their tags and flags
+  --named                 named rows alone: forms of either sort without an index, and the damages put indices in
   --program PROGRAM       another program than crates/cell/out/cell
 
 A row is sent without inner brackets, so that a row that is accepted is refused by 8, after its 2.

@@ -1,5 +1,5 @@
 #!/usr/bin/env python3
-"""Named forms (document 02, Paper 1): random lines of the command named, and a program held against the model of crates/cases over them. The Rust
+"""Named forms: random lines of the command named, and a program held against the model of crates/cases over them. The Rust
 has no reader of names (docs/DIFFERENCES.md).
 
   named.py [--seed S] [--count N] [--back N] [--shared] -- PROGRAM ARG..        sends N lines of each part and compares; exit 1 on any difference

@@ -1,4 +1,4 @@
-"""The position of a command line's refusal by 2 (document 02, Paper 4): that of its form, or of its list, by the model of crates/cases."""
+"""The position of a command line's refusal by 2: that of its form, or of its list, by the model of crates/cases."""
 import os
 import re
 import sys

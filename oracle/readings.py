@@ -1,5 +1,5 @@
 #!/usr/bin/env python3
-"""Whether one point keeps the truth, tried in random finite readings (document 01, Readings; document 02, Paper 8).
+"""Whether one point keeps the truth, tried in random finite readings.
 
   readings.py [--seed S] [--count N] [--readings R] [--annotations P] [--fuel F] -- PROGRAM ARG..
 

@@ -9,9 +9,9 @@ an index bound or dangling under so many binders, a list of some length, a refus
 definition. Then lines are added whose set of traits is new, the shortest first, until each command has N lines, and point and member
 half as many more.
 
-Answers are the Rust's (target/oracle), turned into document 01's numbers as compare.py does. Lines that the Rust cannot represent and
+Answers are the Rust's (target/oracle), turned into the numbers of the refusals as compare.py does. Lines that the Rust cannot represent and
 lines whose answer is a difference of docs/DIFFERENCES.md other than a panic or a limit of the result are left out. At the end stand
-the whole cases of document 01 and the table `document` below: refusals that the Rust has no word for, with document 01's number and, for 2, the position.
+the cases that were given and the table `document` below: refusals that the Rust has no word for, with the number and, for 2, the position.
 Counts go to standard error. The same arguments give the same list.
 """
 import argparse
@@ -461,7 +461,7 @@ def traits(line, answer):
     return out
 
 
-# ----- refusals that the Rust has no word for: the line, and document 01's number
+# ----- refusals that the Rust has no word for: the line, and the number
 
 def document(cmd):
     form = {"fill": "[852 1 4 [9 [2 0]]]", "prune": "[852 2 4 5 [9 [2 0]]]", "point": "[852 1 4 [101 [2 0] [1 7]]]",
@@ -554,7 +554,7 @@ def candidates(cmd):
 
 
 def answered(oracle, lines):
-    """The lines with document 01's answer, but for those that are listed as different."""
+    """The lines with their answer, but for those that are listed as different."""
     there = compare.ask([oracle], [asked(l) for l in lines])
     rust = compare.ask([oracle], [asked(l, True) for l in lines])
     out = []
@@ -622,12 +622,12 @@ def main():
         out += whole_lists(o.oracle, kept)
     whole = [l.rstrip("\n").split("\t") for l in open("cases.txt")]
     whole = [(l, w) for l, w in whole if l[1:].split(" ")[0] in commands]
-    say("whole cases of document 01:", len(whole))
+    say("cases that were given:", len(whole))
     rest = []
     for cmd in commands:
         rest += [(l, w) for l, w in document(cmd)]
     rest += OTHER if commands[0] == COMMANDS[0] else []
-    say("refusals of document 01 alone:", len(rest), dict(sorted(collections.Counter(w for _, w in rest).items())))
+    say("refusals that the Rust has not:", len(rest), dict(sorted(collections.Counter(w for _, w in rest).items())))
     seen = {l for l, _ in out}
     out += [p for p in whole if p[0] not in seen]
     out += [(l, refused(l, w) if w else unchanged(l)) for l, w in rest]

@@ -1,5 +1,5 @@
 #!/usr/bin/env python3
-"""Makes the list of lines with annotations (document 02, Paper 8) that the cell program is run on, each with its answer, after ./build.sh.
+"""Makes the list of lines with annotations that the cell program is run on, each with its answer, after ./build.sh.
 
   sample_annotations.py [--oracle target/oracle] [--each N] > LIST        a line, a tab, the answer
 

@@ -1,5 +1,5 @@
 #!/usr/bin/env python3
-"""Makes the list of lines of the command named (document 02, Paper 1) that the cell program is run on, each with its answer.
+"""Makes the list of lines of the command named that the cell program is run on, each with its answer.
 
   sample_named.py [--forms N] [--refused N] > LIST        a line, a tab, the answer
 

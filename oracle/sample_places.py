@@ -1,5 +1,5 @@
 #!/usr/bin/env python3
-"""Makes the list of lines of the command fill with more, as many or fewer places than declarations (document 02, Paper 2) that the cell
+"""Makes the list of lines of the command fill with more, as many or fewer places than declarations that the cell
 program is run on, each with its answer, after ./build.sh.
 
   sample_places.py [--oracle target/oracle] > LIST        a line, a tab, the answer

@@ -5,7 +5,7 @@ of words, after ./build.sh.
   smallest.py [WORDS]        goes up to so many words of the form (16 unless said), and prints the differences of the first number that has any
 
 One name, indices 0 to 2, one tag of each kind that the search of one point knows, quantifiers of both operators with and without annotations.
-The Rust is asked with document 01's join (pointd, memberd).
+The Rust is asked with the definitions' join (pointd, memberd).
 """
 import functools
 import itertools

@@ -1,7 +1,7 @@
 #!/usr/bin/env python3
-"""The positions of the model in cases.py against the words of document 02 (Papers 1, 4 and 8), by trying every continuation.
+"""The positions of the model in cases.py against the words that say what a position is, by trying every continuation.
 
-Under small limits every acceptable row over a small alphabet is listed, from the grammar of document 01 and without reading a row. The
+Under small limits every acceptable row over a small alphabet is listed, from the grammar and without reading a row. The
 beginnings of these rows are what can go on. So the position of a row is the length of its longest beginning that can go on. Each such
 beginning is taken with every next word, alone and with words after it, and the model must give that position; it must accept exactly the
 listed rows. The same is done for lists of pairs and of places, and for named rows, which have no tag 2. Rows with annotations are longer, so these are
@@ -47,8 +47,7 @@ def declared(depth, most):
 
 @functools.lru_cache(None)
 def forms(sort, depth, most):
-    """Every form of the sort, at most so deep (a leaf is 1), with at most so many words: document 01's two lists, with document 02's tags for
-    annotations."""
+    """Every form of the sort, at most so deep (a leaf is 1), with at most so many words: the two lists of tags, with those for annotations."""
     if depth == 0 or most < 1:
         return frozenset()
     names = [(n,) for n in range(NAME + 1)]

@@ -18,7 +18,7 @@ pub const WORK_WORDS: usize = 16384;
 /// The limit of declarations of one quantifier, and of places of a set.
 pub const MAX_PLACES: usize = 32;
 
-/// Why a call was refused. Its number is that of the paper and of the C header.
+/// Why a call was refused. Its number is that of the README and of the C header.
 #[derive(Clone, Copy, Debug, PartialEq, Eq)]
 pub enum Refusal {
     /// a row longer than 8,192 words
