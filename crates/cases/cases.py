@@ -1,10 +1,10 @@
 #!/usr/bin/env python3
-"""The library cases and what documents 01 and 02 (Papers 1, 2, 4 and 8) answer to them.
+"""The library cases and what the rules answer to them.
 
   cases.py stdin  > stdin     the cases, as src/main.rt describes them
   cases.py stdout > stdout    what must be printed, from the model below
 
-The model is written from the documents on trees, apart from the specifications and the code: it reads a row into a tree, rewrites the tree
+The model is written from the rules, on trees, apart from the specifications and the code: it reads a row into a tree, rewrites the tree
 by the rules, and writes it back. A node is (tag, own words, declarations, children), a declaration (name, annotation or None). The tag of a
 quantifier is 851, 852 or 801 to 803; the row has 861, 862 or 871 to 873 exactly if a declaration has an annotation.
 """
