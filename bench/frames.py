@@ -10,7 +10,7 @@ import subprocess
 import sys
 
 LIBRARY = "crates/sogbayile/out/libsogbayile.a"
-PLAIN = "listed::fill::fill_marked", "prune::prune::prune_in", "one_point::reduce::reduce_in", "sgb_fill", "sgb_point"
+PLAIN = "listed::fill::fill_marked", "prune::prune::prune_in", "one_point::reduce::reduce_in", "sogbayile::commands::sgb_fill", "sogbayile::commands::sgb_point"
 PAGE = 4096
 
 

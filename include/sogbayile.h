@@ -21,11 +21,10 @@
  * OWNERSHIP. All rows are the caller's. The library allocates nothing and keeps no pointer, has no state, and
  * may be called from several threads with rows of their own. A work row may hold anything before and after.
  *
- * STACK. As measured on rows of some 8,000 words, up to 64 deep (bench/stack.py, with the library as the older kit of
- * Rattle built it), a call takes up to 431 KB of the caller's stack: sgb_point 431 KB, sgb_member 312, sgb_named 289,
- * sgb_fill 165, sgb_free 141, sgb_dangling 110, sgb_prune 77, the others less than 60; on rows without annotations
- * sgb_point 291, sgb_named 289, sgb_member 242, sgb_fill 135, sgb_prune 54. sgb_run takes what the command's own call
- * takes.
+ * STACK. As measured on rows of some 8,000 words, up to 64 deep (bench/stack.py), a call takes up to 452 KB of the
+ * caller's stack: sgb_point 452 KB, sgb_member 298, sgb_named 274, sgb_fill 196, sgb_free 163, sgb_dangling 109,
+ * sgb_prune 77, the others less than 60; on rows without annotations sgb_point 323, sgb_named 269, sgb_fill 166,
+ * sgb_free 163, sgb_member 143, sgb_prune 53. sgb_run takes what the command's own call takes.
  *
  * REFUSALS, in the order in which they are tested: 15, then 1 and 2 for each row (the form first, then the
  * list), 3, 4, 5, 6, 9, 7, 14; for offers 1, 2, 5, 10, 11, 12, 13.
