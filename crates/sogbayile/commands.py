@@ -10,7 +10,6 @@ The files are proved like any others, so nothing is taken on trust from this pro
                                                  lacks a command, what it takes or its number
 """
 import glob
-import itertools
 import os
 import re
 import sys
@@ -103,83 +102,42 @@ def source(commands):
     return "\n".join(lines)
 
 
-BACK = "rw (back (entry .args .offset) (entry .fits .offset)) at "
+MADE = "-- Made by crates/sogbayile/commands.py."
+BACK = "rw (back c.args.offset c.ranges.offset) at "
 
 
-def numbered(name):
-    """The needs of one name, which have numbers from the second on."""
-    yield name
-    for i in itertools.count(2):
-        yield "%s-%d" % (name, i)
+def opening(function, uses):
+    return [MADE] + uses + ["use Rattle.sogbayile.proofs.commands.%s.Goals as goal" % function, ""]
 
 
-def lent(c):
-    """How many rows the call may write to. Each has a need of its own, that its length stays, and two places behind the call."""
-    return sum(p in ("work", "out") for p in c.params)
+def ensured(call, takes):
+    """What the call promises of its answer and of its output. An offset is promised as the whole number that its 32 bits stand for."""
+    back = BACK if "offset" in takes else ""
+    return "%sc.%s.ensures.value" % (back, call), "%sc.%s.ensures.out_after" % (back, call)
 
 
-def close(function, needs):
-    return ["pub %s-spec : {M : Type 1} → statement M" % function, "%s-spec =" % function, "    tie.close", "    (tie.spec %s)" % " ".join(needs), ""]
-
-
-def head_of(function, uses):
-    at = "Rattle·sogbayile·proofs.proofs.commands.%s" % function
-    return ["-- `sogbayile::commands::%s` meets its contract. Made by crates/sogbayile/commands.py. Assumes nothing." % function] + uses + [
-        "use borrow.Author.Needs.{needs}", "use %s.Statement.{statement}" % at, "use %s.Tie as tie" % at, ""]
-
-
-def need(name, term="search needs", more=""):
-    return ["%s : tie.Need-%s" % (name, name), "%s c%s = %s" % (name, more, term), ""]
-
-
-def exported_proof(c):
+def exported_answers(c):
     """What the call answered, and its code."""
-    call = c.short.replace("_", "-")
-    before = 1 + 2 * lent(c)
-    rows = sum(p != "offset" for p in c.params)
-    uses = ["use mathlib.Core.Path.{ap, _∙_}", "use Rattle·sogbayile·specs.specs.Code.{codeOf}"]
-    called = "c%s .%s .ensures" % (" .before" * before, call)
-    bind = "let called = %s in " % called
-    if "offset" in c.params:
-        uses += ["use Rattle·shift.proofs.SignedLaws.{back}"]
-        bind = "let entry = c%s in let called = %s(%s) in " % (" .before" * (before + 2 * rows), BACK, called)
-    lines = head_of("sgb_" + c.head, uses)
-    same = list(itertools.islice(numbered("same-length"), lent(c)))
-    for name in ("%s-requires" % call, "code-of-requires"):
-        lines += need(name, more=" κs")
-    for name in same:
-        lines += need(name)
-    lines += need("returns", bind + "(c .code-of .ensures ∙ ap codeOf (called .0), called .1)")
-    return "\n".join(lines + close("sgb-" + c.head, ["%s-requires" % call, "code-of-requires"] + same + ["returns"]))
+    uses = ["use mathlib.Core.Path.{ap, ◌∙◌}", "use Rattle.sogbayile.specs.Code.{code_of}"]
+    uses += ["use Rattle.shift.proofs.SignedLaws.{back}"] * ("offset" in c.takes) + ["use borrow.Author.Rules.{rules}"]
+    value, out = ensured(c.short, c.takes)
+    value = "(%s)" % value if " " in value else value
+    lines = ["pub returns : goal.returns", "returns c = record { value = c.code_of.ensures ∙ ap code_of %s; out_after = %s }" % (value, out), ""]
+    return "\n".join(opening("sgb_" + c.head, uses) + lines)
 
 
-def run_proof(commands):
+def run_answers(commands):
     """For each command, that its own outcome is the outcome of the command that was matched."""
-    uses = ["use lib.ListN.{length}", "use Rattle·shift.proofs.SignedLaws.{back}"]
-    uses += ["use Rattle·rules.specs.declared.command.Command.the-variants.{%s}" % ", ".join(c.name for c in commands)]
-    uses += ["use Rattle·sogbayile·proofs.proofs.RunLaws.{run-coded}"]
-    lines = head_of("run_code", uses)
-    first, later = [], []
-    told, same, returns = list(itertools.islice(numbered("enum-told"), len(commands))), numbered("same-length"), numbered("returns")
-    for t, c in zip(told, commands):
-        requires = "sgb-%s-requires" % c.head
-        first += [t, requires]
-        lines += need(t) + need(requires, more=" κs")
-    given_rows = "(given .list .now) (given .row .now) (length (given .work .now)) (length (given .out .now))"
-    for t, c in zip(told, commands):
-        lengths, answers = list(itertools.islice(same, lent(c))), next(returns)
-        for name in lengths:
-            lines += need(name)
-        called = 2 * lent(c)
-        matched = called + 1 + lent(c)
-        ensured = "c%s .sgb-%s .ensures" % (" .before" * called, c.head)
-        if "offset" in c.params:
-            ensured = BACK + "(%s)" % ensured
-        places = "let matched = c%s .%s in let entry = c%s in let given = entry .args in" % (
-            " .before" * matched, t.replace("-told-", "-told"), " .before" * (matched + 6))
-        lines += need(answers, "%s run-coded _ %s (matched .given .1) _ %s _ _ _ (%s)" % (places, c.name, given_rows, ensured))
-        later += lengths + [answers]
-    return "\n".join(lines + close("run-code", first + later))
+    uses = ["use lib.ListN.{length}", "use Rattle.shift.proofs.SignedLaws.{back}"]
+    uses += ["use Rattle.rules.specs.declared.command.Command.TheVariants.{%s}" % ", ".join(c.name for c in commands)]
+    uses += ["use Rattle.sogbayile.proofs.RunLaws.{run-coded}", "use borrow.Author.Rules.{rules}", "use Rattle.tree.proofs.Pairs.{both}"]
+    lines = opening("run_code", uses)
+    given_rows = "c.args.list.now c.args.row.now (length c.args.work.now) (length c.args.out.now)"
+    for c in commands:
+        goal = "returns-in-%s" % c.name
+        coded = "run-coded _ %s c.in-%s.is _ %s _ _ _ (%s, %s)" % (c.name, c.name, given_rows, *ensured("sgb_" + c.head, c.takes))
+        lines += ["pub %s : goal.%s" % (goal, goal), "%s c = both (λ v w. record { value = v; out_after = w }) (%s)" % (goal, coded), ""]
+    return "\n".join(lines)
 
 
 def files():
@@ -187,9 +145,9 @@ def files():
     header = re.sub(r"\s+(\* )?", " ", text_of("include/sogbayile.h"))        # on one line, without the stars of its comments
     names = re.search(r"^commands = (.*) ∷ \[\]$", table, re.M).group(1).split(" ∷ ")
     commands = [Command(name, i + 1, table, header) for i, name in enumerate(names)]
-    made = {"src/commands.rt": source(commands), "proofs/commands/run_code/Proof.antt": run_proof(commands)}
+    made = {"src/commands.rt": source(commands), "proofs/commands/run_code/Answers.antt": run_answers(commands)}
     for c in commands:
-        made["proofs/commands/sgb_%s/Proof.antt" % c.head] = exported_proof(c)
+        made["proofs/commands/sgb_%s/Answers.antt" % c.head] = exported_answers(c)
     return made
 
 
