@@ -5,9 +5,9 @@ The table (crates/rules/specs/Command.antt) has the name of each command, its he
 is the one public function whose contract is that outcome. What a command does is said by the first sentence of its comment in include/sogbayile.h.
 The files are proved like any others, so nothing is taken on trust from this program.
 
-  python3 crates/sogbayile/commands.py           writes the files; rt fmt lays them out
-  python3 crates/sogbayile/commands.py check     fails where a file differs from what would be written in more than its layout, or where the header
-                                                 lacks a command, what it takes or its number
+  python3 crates/sogbayile/commands.py           writes the files, laid out as rt fmt does
+  python3 crates/sogbayile/commands.py check     fails where a file differs from what would be written in more than its layout and a proof's imports,
+                                                 or where the header lacks a command, what it takes or its number
 """
 import glob
 import os
@@ -119,7 +119,7 @@ def ensured(call, takes):
 def exported_answers(c):
     """What the call answered, and its code."""
     uses = ["use mathlib.Core.Path.{ap, ◌∙◌}", "use Rattle.sogbayile.specs.Code.{code_of}"]
-    uses += ["use Rattle.shift.proofs.SignedLaws.{back}"] * ("offset" in c.takes) + ["use borrow.Author.Rules.{rules}"]
+    uses += ["use Rattle.shift.proofs.SignedLaws.{back}"] * ("offset" in c.takes)
     value, out = ensured(c.short, c.takes)
     value = "(%s)" % value if " " in value else value
     lines = ["pub returns : goal.returns", "returns c = record { value = c.code_of.ensures ∙ ap code_of %s; out_after = %s }" % (value, out), ""]
@@ -130,7 +130,7 @@ def run_answers(commands):
     """For each command, that its own outcome is the outcome of the command that was matched."""
     uses = ["use lib.ListN.{length}", "use Rattle.shift.proofs.SignedLaws.{back}"]
     uses += ["use Rattle.rules.specs.declared.command.Command.TheVariants.{%s}" % ", ".join(c.name for c in commands)]
-    uses += ["use Rattle.sogbayile.proofs.RunLaws.{run-coded}", "use borrow.Author.Rules.{rules}", "use Rattle.tree.proofs.Pairs.{both}"]
+    uses += ["use Rattle.sogbayile.proofs.RunLaws.{run-coded}", "use Rattle.tree.proofs.Pairs.{both}"]
     lines = opening("run_code", uses)
     given_rows = "c.args.list.now c.args.row.now (length c.args.work.now) (length c.args.out.now)"
     for c in commands:
@@ -152,8 +152,8 @@ def files():
 
 
 def bare(text):
-    """Without the layout: spaces, and the comma before a bracket that stands on a line of its own."""
-    return re.sub(r",([)\]}])", r"\1", re.sub(r"\s+", "", text))
+    """Without the imports of proofs, and without the layout: spaces, and the comma before a bracket that stands on a line of its own."""
+    return re.sub(r",([)\]}])", r"\1", re.sub(r"\s+", "", re.sub(r"^use [^;\n]*$", "", text, flags=re.M)))
 
 
 def main():
