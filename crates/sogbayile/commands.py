@@ -16,7 +16,7 @@ import sys
 
 HERE = os.path.dirname(os.path.abspath(__file__))
 TOP = os.path.join(HERE, "..", "..")
-# what a command may take: in the table, where the names differ; in the order of run_code; in the order of the calls
+# what a command may take: in the table, where the names differ; in the order of run_command; in the order of the calls
 NAMES = {"z": "offset", "room": "out"}
 ALL = ["offset", "list", "row", "work", "out"]
 ORDER = ["list", "row", "offset", "work", "out"]
@@ -60,15 +60,20 @@ class Command:
         comment = re.search(r"/\* ((?:(?!\*/).)*?)\. \*/ (?:%s)" % declared, header)
         if not comment or not re.search(r"\bSGB_%s = %d\b" % (self.head.upper(), number), header):
             sys.exit("include/sogbayile.h lacks sgb_%s with what it takes and a comment, or its number, %d" % (self.head, number))
+        self.list = comment.groupdict().get("list")
         self.says = comment.group(1).split(". ")[0] + "."
 
     def outcome_of(self):
-        return "%s %s" % (self.outcome, " ".join(given(t) for t in self.takes))
+        return "%s %s" % (self.outcome, " ".join(given(t, self.list) for t in self.takes))
+
+    def named(self):
+        """The parameters; the list has its name in the header."""
+        return [self.list if p == "list" else p for p in self.params]
 
 
-def given(name):
+def given(name, listed="list"):
     """A parameter as the contracts cite it."""
-    return {"list": "list.now", "row": "row.now", "work": "(length work.old)", "out": "(length out.old)"}.get(name, name)
+    return {"list": "%s.now" % listed, "row": "row.now", "work": "(length work.old)", "out": "(length out.old)"}.get(name, name)
 
 
 def contract(outcome):
@@ -77,7 +82,7 @@ def contract(outcome):
 
 def signature(start, params):
     """On one line, or as rt fmt lays out a longer one."""
-    listed = ["%s: %s" % (p, TYPES[p]) for p in params]
+    listed = ["%s: %s" % (p, TYPES.get(p, TYPES["list"])) for p in params]
     whole = start + ", ".join(listed) + ") -> u64"
     return [whole] if len(whole) <= WIDTH else [start] + ["    %s," % p for p in listed] + [") -> u64"]
 
@@ -93,10 +98,10 @@ def source(commands):
     lines += ["use %s;" % path for path in sorted(uses)] + [""]
     for c in commands:
         lines += ["// " + c.says, "#[unsafe(no_mangle)]"]
-        lines += signature('pub extern "C" fn sgb_%s(' % c.head, c.params)
-        lines += [contract(c.outcome_of()) + "{", "    code_of(%s(%s))" % (c.short, ", ".join(c.params)), "}", ""]
+        lines += signature('pub extern "C" fn sgb_%s(' % c.head, c.named())
+        lines += [contract(c.outcome_of()) + "{", "    code_of(%s(%s))" % (c.short, ", ".join(c.named())), "}", ""]
     lines += ["// Any command. One that takes no offset, no list or no work row does not look at it."]
-    lines += signature("pub(crate) fn run_code(", ["command"] + ALL) + [contract("outcome_of command " + any_command) + "{", "    match command {"]
+    lines += signature("pub(crate) fn run_command(", ["command"] + ALL) + [contract("outcome_of command " + any_command) + "{", "    match command {"]
     lines += ["        Command::%s => sgb_%s(%s)," % (c.name, c.head, ", ".join(c.params)) for c in commands]
     lines += ["    }", "}", ""]
     return "\n".join(lines)
@@ -131,7 +136,7 @@ def run_answers(commands):
     uses = ["use lib.ListN.{length}", "use Rattle.shift.proofs.SignedLaws.{back}"]
     uses += ["use Rattle.rules.specs.declared.command.Command.TheVariants.{%s}" % ", ".join(c.name for c in commands)]
     uses += ["use Rattle.sogbayile.proofs.RunLaws.{run-coded}", "use Rattle.tree.proofs.Pairs.{both}"]
-    lines = opening("run_code", uses)
+    lines = opening("run_command", uses)
     given_rows = "c.args.list.now c.args.row.now (length c.args.work.now) (length c.args.out.now)"
     for c in commands:
         goal = "returns-in-%s" % c.name
@@ -145,7 +150,7 @@ def files():
     header = re.sub(r"\s+(\* )?", " ", text_of("include/sogbayile.h"))        # on one line, without the stars of its comments
     names = re.search(r"^commands = (.*) ∷ \[\]$", table, re.M).group(1).split(" ∷ ")
     commands = [Command(name, i + 1, table, header) for i, name in enumerate(names)]
-    made = {"src/commands.rt": source(commands), "proofs/commands/run_code/Answers.antt": run_answers(commands)}
+    made = {"src/commands.rt": source(commands), "proofs/commands/run_command/Answers.antt": run_answers(commands)}
     for c in commands:
         made["proofs/commands/sgb_%s/Answers.antt" % c.head] = exported_answers(c)
     return made

@@ -43,11 +43,11 @@ pub extern "C" fn sgb_free(list: &[u32], row: &[u32], work: &mut [u32], out: &mu
 
 // Makes the names indices that dangle, the last name index 0.
 #[unsafe(no_mangle)]
-pub extern "C" fn sgb_bind(list: &[u32], row: &[u32], out: &mut [u32]) -> u64
-    ensures value { result ≡ code_of (told (bind_outcome list.now row.now (length out.old))) }
-    ensures out_after { out.new ≡ written (bind_outcome list.now row.now (length out.old)) out.old }
+pub extern "C" fn sgb_bind(names: &[u32], row: &[u32], out: &mut [u32]) -> u64
+    ensures value { result ≡ code_of (told (bind_outcome names.now row.now (length out.old))) }
+    ensures out_after { out.new ≡ written (bind_outcome names.now row.now (length out.old)) out.old }
 {
-    code_of(bind_idents(list, row, out))
+    code_of(bind_idents(names, row, out))
 }
 
 // Puts the expressions of the list for the declarations of the quantified predicate.
@@ -96,7 +96,7 @@ pub extern "C" fn sgb_named(row: &[u32], out: &mut [u32]) -> u64
 }
 
 // Any command. One that takes no offset, no list or no work row does not look at it.
-pub(crate) fn run_code(
+pub(crate) fn run_command(
     command: Command,
     offset: i32,
     list: &[u32],

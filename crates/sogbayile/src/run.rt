@@ -5,7 +5,7 @@ ghost use Rattle.rules.specs.Command.{number_outcome};
 ghost use Rattle.sogbayile.specs.Code.{code_of};
 
 use crate::code::refusal_code;
-use crate::commands::run_code;
+use crate::commands::run_command;
 use rules::command::{Numbered, of_number};
 
 // The answer of the command of that number; 8 where there is none.
@@ -24,5 +24,5 @@ pub extern "C" fn sgb_run(
     let Numbered::Is(command) = of_number(number) else {
         return refusal_code(8, 0);
     };
-    run_code(command, offset, list, row, work, out)
+    run_command(command, offset, list, row, work, out)
 }

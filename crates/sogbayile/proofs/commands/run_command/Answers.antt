@@ -4,7 +4,7 @@ use Rattle.shift.proofs.SignedLaws.{back}
 use Rattle.rules.specs.declared.command.Command.TheVariants.{Shift, Free, Bind, Fill, Prune, Point, Member, Named}
 use Rattle.sogbayile.proofs.RunLaws.{run-coded}
 use Rattle.tree.proofs.Pairs.{both}
-use Rattle.sogbayile.proofs.commands.run_code.Goals as goal
+use Rattle.sogbayile.proofs.commands.run_command.Goals as goal
 
 pub returns-in-Shift : goal.returns-in-Shift
 returns-in-Shift c = both (λ v w. record { value = v; out_after = w }) (run-coded _ Shift c.in-Shift.is _ c.args.list.now c.args.row.now (length c.args.work.now) (length c.args.out.now) _ _ _ (rw (back c.args.offset c.ranges.offset) at c.sgb_shift.ensures.value, rw (back c.args.offset c.ranges.offset) at c.sgb_shift.ensures.out_after))
