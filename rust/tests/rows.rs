@@ -40,6 +40,31 @@ fn work_rows() {
 
 #[test]
 fn commands_by_number() {
+    let cases: [(Command, &[u32], &[u32], &[u32]); 8] = [
+        (Command::Shift, &[], &EXISTS, &[852, 1, 9, 101, 2, 0, 2, 1]),
+        (Command::Free, &[4, 2, 0], &[9, 1, 4], &[9, 2, 0]),
+        (Command::Bind, &[4, 5], &[101, 1, 4, 2, 0], &[101, 2, 1, 2, 2]),
+        (Command::Fill, &[1, 1, 7], &EXISTS, &[101, 1, 7, 2, 1]),
+        (Command::Prune, &[], &[852, 2, 4, 5, 101, 2, 1, 1, 7], &[852, 1, 4, 101, 2, 0, 1, 7]),
+        (Command::Point, &[], &[852, 1, 4, 101, 2, 0, 1, 7], &[610]),
+        (Command::Member, &[], &[107, 1, 7, 803, 0, 1, 4, 610, 3, 5], &[852, 1, 4, 351, 2, 610, 101, 3, 5, 1, 7]),
+        (Command::Named, &[], &[852, 2, 4, 5, 101, 1, 4, 1, 6], &[852, 2, 4, 5, 101, 2, 1, 1, 6]),
+    ];
+    let mut work = vec![OLD; WORK_WORDS];
+    for (command, list, row, answer) in cases {
+        for room in [answer.len() - 1, answer.len(), answer.len() + 1] {
+            let (mut out, mut by_number) = (vec![OLD; room], vec![OLD; room]);
+            let got = command.call(-1, list, row, &mut work, &mut out);
+            assert_eq!(got, if room < answer.len() { Err(Refusal::OutShort) } else { Ok(answer.len()) });
+            assert!(got.is_err() || out[..answer.len()] == *answer);
+            assert_eq!(sogbayile::run(command, -1, list, row, &mut work, &mut by_number), got);
+            assert_eq!(by_number, out);
+        }
+    }
+}
+
+#[test]
+fn every_command_by_number() {
     // every command on a list and a row of each
     let cases: [(&[u32], &[u32]); 8] = [
         (&[], &EXISTS),

@@ -1,8 +1,8 @@
-// The static library for C and Rust: each call takes rows of words and numbers, and answers one number. The program runs its commands here too.
+// The static library for C and Rust: each call takes rows of words and numbers, and answers one number.
 #![tactic(auto)]
 
 pub mod checks;
-pub mod code;
+mod code;
 pub mod commands;
 pub mod indices;
 pub mod offers;
