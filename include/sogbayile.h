@@ -21,10 +21,10 @@
  * OWNERSHIP. All rows are the caller's. The library allocates nothing and keeps no pointer, has no state, and
  * may be called from several threads with rows of their own. A work row may hold anything before and after.
  *
- * STACK. As measured on rows of some 8,000 words, up to 64 deep (bench/stack.py), a call takes up to 452 KB of the
- * caller's stack: sgb_point 452 KB, sgb_member 298, sgb_named 274, sgb_fill 196, sgb_free 163, sgb_dangling 109,
- * sgb_prune 77, the others less than 60; on rows without annotations sgb_point 323, sgb_named 269, sgb_fill 166,
- * sgb_free 163, sgb_member 143, sgb_prune 53. sgb_run takes what the command's own call takes.
+ * STACK. As measured on rows of some 8,000 words, up to 64 deep (bench/stack.py), a call takes up to 274 KB of the
+ * caller's stack: sgb_point 274 KB, sgb_member 208, sgb_named 200, sgb_free 131, sgb_prune 66, the others less than
+ * 45; on rows without annotations sgb_named 200, sgb_member 142, sgb_point 134, sgb_free 131, the others less than
+ * 45. sgb_run takes what the command's own call takes.
  *
  * REFUSALS, in the order in which they are tested: 15, then 1 and 2 for each row (the form first, then the
  * list), 3, 4, 5, 6, 9, 7, 14; for offers 1, 2, 5, 10, 11, 12, 13.

@@ -38,7 +38,7 @@ JOINED = [
 
 
 def written():
-    # the decisions on this paper
+    # the decisions on annotations
     yield "[shift 0 [862 2 4 0 5 1 [1 7] [610]]]"
     yield "[shift 0 [862 1 4 0 [610]]]"
     yield "[point [852 2 4 5 [351 2 [101 [2 0] [2 1]] [862 1 6 1 [2 0] [610]]]]]"

@@ -1,5 +1,5 @@
 -- The entries of a list, one after another. Assumes nothing.
-use mathlib.Core.Path.{◌≡◌, refl, sym, ◌∙◌}
+use mathlib.Core.Path.{◌≡◌, refl, sym, ◌∙◌, ap}
 use mathlib.Core.Bool.{Bool, true, false, ◌&&◌}
 use mathlib.Core.List.{List, ◌∷◌}
 use Prim.Native.Nat.{ℕ, zero, suc, ◌+◌, ◌≤◌, ◌<◌}
@@ -13,10 +13,10 @@ use Rattle.form.specs.Internal.Heads.{starts_leaf}
 use Rattle.form.specs.declared.answer.ListKind.{ListKind}
 use Rattle.form.specs.declared.answer.ListKind.TheVariants.{Pairs, Places}
 use Rattle.form.proofs.HeadLaws.{here}
-use Rattle.broken.specs.declared.seek.Sought.{Sought}
-use Rattle.broken.specs.Internal.Seeks.{no_kids, leaf_entry, quick_entry, Seeks}
+use Rattle.broken.specs.Internal.Seeks.{no_kids, leaf_entry, quick_entry, Seeks, Sought, place_of}
 use Rattle.broken.proofs.SeekLaws.{one_word, ran_out, start, kids-there}
 use Rattle.broken.proofs.LeafLaws.{leaf-past, leaf-words}
+use Rattle.std.specs.Prelude.{Ok, is_ok, Err}
 
 -- entries that are passed at once: 0, or a word and a name or an index
 module _ (at : ℕ) (ws : List ℕ) where
@@ -89,22 +89,27 @@ module _ (kind : ListKind) (row : List ℕ) (p : ℕ) (i : Lists kind row p) whe
     entry-stop f = sym (entry-next ∙ rw f)
 
     module _ (t : leb (p + 1 + (least 64 o + 0)) 8192 ≡ true) (s : Sought) (r : Seeks false row (p + 1) 64 o 0 s) where
-      entry-sought : break_list kind row ≡ pick s.ok (break_from false (entry_next kind) s.at nothing (drop s.at row)) s.at
+      entry-sought : break_list kind row ≡ pick (is_ok s) (break_from false (entry_next kind) (place_of s) nothing (drop (place_of s) row)) (place_of s)
       unfolding least_all
       entry-sought = entry-next ∙ rw t (r.breaks (entry_next kind) nothing refl)
 
-      pub entry-broken : s.ok ≡ false → s.at ≡ break_list kind row
-      entry-broken f = sym (entry-sought ∙ rw f)
+      pub entry-broken : {q : ℕ} → s ≡ Err q → (q ≤ 8192) × (q ≡ break_list kind row)
+      entry-broken {q = q} e = let at : place_of s ≡ q = ap place_of e in (let low = r.low in omega (arith, at), sym (entry-sought ∙ rw e))
 
-      pub entry-go : s.ok ≡ true → Lists kind row s.at
-      entry-go y = record { same = entry-sought ∙ rw y; room = let v = r.room y in omega arith }
+      pub entry-go : {q : ℕ} → s ≡ Ok q → (p < q) × Lists kind row q
+      entry-go {q = q} e =
+          let end : place_of s ≡ q = ap place_of e in
+          let found : is_ok s ≡ true = ap is_ok e in
+          let room = r.room found in
+          let rises = r.rises in
+          (omega (arith, end), record { same = entry-sought ∙ rw e; room = omega (arith, end) })
 
 -- an entry that is passed at once is one that the search would pass
-entry_done : (row : List ℕ) (p : ℕ) → p ≤ 8192 → Seeks false row p 64 (parts 0 0 0) 0 (record { ok = true; at = p })
+entry_done : (row : List ℕ) (p : ℕ) → p ≤ 8192 → Seeks false row p 64 (parts 0 0 0) 0 (Ok p)
 unfolding no_kids least
 entry_done row p h = kids-there row p 64 (parts 0 0 0) 0 p 0 0 (start row p 64 (parts 0 0 0) 0 (omega arith)) refl
 
-entry-leaf : (row : List ℕ) (p : ℕ) → p + 2 ≤ 8192 → starts_leaf 64 (drop p row) ≡ true → Seeks false row p 64 (parts 0 0 1) 0 (record { ok = true; at = p + 2 })
+entry-leaf : (row : List ℕ) (p : ℕ) → p + 2 ≤ 8192 → starts_leaf 64 (drop p row) ≡ true → Seeks false row p 64 (parts 0 0 1) 0 (Ok (p + 2))
 unfolding no_kids least
 entry-leaf row p h s =
     let (tag, short, low) = leaf-words row p 64 s in
@@ -123,13 +128,13 @@ module _ (row : List ℕ) (p : ℕ) (h : p < length row) where
   unfolding least
   leaf-by kind i e n q k =
       let (three, room, leaf) = leaf-facts p (drop (p + 1) row) n q k in
-      let past = entry-go kind row p i h (parts 0 0 1) e (le-leb (p + 1 + (least 64 (parts 0 0 1) + 0)) 8192 (omega arith)) (record { ok = true; at = p + 1 + 2 }) (entry-leaf row (p + 1) (omega arith) leaf) refl in
+      let past = (entry-go kind row p i h (parts 0 0 1) e (le-leb (p + 1 + (least 64 (parts 0 0 1) + 0)) 8192 (omega arith)) (Ok (p + 1 + 2)) (entry-leaf row (p + 1) (omega arith) leaf) refl).1 in
       let sum : p + 1 + 2 ≡ p + n = omega arith in
       rw sum at past
 
   kept_by : Lists Places row p → parts 0 0 0 ≡ entry_next Places (get_or row p 0) → p + 1 ≤ 8192 → Lists Places row (p + 1)
   unfolding least
-  kept_by i e m = entry-go Places row p i h (parts 0 0 0) e (le-leb (p + 1 + (least 64 (parts 0 0 0) + 0)) 8192 (omega arith)) (record { ok = true; at = p + 1 }) (entry_done row (p + 1) m) refl
+  kept_by i e m = (entry-go Places row p i h (parts 0 0 0) e (le-leb (p + 1 + (least 64 (parts 0 0 0) + 0)) 8192 (omega arith)) (Ok (p + 1)) (entry_done row (p + 1) m) refl).1
 
   place-by : (w n : ℕ) → get_or row p 0 ≡ w → Lists Places row p → n ≡ quick_entry Places p (w ∷ drop (p + 1) row) → 0 < n → Lists Places row (p + n)
   unfolding quick_entry

@@ -13,15 +13,14 @@ use Rattle.tree.specs.Tag.{expr, own, own_of, shape_of, expr_tags}
 use Rattle.form.specs.Decode.{is_leaf}
 use Rattle.form.specs.Internal.Heads.{word_at, starts_leaf}
 use Rattle.form.specs.Break.{Next, word, parts, next_of, own_in, Open, rest, least_form, least, least_all, after, break_from}
-use Rattle.form.specs.declared.head.Word.TheVariants.{Is, Not}
 use Rattle.form.proofs.DecodeLaws.{clash, high-tag}
 use Rattle.form.proofs.HeadLaws.{here, asked_in}
 use Rattle.form.proofs.LeafLaws.{two-words, leaf_room}
-use Rattle.broken.specs.declared.seek.Sought.{Sought}
-use Rattle.broken.specs.Internal.Seeks.{is_own, no_kids, exprs_after, leaf_in, leaf_next, Reaches, Seeks, SeeksChild}
+use Rattle.broken.specs.Internal.Seeks.{is_own, no_kids, exprs_after, leaf_in, leaf_next, Reaches, Seeks, SeeksChild, Sought}
 use Rattle.broken.proofs.DueLaws.{in-limits}
 use Rattle.broken.proofs.KidsLaws.{kids-least}
 use Rattle.broken.proofs.SeekLaws.{start, own-go, kids-there, child-found, child-go, child-stop}
+use Rattle.std.specs.Prelude.{Ok, Err, Some, None}
 
 both : (b c : Bool) → (b && c) ≡ true → (b ≡ true) × (c ≡ true)
 both true true e = (refl, refl)
@@ -89,7 +88,7 @@ least-word zero = omega arith
 least-word (suc d) = omega arith
 
 module _ (named : Bool) (row : List ℕ) (d p more : ℕ) where
-  word-there : p < length row → leb (get_or row p 0) 65535 ≡ true → p + (1 + more) ≤ 8192 → Seeks named row p d leaf_word more (record { ok = true; at = p + 1 })
+  word-there : p < length row → leb (get_or row p 0) 65535 ≡ true → p + (1 + more) ≤ 8192 → Seeks named row p d leaf_word more (Ok (p + 1))
   unfolding is_own no_kids
   word-there h w k =
       let none = least-nothing d in
@@ -98,16 +97,16 @@ module _ (named : Bool) (row : List ℕ) (d p more : ℕ) where
       let read = own-go row p d leaf_word more p leaf_word begun h refl (parts 0 0 0) (in-limits 0 65535 (get_or row p 0) (λ n. parts 0 0 0) (parts 0 0 0) refl (omega arith) (leb-true (get_or row p 0) 65535 w)) (le-leb (p + 1 + (least d (parts 0 0 0) + more)) 8192 (omega arith)) in
       kids-there row p d leaf_word more (p + 1) 0 0 read refl
 
-  word-breaks : (z : ℕ → Next) (x : Open) (l : List ℕ) → word_at 0 65535 l ≡ Not → break_from named z p (rest d leaf_word x) l ≡ p
+  word-breaks : (z : ℕ → Next) (x : Open) (l : List ℕ) → word_at 0 65535 l ≡ None → break_from named z p (rest d leaf_word x) l ≡ p
   unfolding word_at break_from after least least_all
   word-breaks z x [] e = refl
   word-breaks z x (w ∷ l) e = by (between 0 65535 w) refl e
     where
-      by : (b : Bool) → between 0 65535 w ≡ b → pick b (Is w) Not ≡ Not → break_from named z p (rest d leaf_word x) (w ∷ l) ≡ p
+      by : (b : Bool) → between 0 65535 w ≡ b → pick b (Some w) None ≡ None → break_from named z p (rest d leaf_word x) (w ∷ l) ≡ p
       by true q e = absurd (clash cc)
       by false q e = rw (q, lt-leb (suc p + (8193 + least_all x)) 8192 (omega arith))
 
-  word_cut : word_at 0 65535 (drop p row) ≡ Not → p ≤ 8192 → Seeks named row p d leaf_word more (record { ok = false; at = p })
+  word_cut : word_at 0 65535 (drop p row) ≡ None → p ≤ 8192 → Seeks named row p d leaf_word more (Err p)
   word_cut e h = record { breaks = λ z x n. word-breaks z x (drop p row) e; rises = le_refl p; low = h; room = λ t. absurd (clash cc) }
 
 -- the child whose tag it is
@@ -133,16 +132,16 @@ module _ {named : Bool} (row : List ℕ) (at d : ℕ) (o : Next) (need p e : ℕ
       let room = first-room in
       let two : p + 1 + 1 ≡ p + 2 = omega arith in
       let found = word-there named row (d - 1) (p + 1) (least d (parts 0 0 e) + need) short low (omega arith) in
-      child-go row at d o need p (parts 0 0 (suc e)) i (omega arith) expr (parts 0 0 e) (λ z x. refl) (least d (parts 0 0 e) + need) refl (record { ok = true; at = p + 2 })
-      (leaf-child row (d - 1) p (least d (parts 0 0 e) + need) tag room (record { ok = true; at = p + 2 }) (rw two at found)) refl
+      child-go row at d o need p (parts 0 0 (suc e)) i (omega arith) expr (parts 0 0 e) (λ z x. refl) (least d (parts 0 0 e) + need) refl (Ok (p + 2))
+      (leaf-child row (d - 1) p (least d (parts 0 0 e) + need) tag room (Ok (p + 2)) (rw two at found)) refl
 
-  pub leaf-cut : p < length row → word_at 0 65535 (drop (p + 1) row) ≡ Not → Seeks named row at d o need (record { ok = false; at = p + 1 })
+  pub leaf-cut : p < length row → word_at 0 65535 (drop (p + 1) row) ≡ None → Seeks named row at d o need (Err (p + 1))
   unfolding after
   leaf-cut inside none =
       let room = first-room in
       let cut = word_cut named row (d - 1) (p + 1) (least d (parts 0 0 e) + need) none (omega arith) in
-      child-stop row at d o need p (parts 0 0 (suc e)) i inside expr (parts 0 0 e) (λ z x. refl) (least d (parts 0 0 e) + need) refl (record { ok = false; at = p + 1 })
-      (leaf-child row (d - 1) p (least d (parts 0 0 e) + need) tag room (record { ok = false; at = p + 1 }) cut) refl
+      child-stop row at d o need p (parts 0 0 (suc e)) i inside expr (parts 0 0 e) (λ z x. refl) (least d (parts 0 0 e) + need) refl (Err (p + 1))
+      (leaf-child row (d - 1) p (least d (parts 0 0 e) + need) tag room (Err (p + 1)) cut) refl
 
 -- what the tests of the tag and of its word tell
 first_leaf : (named : Bool) (d x y need p t : ℕ) → no_kids x y ≡ false → leaf_next named d x y need p t ≡ true → (e : ℕ) × (x ≡ 0) × (y ≡ suc e) × (p + (least d (parts 0 0 y) + need) < 8192) × (leaf_in named t ≡ true)
@@ -156,22 +155,22 @@ first_leaf named d (suc x) y need p t k f =
     let past = lt-leb (suc x) 0 (omega arith) in
     absurd (clash cc)
 
-low_word : (row : List ℕ) (p w : ℕ) → word_at 0 65535 (drop p row) ≡ Is w → leb (get_or row p 0) 65535 ≡ true
+low_word : (row : List ℕ) (p w : ℕ) → word_at 0 65535 (drop p row) ≡ Some w → leb (get_or row p 0) 65535 ≡ true
 unfolding word_at
 low_word row p w e = by (between 0 65535 (get_or row p 0)) refl (rw (here row p (asked_in 0 65535 row p w e)) at e)
   where
-    by : (b : Bool) → between 0 65535 (get_or row p 0) ≡ b → pick b (Is (get_or row p 0)) Not ≡ Is w → leb (get_or row p 0) 65535 ≡ true
+    by : (b : Bool) → between 0 65535 (get_or row p 0) ≡ b → pick b (Some (get_or row p 0)) None ≡ Some w → leb (get_or row p 0) 65535 ≡ true
     by true q e = (both (leb 0 (get_or row p 0)) (leb (get_or row p 0) 65535) q).1
     by false q e = absurd (clash cc)
 
 module _ {named : Bool} (row : List ℕ) (at d : ℕ) (o : Next) (need p x y : ℕ) (i : Reaches named row at d o need p (parts 0 x y)) (k : no_kids x y ≡ false) (f : leaf_next named d x y need p (get_or row p 0) ≡ true) where
-  pub leaf-go : (w : ℕ) → word_at 0 65535 (drop (p + 1) row) ≡ Is w → Reaches named row at d o need (p + 2) (parts 0 x (y - 1))
+  pub leaf-go : (w : ℕ) → word_at 0 65535 (drop (p + 1) row) ≡ Some w → Reaches named row at d o need (p + 2) (parts 0 x (y - 1))
   leaf-go w q =
       let (e, none, first, room, tag) = first_leaf named d x y need p (get_or row p 0) k f in
       let last : suc e - 1 ≡ e = omega arith in
       rw (none, first, last) (leaf-past row at d o need p e (rw (none, first) at i) tag (rw first at room) (asked_in 0 65535 row (p + 1) w q) (low_word row (p + 1) w q))
 
-  pub leaf-stop : p < length row → word_at 0 65535 (drop (p + 1) row) ≡ Not → Seeks named row at d o need (record { ok = false; at = p + 1 })
+  pub leaf-stop : p < length row → word_at 0 65535 (drop (p + 1) row) ≡ None → Seeks named row at d o need (Err (p + 1))
   leaf-stop inside q =
       let (e, none, first, room, tag) = first_leaf named d x y need p (get_or row p 0) k f in
       leaf-cut row at d o need p e (rw (none, first) at i) tag (rw first at room) inside q

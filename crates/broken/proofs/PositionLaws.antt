@@ -1,5 +1,5 @@
 -- The position at which a whole row breaks, from what the search answers. Assumes nothing.
-use mathlib.Core.Path.{◌≡◌, refl, sym, ◌∙◌}
+use mathlib.Core.Path.{◌≡◌, refl, sym, ◌∙◌, ap}
 use mathlib.Core.Bool.{Bool, true, false, ◌&&◌}
 use mathlib.Core.Logic.{⊎_elim}
 use mathlib.Core.List.{List, [], ◌∷◌}
@@ -14,8 +14,8 @@ use Rattle.tree.specs.declared.tag.Shape.TheVariants.{Unknown}
 use Rattle.tree.proofs.Ranges.{one-sort}
 use Rattle.form.specs.Break.{Next, parts, never, next_of, own_in, nothing, rest, least, least_all, after, break_from, break_sort, break_either}
 use Rattle.form.proofs.LeastLaws.{open-never}
-use Rattle.broken.specs.declared.seek.Sought.{Sought}
-use Rattle.broken.specs.Internal.Seeks.{Seeks}
+use Rattle.broken.specs.Internal.Seeks.{Seeks, Sought, place_of}
+use Rattle.std.specs.Prelude.{is_ok, Ok, Err}
 
 same-both : (b : Bool) (n : ℕ) → pick b n n ≡ n
 same-both true n = refl
@@ -27,9 +27,16 @@ unfolding break_from after least least_all
 no_more named p [] = refl
 no_more named p (w ∷ ws) = rw (lt-leb (suc p + (8193 + 0)) 8192 (omega arith))
 
-pub whole-at : {named : Bool} (row : List ℕ) (o : Next) (s : Sought) → Seeks named row 0 64 o 0 s → s.at ≡ break_from named (λ w. never) 0 (rest 64 o nothing) row
+whole-at : {named : Bool} (row : List ℕ) (o : Next) (s : Sought) → Seeks named row 0 64 o 0 s → place_of s ≡ break_from named (λ w. never) 0 (rest 64 o nothing) row
 unfolding least_all
-whole-at row o s h = sym (h.breaks (λ w. never) nothing refl ∙ rw (no_more _ s.at (drop s.at row)) (same-both s.ok s.at))
+whole-at row o s h = sym (h.breaks (λ w. never) nothing refl ∙ rw (no_more _ (place_of s) (drop (place_of s) row)) (same-both (is_ok s) (place_of s)))
+
+-- where the search of a whole row ends, or where it found the break
+pub whole-end : {named : Bool} (row : List ℕ) (o : Next) {s : Sought} {p : ℕ} → Seeks named row 0 64 o 0 s → s ≡ Ok p → (p ≤ 8192) × (p ≡ break_from named (λ w. never) 0 (rest 64 o nothing) row)
+whole-end row o {s} {p} h e = let z : place_of s ≡ p = ap place_of e in (let low = h.low in omega (arith, z), sym z ∙ whole-at row o s h)
+
+pub whole-break : {named : Bool} (row : List ℕ) (o : Next) {s : Sought} {p : ℕ} → Seeks named row 0 64 o 0 s → s ≡ Err p → (p ≤ 8192) × (p ≡ break_from named (λ w. never) 0 (rest 64 o nothing) row)
+whole-break row o {s} {p} h e = let z : place_of s ≡ p = ap place_of e in (let low = h.low in omega (arith, z), sym z ∙ whole-at row o s h)
 
 -- either sort: a row breaks at once as a form of a sort that has no such first tag, and no tag is of both sorts
 module _ (named : Bool) where

@@ -1,5 +1,5 @@
 -- The search for the break, word by word: what is reached, and what is answered where the row breaks. Assumes nothing.
-use mathlib.Core.Path.{◌≡◌, refl, sym, ◌∙◌}
+use mathlib.Core.Path.{◌≡◌, refl, ap, sym, ◌∙◌, subst}
 use mathlib.Core.Bool.{Bool, true, false, ◌&&◌, not}
 use mathlib.Core.List.{List}
 use Prim.Native.Nat.{ℕ, zero, suc, ◌+◌, ◌-◌, ◌≤◌, ◌<◌}
@@ -17,11 +17,9 @@ use Rattle.form.proofs.HeadLaws.{gone, here}
 use Rattle.broken.specs.declared.due.Due.{Due}
 use Rattle.broken.specs.declared.due.Due.TheVariants.{Kids, Ask, Note, Wrong}
 use Rattle.broken.specs.declared.due.Then.{Then}
-use Rattle.broken.specs.declared.seek.Start.{Start}
-use Rattle.broken.specs.declared.seek.Start.TheVariants.{At}
-use Rattle.broken.specs.declared.seek.Sought.{Sought}
-use Rattle.broken.specs.Internal.Seeks.{next_due, is_own, sort_of, no_kids, exprs_after, after_word, Reaches, Starts, Seeks, SeeksOwn, SeeksChild}
+use Rattle.broken.specs.Internal.Seeks.{next_due, is_own, sort_of, no_kids, exprs_after, after_word, Reaches, Sought, place_of, Starts, Seeks, SeeksOwn, SeeksChild}
 use Rattle.broken.proofs.KidsLaws.{kids-step, kids-least, kids_over}
+use Rattle.std.specs.Prelude.{Ok, Err, is_ok, Option, Some, Result}
 
 -- what the code's tests say
 pub is_true : {b c : Bool} → b ≡ c → b ≡ true → c ≡ true
@@ -35,6 +33,22 @@ told-true {b} e t = let h = not-false b t in cc
 
 pub told-false : {b c : Bool} → b ≡ c → not b ≡ true → c ≡ false
 told-false {b} e t = let h = not-true b t in cc
+
+not-ok : {r : Sought} {e : ℕ} → r ≡ Err e → is_ok r ≡ false
+not-ok t = rw t
+
+now-ok : {r : Sought} {e : ℕ} → r ≡ Ok e → is_ok r ≡ true
+now-ok t = rw t
+
+pub passed : {named : Bool} {row : List ℕ} {at d : ℕ} {s : Sort} {need : ℕ} {r : Sought} {e : ℕ} → SeeksChild named row at d s need r → r ≡ Ok e → at < e
+passed {at = at} {r = r} c t = let z : place_of r ≡ _ = ap place_of t in let h = c.passes (now-ok t) in omega (arith, z)
+
+-- what the search for own words has come to, or where it found the break
+pub own-ok : {row : List ℕ} {at d : ℕ} {o : Next} {need : ℕ} {r : Result (ℕ × Due) ℕ} {x : ℕ × Due} → SeeksOwn row at d o need r → r ≡ Ok x → ((named : Bool) → Reaches named row at d o need x.0 (next_due x.1)) × (is_own (next_due x.1) ≡ false)
+own-ok s t = rw t at s
+
+pub own-err : {row : List ℕ} {at d : ℕ} {o : Next} {need : ℕ} {r : Result (ℕ × Due) ℕ} {e : ℕ} → SeeksOwn row at d o need r → r ≡ Err e → (named : Bool) → Seeks named row at d o need (Err e)
+own-err s t = rw t at s
 
 pub more : {a b : ℕ} (n : ℕ) → a ≡ b → a + n ≡ b + n
 more n e = rw e
@@ -64,7 +78,7 @@ module _ {named : Bool} (row : List ℕ) (at d : ℕ) (o : Next) (need p : ℕ) 
   no_room : (b : Bool) (q : ℕ) → b ≡ false → (b ≡ true → q + need ≤ 8192)
   no_room b q e t = absurd (clash cc)
 
-  pub out-of-words : length row ≤ p → Seeks named row at d o need (record { ok = false; at = p })
+  pub out-of-words : length row ≤ p → Seeks named row at d o need (Err p)
   out-of-words h = record { breaks = λ z x e. i.same z x e ∙ ran_out named row z p (rest d o' x) h; rises = i.up; low = let m = i.room in omega arith; room = no_room false p refl }
 
   module _ (h : p < length row) where
@@ -73,7 +87,7 @@ module _ {named : Bool} (row : List ℕ) (at d : ℕ) (o : Next) (need p : ℕ) 
       unfolding least_all
       own-next z x e = one_word named row z p (rest d o' x) h ∙ rw (own-after named z d o' x (get_or row p 0) k, ← q, e)
 
-      pub own-stop : leb (p + 1 + (least d a + need)) 8192 ≡ false → Seeks named row at d o need (record { ok = false; at = p })
+      pub own-stop : leb (p + 1 + (least d a + need)) 8192 ≡ false → Seeks named row at d o need (Err p)
       own-stop f = record { breaks = λ z x e. i.same z x e ∙ (own-next z x e ∙ rw f); rises = i.up; low = let m = i.room in omega arith; room = no_room false p refl }
 
       pub own-go : leb (p + 1 + (least d a + need)) 8192 ≡ true → Reaches named row at d o need (p + 1) a
@@ -82,18 +96,18 @@ module _ {named : Bool} (row : List ℕ) (at d : ℕ) (o : Next) (need p : ℕ) 
     -- a child of the sort, and the rest b after it
     module _ (s : Sort) (b : Next) (step : (z : ℕ → Next) (x : Open) → after named z (rest d o' x) (get_or row p 0) ≡ rest (d - 1) (next_of (own_in named s (get_or row p 0))) (rest d b x)) (more : ℕ) (m : more ≡ least d b + need) (r : Sought)
         (c : SeeksChild named row p (d - 1) s more r) where
-      child-next : (z : ℕ → Next) (x : Open) → least_all x ≡ need → break_from named z at (rest d o x) (drop at row) ≡ pick r.ok (break_from named z r.at (rest d b x) (drop r.at row)) r.at
+      child-next : (z : ℕ → Next) (x : Open) → least_all x ≡ need → break_from named z at (rest d o x) (drop at row) ≡ pick (is_ok r) (break_from named z (place_of r) (rest d b x) (drop (place_of r) row)) (place_of r)
       unfolding least_all
       child-next z x e = i.same z x e ∙ (one_word named row z p (rest d o' x) h ∙ (rw (step z x, e, ← m) (c.breaks z (rest d b x) (rw (e, m)))))
 
-      pub child-stop : r.ok ≡ false → Seeks named row at d o need r
-      child-stop f = record { breaks = λ z x e. child-next z x e ∙ rw f; rises = le_trans i.up c.rises; low = c.low; room = no_room r.ok r.at f }
+      pub child-stop : (is_ok r) ≡ false → Seeks named row at d o need r
+      child-stop f = record { breaks = λ z x e. child-next z x e ∙ rw f; rises = le_trans i.up c.rises; low = c.low; room = no_room (is_ok r) (place_of r) f }
 
-      pub child-go : r.ok ≡ true → Reaches named row at d o need r.at b
+      pub child-go : (is_ok r) ≡ true → Reaches named row at d o need (place_of r) b
       child-go t = record { same = λ z x e. child-next z x e ∙ rw t; up = le_trans i.up c.rises; room = let v = c.room t in omega arith }
 
 -- where no children must come, the rest of the node is there
-pub kids-there : {named : Bool} (row : List ℕ) (at d : ℕ) (o : Next) (need p x y : ℕ) → Reaches named row at d o need p (parts 0 x y) → no_kids x y ≡ true → Seeks named row at d o need (record { ok = true; at = p })
+pub kids-there : {named : Bool} (row : List ℕ) (at d : ℕ) (o : Next) (need p x y : ℕ) → Reaches named row at d o need p (parts 0 x y) → no_kids x y ≡ true → Seeks named row at d o need (Ok p)
 kids-there row at d o need p x y i h =
     record { breaks = λ z w e. i.same z w e ∙ kids_over _ z p d x y w (drop p row) h; rises = i.up; low = let m = i.room in omega arith; room = λ t. let r = i.room in omega arith }
 
@@ -109,11 +123,11 @@ module _ {named : Bool} (row : List ℕ) (at d : ℕ) (s : Sort) (need : ℕ) wh
         room = k.room;
       }
 
-  pub child-broken : (a : Next) → a ≡ next_of (own_in named s (get_or row at 0)) → leb (at + 1 + (least d a + need)) 8192 ≡ false → at ≤ 8192 → SeeksChild named row at d s need (record { ok = false; at = at })
+  pub child-broken : (a : Next) → a ≡ next_of (own_in named s (get_or row at 0)) → leb (at + 1 + (least d a + need)) 8192 ≡ false → at ≤ 8192 → SeeksChild named row at d s need (Err at)
   child-broken a q f h = record { breaks = λ z x e. rw (← q, f); rises = le_refl at; passes = λ t. absurd (clash cc); low = h; room = λ t. absurd (clash cc) }
 
   -- in a named row the tag of an index is none
-  pub child-index : (b : Bool) → b ≡ (named && eqb (get_or row at 0) 2) → b ≡ true → at ≤ 8192 → SeeksChild named row at d s need (record { ok = false; at = at })
+  pub child-index : (b : Bool) → b ≡ (named && eqb (get_or row at 0) 2) → b ≡ true → at ≤ 8192 → SeeksChild named row at d s need (Err at)
   unfolding next_of least
   child-index b q t h =
       let index : (named && eqb (get_or row at 0) 2) ≡ true = sym q ∙ t in
@@ -138,11 +152,11 @@ module _ (d x y x' y' : ℕ) (e : x' ≡ x - 1) (f : y' ≡ exprs_after x y) (k 
     step : (z : ℕ → Next) (v : Open) → after named z (rest d (parts 0 x y) v) (get_or row p 0) ≡ rest (d - 1) (next_of (own_in named (sort_of x) (get_or row p 0))) (rest d (parts 0 x' y') v)
     step z v = rw (e, f) (kids-step named z d x y v (get_or row p 0) k)
 
-    pub kids-stop : r.ok ≡ false → Seeks named row at d o need r
-    kids-stop t = child-stop row at d o need p (parts 0 x y) i h (sort_of x) (parts 0 x' y') step (m + need) (more need q) r c t
+    pub kids-stop : {e : ℕ} → r ≡ Err e → Seeks named row at d o need (Err e)
+    kids-stop t = subst (λ z. Seeks named row at d o need z) t (child-stop row at d o need p (parts 0 x y) i h (sort_of x) (parts 0 x' y') step (m + need) (more need q) r c (not-ok t))
 
-    pub kids-go : r.ok ≡ true → Reaches named row at d o need r.at (parts 0 x' y')
-    kids-go t = child-go row at d o need p (parts 0 x y) i h (sort_of x) (parts 0 x' y') step (m + need) (more need q) r c t
+    pub kids-go : {e : ℕ} → r ≡ Ok e → Reaches named row at d o need e (parts 0 x' y')
+    kids-go t = subst (λ z. Reaches named row at d o need z (parts 0 x' y')) (ap place_of t) (child-go row at d o need p (parts 0 x y) i h (sort_of x) (parts 0 x' y') step (m + need) (more need q) r c (now-ok t))
 
 -- an annotation, and what must come after it
 module _ (d : ℕ) (k : Next) (m : ℕ) (q : m ≡ least d k) where
@@ -151,13 +165,13 @@ module _ (d : ℕ) (k : Next) (m : ℕ) (q : m ≡ least d k) where
   note-room p need h = child-room d (least d (note k)) m p need (rw q) h
 
   module _ {named : Bool} (row : List ℕ) (at : ℕ) (o : Next) (need p : ℕ) (i : Reaches named row at d o need p (note k)) (h : p < length row) (r : Sought) (c : SeeksChild named row p (d - 1) (sort_of 0) (m + need) r) where
-    pub note-stop : r.ok ≡ false → Seeks named row at d o need r
+    pub note-stop : {e : ℕ} → r ≡ Err e → Seeks named row at d o need (Err e)
     unfolding after sort_of
-    note-stop t = child-stop row at d o need p (note k) i h expr k (λ z x. refl) (m + need) (more need q) r c t
+    note-stop t = subst (λ z. Seeks named row at d o need z) t (child-stop row at d o need p (note k) i h expr k (λ z x. refl) (m + need) (more need q) r c (not-ok t))
 
-    pub note-go : r.ok ≡ true → Reaches named row at d o need r.at k
+    pub note-go : {e : ℕ} → r ≡ Ok e → Reaches named row at d o need e k
     unfolding after sort_of
-    note-go t = child-go row at d o need p (note k) i h expr k (λ z x. refl) (m + need) (more need q) r c t
+    note-go t = subst (λ z. Reaches named row at d o need z k) (ap place_of t) (child-go row at d o need p (note k) i h expr k (λ z x. refl) (m + need) (more need q) r c (now-ok t))
 
 -- each round of a search passes a word
 pub passed-less : (l p q r : ℕ) → p ≤ q → q < l → q < r → l - r < l - p
@@ -165,14 +179,6 @@ passed-less l p q r a b c = omega arith
 
 pub past_two : (p : ℕ) → p < p + 2
 past_two p = omega arith
-
--- the own words of a node
-module _ (row : List ℕ) (at d : ℕ) (o : Next) (need p : ℕ) (due : Due) where
-  pub own-stopped : ((named : Bool) → Seeks named row at d o need (record { ok = false; at = p })) → SeeksOwn row at d o need (record { ok = false; at = p; due = due })
-  own-stopped s = record { reaches = λ e. absurd (clash cc); ended = λ e. absurd (clash cc); stops = λ e. s }
-
-  pub own-ended : ((named : Bool) → Reaches named row at d o need p (next_due due)) → is_own (next_due due) ≡ false → SeeksOwn row at d o need (record { ok = true; at = p; due = due })
-  own-ended i e = record { reaches = λ t. i; ended = λ t. e; stops = λ t. absurd (clash cc) }
 
 -- what the search answers from where the own words ended, it answers from where they began
 pub joined : {named : Bool} {row : List ℕ} {at d : ℕ} {o : Next} {need p : ℕ} {o' : Next} {s : Sought} → Reaches named row at d o need p o' → Seeks named row p d o' need s → Seeks named row at d o need s
@@ -209,5 +215,5 @@ module _ {named : Bool} {row : List ℕ} {at d : ℕ} {o : Next} {need p : ℕ} 
   not-never e = let own : true ≡ false = rw e at f in clash cc
 
 -- where the children of a node may be sought
-pub begun : {row : List ℕ} {at d : ℕ} {o : Next} {need : ℕ} (r : Start) (p x y : ℕ) → r ≡ At p x y → Starts row at d o need r → (at + (least d o + need) ≤ 8192) × ((named : Bool) → Reaches named row at d o need p (parts 0 x y))
+pub begun : {row : List ℕ} {at d : ℕ} {o : Next} {need : ℕ} (r : Option (ℕ × ℕ × ℕ)) (p x y : ℕ) → r ≡ Some (p, x, y) → Starts row at d o need r → (at + (least d o + need) ≤ 8192) × ((named : Bool) → Reaches named row at d o need p (parts 0 x y))
 begun r p x y e s = rw e at s

@@ -1,16 +1,16 @@
 // What must still come of a node, and the fewest words that this takes.
 ghost use Rattle.std.specs.Prelude.{◌≡◌, ◌≤◌, true, false};
 ghost use Rattle.tree.specs.Tag.{own, own_of};
-ghost use Rattle.form.specs.Break.{note, parts, decls_next, next_of, least};
-ghost use Rattle.broken.specs.Internal.Seeks.{sort_of, next_due, next_then, first_flag, after_flag, after_word, is_own};
+ghost use Rattle.form.specs.Break.{note, parts, low_flag, decls_next, next_of, least};
+ghost use Rattle.broken.specs.Internal.Seeks.{sort_of, next_due, next_then, after_flag, flag_next, after_word, is_own};
 
 use form::answer::Limit;
 use tree::tag::{Shape, expr_shape, pred_shape};
 
 // What a word is followed by: nothing; so many expressions or predicates; a count of expressions; declarations, a predicate and an
 // expression; so many names, a predicate and expressions. With annotations: declarations, a predicate and an expression; declarations, a
-// predicate and expressions; the flag of a declared name, and what the flag is followed by, with so many declarations and expressions after
-// it, where an annotation came and where none did.
+// predicate and expressions; the flag of a declared name, and what the flag is followed by: whether an annotation came before, and so many
+// declarations and expressions after it.
 #[derive(Clone, Copy)]
 pub enum Then {
     Nothing,
@@ -21,10 +21,8 @@ pub enum Then {
     Names(u32),
     NotedDeclared,
     Noted(u32),
-    Flag(u32, u32),
-    FirstFlag(u32, u32),
-    Decl(u32, u32),
-    FirstDecl(u32, u32),
+    Flag(bool, u32, u32),
+    Decl(bool, u32, u32),
 }
 
 // The rest of a node: names, predicates and expressions, so many of each; a word between limits and what follows it; an annotation and so
@@ -37,50 +35,37 @@ pub enum Due {
     Wrong,
 }
 
-// Declarations with flags, a predicate and expressions, where an annotation came.
-pub(crate) fn later_decls(decls: u32, exprs: u32) -> Due
-    ensures { next_due result ≡ decls_next true decls 1 exprs }
+// Declarations with flags, a predicate and expressions, where an annotation came before or none did; the last flag tells of one if none did.
+pub(crate) fn decls_due(came: bool, decls: u32, exprs: u32) -> Due
+    ensures { next_due result ≡ decls_next came decls 1 exprs }
 {
-    if decls == 0 {
+    if 0 < decls {
+        return Due::Ask(0, Limit::NAME, Then::Flag(came, decls - 1, exprs));
+    }
+    if came {
         return Due::Kids(0, 1, exprs);
     }
-    Due::Ask(0, Limit::NAME, Then::Flag(decls - 1, exprs))
+    Due::Wrong
 }
 
-// The same where none came.
-fn first_decls(decls: u32, exprs: u32) -> Due
-    ensures { next_due result ≡ decls_next false decls 1 exprs }
+// The lowest flag of a name with so many declarations after it.
+fn low_flag(came: bool, decls: u32) -> u32
+    ensures { result ≡ low_flag came decls }
 {
-    if decls == 0 {
-        return Due::Wrong;
+    if came {
+        return 0;
     }
-    Due::Ask(0, Limit::NAME, Then::FirstFlag(decls - 1, exprs))
+    if decls == 0 {
+        return 1;
+    }
+    0
 }
 
-// The flag of a name where none came: the last is 1.
-fn first_flag(decls: u32, exprs: u32) -> Due
-    ensures { next_due result ≡ first_flag decls exprs }
-{
-    if decls == 0 {
-        return Due::Ask(1, 1, Then::FirstDecl(0, exprs));
-    }
-    Due::Ask(0, 1, Then::FirstDecl(decls, exprs))
-}
-
-fn after_flag(decls: u32, exprs: u32, flag: u32) -> Due
-    ensures { next_due result ≡ after_flag true decls exprs flag }
+fn after_flag(came: bool, decls: u32, exprs: u32, flag: u32) -> Due
+    ensures { next_due result ≡ after_flag came decls exprs flag }
 {
     if flag == 0 {
-        return later_decls(decls, exprs);
-    }
-    Due::Note(decls, exprs)
-}
-
-fn after_first_flag(decls: u32, exprs: u32, flag: u32) -> Due
-    ensures { next_due result ≡ after_flag false decls exprs flag }
-{
-    if flag == 0 {
-        return first_decls(decls, exprs);
+        return decls_due(came, decls, exprs);
     }
     Due::Note(decls, exprs)
 }
@@ -96,11 +81,11 @@ fn then_of(then: Then, w: u32) -> Due
         Then::Declared => Due::Ask(1, Limit::DECLARATIONS, Then::Names(1)),
         Then::Names(exprs) => Due::Kids(w, 1, exprs),
         Then::NotedDeclared => Due::Ask(1, Limit::DECLARATIONS, Then::Noted(1)),
-        Then::Noted(exprs) => first_decls(w, exprs),
-        Then::Flag(decls, exprs) => Due::Ask(0, 1, Then::Decl(decls, exprs)),
-        Then::FirstFlag(decls, exprs) => first_flag(decls, exprs),
-        Then::Decl(decls, exprs) => after_flag(decls, exprs, w),
-        Then::FirstDecl(decls, exprs) => after_first_flag(decls, exprs, w),
+        Then::Noted(exprs) => decls_due(false, w, exprs),
+        Then::Flag(came, decls, exprs) => {
+            Due::Ask(low_flag(came, decls), 1, Then::Decl(came, decls, exprs))
+        }
+        Then::Decl(came, decls, exprs) => after_flag(came, decls, exprs, w),
     }
 }
 
@@ -123,21 +108,15 @@ fn due_of(shape: Shape) -> Due
     }
 }
 
-fn wide(n: u32) -> usize
-    ensures { result ≡ n }
-{
-    n as usize
-}
-
 // So many names and children; over 8,192 where there are children and none may be.
 pub(crate) fn least_kids(depth: u32, names: u32, preds: u32, exprs: u32) -> usize
     ensures value { result ≡ least depth (parts names preds exprs) }
     ensures upper_bound { result ≤ 70381629063165 }
 {
     if depth == 0 {
-        wide(names) + (wide(preds) + wide(exprs)) * 8193
+        names as usize + (preds as usize + exprs as usize) * 8193
     } else {
-        wide(names) + (wide(preds) + wide(exprs))
+        names as usize + (preds as usize + exprs as usize)
     }
 }
 
@@ -146,7 +125,7 @@ pub(crate) fn least_later(depth: u32, decls: u32, exprs: u32) -> usize
     ensures value { result ≡ least depth (decls_next true decls 1 exprs) }
     ensures upper_bound { result ≤ 70390218997756 }
 {
-    wide(decls) + wide(decls) + least_kids(depth, 0, 1, exprs)
+    decls as usize + decls as usize + least_kids(depth, 0, 1, exprs)
 }
 
 // The same after an annotation that must come.
@@ -154,36 +133,40 @@ fn least_note(depth: u32, decls: u32, exprs: u32) -> usize
     ensures value { result ≡ least depth (note (decls_next true decls 1 exprs)) }
     ensures upper_bound { result ≤ 70390218997756 }
 {
-    wide(decls) + wide(decls) + least_kids(depth, 0, 2, exprs)
+    decls as usize + decls as usize + least_kids(depth, 0, 2, exprs)
 }
 
-// The same where none came.
-fn least_first(depth: u32, decls: u32, exprs: u32) -> usize
-    ensures value { result ≡ least depth (decls_next false decls 1 exprs) }
+// Declarations with flags, a predicate and expressions, where an annotation came before or none did.
+fn least_decls(depth: u32, came: bool, decls: u32, exprs: u32) -> usize
+    ensures value { result ≡ least depth (decls_next came decls 1 exprs) }
     ensures upper_bound { result ≤ 70390218997756 }
 {
+    if came {
+        return least_later(depth, decls, exprs);
+    }
     if decls == 0 {
         return 8193;
     }
     least_note(depth, decls, exprs)
 }
 
-fn least_decl(depth: u32, decls: u32, exprs: u32, flag: u32) -> usize
-    ensures value { result ≡ least depth (after_flag true decls exprs flag) }
-    ensures upper_bound { result ≤ 70390218997756 }
+// A flag, and what follows it.
+fn least_flag(depth: u32, came: bool, decls: u32, exprs: u32) -> usize
+    ensures value { result ≡ least depth (flag_next came decls exprs) }
+    ensures upper_bound { result ≤ 70390218997757 }
 {
-    if flag == 0 {
-        return least_later(depth, decls, exprs);
+    if came {
+        return 1 + least_later(depth, decls, exprs);
     }
-    least_note(depth, decls, exprs)
+    1 + least_note(depth, decls, exprs)
 }
 
-fn least_first_decl(depth: u32, decls: u32, exprs: u32, flag: u32) -> usize
-    ensures value { result ≡ least depth (after_flag false decls exprs flag) }
+fn least_decl(depth: u32, came: bool, decls: u32, exprs: u32, flag: u32) -> usize
+    ensures value { result ≡ least depth (after_flag came decls exprs flag) }
     ensures upper_bound { result ≤ 70390218997756 }
 {
     if flag == 0 {
-        return least_first(depth, decls, exprs);
+        return least_decls(depth, came, decls, exprs);
     }
     least_note(depth, decls, exprs)
 }
@@ -199,12 +182,10 @@ fn least_then(depth: u32, then: Then, w: u32) -> usize
         Then::Count => 1 + least_kids(depth, 0, 0, 0),
         Then::Declared => 1 + least_kids(depth, 1, 1, 1),
         Then::Names(exprs) => least_kids(depth, w, 1, exprs),
-        Then::NotedDeclared => 1 + least_first(depth, 1, 1),
-        Then::Noted(exprs) => least_first(depth, w, exprs),
-        Then::Flag(decls, exprs) => 1 + least_later(depth, decls, exprs),
-        Then::FirstFlag(decls, exprs) => 1 + least_note(depth, decls, exprs),
-        Then::Decl(decls, exprs) => least_decl(depth, decls, exprs, w),
-        Then::FirstDecl(decls, exprs) => least_first_decl(depth, decls, exprs, w),
+        Then::NotedDeclared => 1 + least_decls(depth, false, 1, 1),
+        Then::Noted(exprs) => least_decls(depth, false, w, exprs),
+        Then::Flag(came, decls, exprs) => least_flag(depth, came, decls, exprs),
+        Then::Decl(came, decls, exprs) => least_decl(depth, came, decls, exprs, w),
     }
 }
 
@@ -226,9 +207,9 @@ pub fn is_own(due: Due) -> bool
     ensures { result ≡ is_own (next_due due) }
 {
     match due {
-        Due::Kids(names, preds, exprs) => 0 < names,
-        Due::Ask(lo, hi, then) => true,
-        Due::Note(decls, exprs) => false,
+        Due::Kids(names, _, _) => 0 < names,
+        Due::Ask(_, _, _) => true,
+        Due::Note(_, _) => false,
         Due::Wrong => true,
     }
 }
@@ -256,7 +237,7 @@ pub fn after_word(due: Due, w: u32) -> Due
             }
             then_of(then, w)
         }
-        Due::Note(decls, exprs) => Due::Wrong,
+        Due::Note(_, _) => Due::Wrong,
         Due::Wrong => Due::Wrong,
     }
 }

@@ -17,28 +17,18 @@ pub(crate) fn no_kids(preds: u32, exprs: u32) -> bool
     exprs == 0
 }
 
-// One fewer, or none.
-pub(crate) fn one_less(n: u32) -> u32
-    ensures { result ≡ n - 1 }
-{
-    if n == 0 {
-        return 0;
-    }
-    n - 1
-}
-
 // The expressions after the first child.
 pub(crate) fn exprs_after(preds: u32, exprs: u32) -> u32
     ensures { result ≡ exprs_after preds exprs }
 {
     if preds == 0 {
-        return one_less(exprs);
+        return exprs.saturating_sub(1);
     }
     exprs
 }
 
 // What stands after the tag of the first child: of a predicate where there are predicates, or else of an expression.
-pub(crate) fn child_head(row: &[u32], at: usize, preds: u32, tag: u32) -> Head
+pub(crate) fn child_head(row: &[u32], at: usize, preds: u32, tag: u32) -> Option<Head>
     ensures { result ≡ head_at at (read (own (sort_of preds) tag) (drop at row.now)) }
 {
     if preds == 0 {

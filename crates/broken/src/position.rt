@@ -13,8 +13,10 @@ fn broken_kids(row: &[u32], preds: u32, exprs: u32, named: bool) -> u32
     requires { least 64 (parts 0 preds exprs) ≤ 8192 }
     ensures { result ≡ break_from named (λ w. never) 0 (rest 64 (parts 0 preds exprs) nothing) row.now }
 {
-    let s = seek_kids(row, 0, preds, exprs, Limit::DEPTH, 0, named);
-    s.at as u32
+    match seek_kids(row, 0, preds, exprs, Limit::DEPTH, 0, named) {
+        Ok(end) => end as u32,
+        Err(at) => at as u32,
+    }
 }
 
 // Where a row breaks as a form of either sort: a row that begins as a predicate begins as no expression.
@@ -104,11 +106,10 @@ pub fn broken_list(row: &[u32], kind: ListKind) -> u32
             if !fits(p + 1, Limit::DEPTH, due, 0) {
                 return p as u32;
             }
-            let s = seek(row, p + 1, due, Limit::DEPTH, 0, false);
-            if !s.ok {
-                return s.at as u32;
-            }
-            p = s.at;
+            p = match seek(row, p + 1, due, Limit::DEPTH, 0, false) {
+                Ok(end) => end,
+                Err(at) => return at as u32,
+            };
         }
     }
     p as u32

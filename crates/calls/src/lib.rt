@@ -5,8 +5,8 @@ ghost use Rattle.std.specs.Prelude.{◌≡◌, length};
 ghost use Rattle.form.specs.Answer.{told, written};
 ghost use Rattle.rules.specs.Command.{outcome_of, number_outcome};
 
-use form::answer::Answer;
-use rules::command::{Command, Numbered, of_number};
+use form::answer::{Answer, Refusal};
+use rules::command::{Command, of_number};
 
 // The command's answer. A command that takes no offset or no list does not look at it.
 pub fn run(
@@ -32,7 +32,7 @@ pub fn run(
     }
 }
 
-// The answer of the command of that number; 8 where there is none.
+// The answer of the command of that number.
 pub fn run_number(
     number: u32,
     offset: i32,
@@ -44,8 +44,6 @@ pub fn run_number(
     ensures value { result ≡ told (number_outcome number offset list.now row.now (length work.old) (length out.old)) }
     ensures out_after { out.new ≡ written (number_outcome number offset list.now row.now (length work.old) (length out.old)) out.old }
 {
-    let Numbered::Is(command) = of_number(number) else {
-        return Answer::No(8, 0);
-    };
+    let command = of_number(number).ok_or(Refusal::NotACommand)?;
     run(command, offset, list, row, work, out)
 }

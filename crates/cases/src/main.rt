@@ -2,10 +2,10 @@
 //
 // A case is: name; and then in words the call, the length of the output row, the length of the work row, the parameter, its sign, the
 // number of words of the list, the list, the row. A space ends each word, which may stand behind how often it is repeated and a star. The
-// call is a command's number, or 101 dangling, 102 lift, 103 a new set of places, 104 a set that no constructor makes,
+// call is a command's number, or 101 dangling, 102 lift, 103 a new set of places, 104 a set for any number of declarations,
 // 105 the check of a list of places, which is the row.
 // The rows that are offered to a set stand in the row, each behind the number of its words. The sign is 1, 2 or 3 for the offsets -1, -2
-// and -2147483648. The output row holds 88 everywhere before the call and the work row 77. What is printed: the name, document 01's number,
+// and -2147483648. The output row holds 88 everywhere before the call and the work row 77. What is printed: the name, 0 or the number of a refusal,
 // the length of an answer or the position of a refusal, and every word of the output row. For lift it is the part that it answers; for a set
 // of places its number and position, those of the offers, the number of declarations, and place, start and end of each filled place.
 #![tactic(auto)]
@@ -14,7 +14,7 @@ mod place_sets;
 mod print;
 mod text;
 
-use crate::text::{find, part, read_words, size_at, word_at, words_part};
+use crate::text::{find, part, read_words, size_at, word_at};
 use form::answer::Answer;
 use places::replacements::Replacements;
 use std::io::{self, Input, Read};
@@ -24,12 +24,7 @@ fn offset(param: u32, sign: u32) -> i32 {
         1 => -1,
         2 => -2,
         3 => -2147483648,
-        _ => {
-            if 2147483647 < param {
-                return 2147483647;
-            }
-            param as i32
-        }
+        _ => i32::try_from(param).unwrap_or(i32::MAX),
     }
 }
 
@@ -48,30 +43,7 @@ fn answer_of(
     }
 }
 
-// The call on rows of the asked lengths.
-fn run_call(
-    rt: &impl Print,
-    call: u32,
-    by: i32,
-    list: &[u32],
-    row: &[u32],
-    work: &mut [u32],
-    w: usize,
-    out: &mut [u32],
-    o: usize,
-) -> io::Result<()> {
-    if work.len() < w {
-        return Ok(());
-    }
-    if out.len() < o {
-        return Ok(());
-    }
-    let a = answer_of(call, by, list, row, &mut work[..w], &mut out[..o]);
-    print::answer(rt, a)?;
-    print::words(rt, words_part(out, 0, o))
-}
-
-// A call with rows of its own.
+// A call with rows of its own, of the asked lengths.
 fn run_fresh(
     rt: &impl Print,
     call: u32,
@@ -81,29 +53,26 @@ fn run_fresh(
     w: usize,
     o: usize,
 ) -> io::Result<()> {
-    let mut work = [77u32; 16400];
-    let mut out = [88u32; 8200];
-    run_call(rt, call, by, list, row, &mut work, w, &mut out, o)
-}
-
-fn run_lift(
-    rt: &impl Print,
-    base: &[u32],
-    work: &mut [u32],
-    w: usize,
-    depth: u32,
-) -> io::Result<()> {
-    if work.len() < w {
+    let mut words = [77u32; 16400];
+    let mut results = [88u32; 8200];
+    let Some(work) = words.get_mut(..w) else {
         return Ok(());
-    }
-    let part = subst::lift::at_depth(base, &mut work[..w], depth);
-    print::count(rt, part.len())?;
-    print::words(rt, part)
+    };
+    let Some(out) = results.get_mut(..o) else {
+        return Ok(());
+    };
+    print::answer(rt, answer_of(call, by, list, row, work, out))?;
+    print::words(rt, out)
 }
 
 fn lift_fresh(rt: &impl Print, base: &[u32], w: usize, depth: u32) -> io::Result<()> {
-    let mut work = [77u32; 16400];
-    run_lift(rt, base, &mut work, w, depth)
+    let mut words = [77u32; 16400];
+    let Some(work) = words.get_mut(..w) else {
+        return Ok(());
+    };
+    let part = subst::lift::at_depth(base, work, depth);
+    print::count(rt, part.len())?;
+    print::words(rt, part)
 }
 
 // The case that these words say.
@@ -112,17 +81,17 @@ fn run_words(rt: &impl Print, words: &[u32]) -> io::Result<()> {
     let w = size_at(words, 2);
     let param = word_at(words, 3);
     let n = size_at(words, 5);
-    let row = words_part(words, 6 + n, words.len());
+    let row = part(words, 6 + n, words.len());
     match call {
         102 => lift_fresh(rt, row, w, param),
         103 => place_sets::run(rt, row, Replacements::new(param as usize)),
-        104 => place_sets::run(rt, row, place_sets::forced(param as usize)),
+        104 => place_sets::run(rt, row, Ok(Replacements::free(param as usize))),
         105 => print::answer(rt, reader::lists::check_places(row, param)),
         _ => run_fresh(
             rt,
             call,
             offset(param, word_at(words, 4)),
-            words_part(words, 6, 6 + n),
+            part(words, 6, 6 + n),
             row,
             w,
             size_at(words, 1),
@@ -135,7 +104,7 @@ fn run_case(rt: &impl Print, name: &[u8], text: &[u8]) -> io::Result<()> {
     let n = read_words(text, &mut words);
     print::text(rt, name)?;
     print::text(rt, b":")?;
-    run_words(rt, words_part(&words, 0, n))?;
+    run_words(rt, part(&words, 0, n))?;
     print::text(rt, b"\n")
 }
 
@@ -152,10 +121,11 @@ fn step(rt: &impl Print, input: &[u8], at: usize) -> io::Result<usize> {
 
 fn run(rt: &impl Print, input: &[u8]) -> io::Result<()> {
     let mut at = 0;
-    let mut left = input.len();
-    while left > 0 && at < input.len() {
+    for _ in 0..input.len() {
+        if input.len() <= at {
+            break;
+        }
         at = step(rt, input, at)?;
-        left -= 1;
     }
     Ok(())
 }

@@ -11,30 +11,26 @@ use Rattle.tree.specs.Form.{Form, pick, encode}
 use Rattle.tree.specs.Tag.{pred}
 use Rattle.form.specs.Break.{break_at}
 use Rattle.form.specs.Decode.{Whole, one, not-one, row_form, Found, found, missing, as_sort, form_of}
-use Rattle.form.specs.Answer.{Outcome, answer, refusal, told, of_found, check_outcome}
+use Rattle.form.specs.Answer.{Outcome, answer, stop, told, of_found, check_outcome}
 use Rattle.form.specs.declared.answer.Kind.TheVariants.{Predicate}
-use Rattle.form.specs.declared.answer.Answer.{Answer}
-use Rattle.form.specs.declared.answer.Answer.TheVariants.{Done, No}
+use Rattle.form.specs.Answer.{Answer}
+use Rattle.std.specs.Prelude.{Ok as Done, Err}
 use Rattle.form.proofs.DecodeLaws.{clash, Ok}
 use Rattle.form.proofs.RowLaws.{row-exact}
 use Rattle.rules.specs.Fill.{name_of, Quantified, quantifier, other, of_quantified, quantified}
 use Rattle.shift.proofs.AroundLaws.{quant-of}
 use Rattle.decls.specs.Internal.Noted.{count_in}
 use Rattle.decls.proofs.CountLaws.{quant-count, other-count}
-use Rattle.cursor.specs.Read.{opening_of, declared_outcome}
-use Rattle.cursor.specs.declared.Opening.{Opening}
-
-pub opening-declared : (row : List ℕ) (o : Opening) → o ≡ opening_of row
-    → count_in row ≡ pick o.short 0 (pick (eqb o.tag 851) o.count (pick (eqb o.tag 852) o.count (pick (eqb o.tag 861) o.count (pick (eqb o.tag 862) o.count 0))))
-unfolding count_in opening_of
-opening-declared row o e = rw e refl
+use Rattle.cursor.specs.Read.{declared_outcome}
+use Rattle.form.specs.declared.answer.Refusal.{Refusal}
+use Rattle.form.specs.declared.answer.Refusal.TheVariants.{TooLong, NotQuantified}
 
 abbrev go : Form → Outcome
-go f = of_quantified (λ t ds b. answer (map name_of ds)) 3 (quantified f)
+go f = of_quantified (λ t ds b. answer (map name_of ds)) NotQuantified (quantified f)
 
 -- 3 where there are none, which no quantified predicate has
 abbrev by_count : ℕ → Answer
-by_count n = pick (eqb n 0) (No 3 0) (Done n)
+by_count n = pick (eqb n 0) (Err NotQuantified) (Done n)
 
 form-count : (f : Form) → Ok 64 pred f → told (go f) ≡ by_count (count_in (encode f))
 form-count f ok = by (quantified f) refl
@@ -47,11 +43,11 @@ form-count f ok = by (quantified f) refl
         rw (y.is, quant-count f y, ne_eqb (length y.decls) 0 (λ h. omega arith), length-map y.decls name_of)
 
 module _ (row : List ℕ) (r : Answer) (q : r ≡ told (check_outcome Predicate row)) where
-  pub count-refused : (k : ℕ) {i : ℕ} → r ≡ No k i → r ≡ told (declared_outcome row)
+  pub count-refused : (k : Refusal) → r ≡ Err k → Err k ≡ told (declared_outcome row)
   unfolding check_outcome declared_outcome
-  count-refused k e = by (leb (length row) 8192) (form_of Predicate row) q
+  count-refused k e = sym e ∙ by (leb (length row) 8192) (form_of Predicate row) q
     where
-      by : (b : Bool) (z : Found) → r ≡ told (pick b (of_found (break_at Predicate row) (λ s f. answer []) z) (refusal 1)) → r ≡ told (pick b (of_found (break_at Predicate row) (λ s f. go f) z) (refusal 1))
+      by : (b : Bool) (z : Found) → r ≡ told (pick b (of_found (break_at Predicate row) (λ s f. answer []) z) (stop TooLong)) → r ≡ told (pick b (of_found (break_at Predicate row) (λ s f. go f) z) (stop TooLong))
       by false z p = p
       by true missing p = p
       by true (found s f) p = absurd (clash cc)
@@ -61,12 +57,12 @@ module _ (row : List ℕ) (r : Answer) (q : r ≡ told (check_outcome Predicate 
     unfolding check_outcome declared_outcome form_of
     counted = by (leb (length row) 8192) (row_form pred row) refl q
       where
-        by : (b : Bool) (w : Whole) → row_form pred row ≡ w → r ≡ told (pick b (of_found (break_at Predicate row) (λ s f. answer []) (as_sort pred w)) (refusal 1)) → told (pick b (of_found (break_at Predicate row) (λ s f. go f) (as_sort pred w)) (refusal 1)) ≡ by_count n
+        by : (b : Bool) (w : Whole) → row_form pred row ≡ w → r ≡ told (pick b (of_found (break_at Predicate row) (λ s f. answer []) (as_sort pred w)) (stop TooLong)) → told (pick b (of_found (break_at Predicate row) (λ s f. go f) (as_sort pred w)) (stop TooLong)) ≡ by_count n
         by true (one f) y p = let (a, ok) = row-exact pred row f y in rw (c, a) (form-count f ok)
         by true not-one y p = absurd (clash cc)
         by false w y p = absurd (clash cc)
 
-    pub count_none : n ≡ 0 → No 3 0 ≡ told (declared_outcome row)
+    pub count_none : n ≡ 0 → Err NotQuantified ≡ told (declared_outcome row)
     count_none h = sym (counted ∙ rw (eq-eqb n 0 h) refl)
 
     pub count-some : (n ≡ 0 → ⊥) → Done n ≡ told (declared_outcome row)

@@ -13,6 +13,7 @@ use Rattle.tree.specs.Form.{pick}
 use Rattle.shift.specs.Internal.Items.{items, all_items, apart, word_item, word_items, slot_of, slot_for}
 use Rattle.shift.specs.declared.items.Item.{Item}
 use Rattle.shift.specs.declared.items.Item.TheVariants.{Plain, Ident}
+use Rattle.shift.proofs.SlotLaws.{slot-most}
 use Rattle.shift.proofs.WordwiseLaws.{all_words, mark-over, apart-drop}
 use Rattle.form.proofs.HeadLaws.{here, gone}
 use Rattle.replace.specs.Internal.Pieces.{part}
@@ -135,6 +136,9 @@ module _ (n : ℕ) (ws : List ℕ) (long : length ws ≡ n + 1) where
   clear-slot (Plain w) = passed_over ∙ rw count at (clears-plain vs {x = Plain w} refl)
   clear-slot (Ident k t v) = clear-ident k t v (eqb t 2) refl (ltb v (k - n)) refl (ltb (v - (k - n)) n) refl
 
+pub slot_within : (n m t v s : ℕ) → s ≡ slot_for n 0 m t v → s ≤ n
+slot_within n m t v s e = slot-most n 0 n m t v s (le_refl n) (omega arith) e
+
 -- the loop, word by word: one more word, no more words, and the first word
 module _ (row marks : List ℕ) (n : ℕ) where
   open_next : (i m t : ℕ) → i < length row → i < length marks
@@ -235,6 +239,8 @@ module _ (n : ℕ) (row marks : List ℕ) (start end : ℕ) (words : List ℕ) w
         unfolding part
         clears-some l e = e ∙ sym clears-is
 
+pub ruleset clear_cases = (clears-short, clears-unmarked, clears-other, clears-none, clears-some)
+
 -- up to the end of the row
 module _ (n : ℕ) (row marks : List ℕ) (start : ℕ) (words : List ℕ) (marked : length row ≤ length marks) (count : length words ≡ n + 1) where
   rest-words : part start (length row) row ≡ drop start row
@@ -254,3 +260,5 @@ module _ (n : ℕ) (row marks : List ℕ) (start : ℕ) (words : List ℕ) (mark
   clears-rest a =
       clears-is n row marks start (length row) words (le_refl (length row)) marked count
       ∙ (ap (cleared n (drop 1 words)) rest-open ∙ cleared-items n (drop 1 words) (drop start row) (drop start marks) a)
+
+pub ruleset clear_steps = (slot_within, cleared-next, cleared-start, cleared-end)

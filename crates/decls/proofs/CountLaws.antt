@@ -3,7 +3,7 @@ use mathlib.Core.Path.{◌≡◌, refl, ap, ◌∙◌}
 use mathlib.Core.Bool.{Bool, true, false, ◌||◌}
 use mathlib.Core.List.{List, [], ◌∷◌, ◌++◌, map}
 use mathlib.Core.Option.{none as absent, some}
-use Prim.Native.Nat.{ℕ, ◌+◌, ◌≤◌, ◌<◌}
+use Prim.Native.Nat.{ℕ, ◌+◌, ◌≤◌}
 use native.Mathlib.Omega.{arith}
 use borrow.Author.Tests.{lt-leb, lt-ltb, le-ltb, eqb-true}
 use lib.Dec.{leb, eqb}
@@ -13,7 +13,7 @@ use Rattle.tree.specs.Tag.{pred}
 use Rattle.form.proofs.DecodeLaws.{clash, Ok}
 use Rattle.rules.specs.Fill.{Decl, unnoted, name_of, unlisted, any_noted, other, quantified}
 use Rattle.shift.proofs.AroundLaws.{head_of, encode-around, Quant, other-first, quant-second, quant-two, quant-tagged}
-use Rattle.decls.specs.Internal.Noted.{count_in, decls_end, body_start}
+use Rattle.decls.specs.Internal.Noted.{count_in, body_start}
 use Rattle.decls.proofs.DeclLaws.{GoodDecls, around-good}
 use Rattle.decls.proofs.NotedLaws.{decls-end}
 
@@ -101,21 +101,3 @@ pub plain-decls : (ds : List Decl) → any_noted ds ≡ false → map unnoted (m
 plain-decls [] h = refl
 plain-decls ((n, absent) ∷ ds) h = ap (λ z. (n, absent) ∷ z) (plain-decls ds h)
 plain-decls ((n, some x) ∷ ds) h = absurd (clash cc)
-
--- by the tests of the code
-past-start : (l : List ℕ) → length l < 1 → get_or l 0 0 ≡ 0
-past-start [] h = refl
-past-start (x ∷ l) h = absurd (omega arith)
-
-module _ (row : List ℕ) (n : ℕ) where
-  pub start-empty : length row < 1 → 2 + n ≡ body_start row n
-  unfolding body_start
-  start-empty h = rw (past-start row h)
-
-  pub start_plain : get_or row 0 0 < 860 → 2 + n ≡ body_start row n
-  unfolding body_start
-  start_plain h = rw (lt-ltb (get_or row 0 0) 860 h)
-
-  pub start-noted : 860 ≤ get_or row 0 0 → (r : ℕ) → r ≡ decls_end row 2 n → r ≡ body_start row n
-  unfolding body_start
-  start-noted h r e = e ∙ rw (le-ltb (get_or row 0 0) 860 h)

@@ -7,20 +7,19 @@ use native.Mathlib.Omega.{arith}
 use lib.ListN.{length, drop}
 use Rattle.tree.specs.Form.{Decls, names_of, any_typed, none, pick, encode, encode_decls}
 use Rattle.form.specs.Decode.{gots, GotDecls, declared, no-decls, decode, decls}
-use Rattle.form.specs.declared.head.Step.{Step}
-use Rattle.form.specs.declared.head.Step.TheVariants.{End, Bad}
 use Rattle.form.proofs.DecodeLaws.{clash, OkDecls, decls-sound, decls-at}
 use Rattle.reader.specs.Internal.Reads.{ToldAll, ToldNoted, decls_within, mark_decls}
 use Rattle.reader.proofs.DeclReads.{within}
 use Rattle.decls.specs.Internal.Noted.{end_decls}
+use Rattle.std.specs.Prelude.{Some, None, Option}
 
 -- what the reader of declarations tells of a position is where they end
-pub noted-ends : (at u : ℕ) (g : GotDecls) (a b : List ℕ) (r : Step) → ToldNoted at u g (λ l. gots none l) a b r → r ≡ end_decls at g
+pub noted-ends : (at u : ℕ) (g : GotDecls) (a b : List ℕ) (r : Option ℕ) → ToldNoted at u g (λ l. gots none l) a b r → r ≡ end_decls at g
 unfolding ToldNoted ToldAll end_decls encode
 noted-ends at u (declared ds x) a b r t = go (any_typed ds) t
   where
-    go : (z : Bool) → pick z (ToldAll (at + length (encode_decls ds)) (u + length (names_of ds)) (gots none x) (mark_decls ds at u a) b r) (r ≡ Bad) → r ≡ pick z (End (at + length (encode_decls ds))) Bad
-    go true t = t.0 ∙ ap End (omega arith)
+    go : (z : Bool) → pick z (ToldAll (at + length (encode_decls ds)) (u + length (names_of ds)) (gots none x) (mark_decls ds at u a) b r) (r ≡ None) → r ≡ pick z (Some (at + length (encode_decls ds))) None
+    go true t = t.0 ∙ ap Some (omega arith)
     go false t = t
 noted-ends at u no-decls a b r t = t
 
@@ -33,14 +32,14 @@ pub record Declared (row : List ℕ) (at n e : ℕ) : Type 0 where
   pub noted : any_typed decls ≡ true
   pub ends : e ≡ at + length (encode_decls decls)
 
-pub declared-at : (row : List ℕ) (at n e : ℕ) (r : Step) → n ≤ 65535 → r ≡ end_decls at (decls_within 63 0 n (drop at row)) → r ≡ End e → Declared row at n e
+pub declared-at : (row : List ℕ) (at n e : ℕ) (r : Option ℕ) → n ≤ 65535 → r ≡ end_decls at (decls_within 63 0 n (drop at row)) → r ≡ Some e → Declared row at n e
 unfolding end_decls
 declared-at row at n e r most q k = go (decls (λ s l. decode 63 s l) n (drop at row)) refl (sym k ∙ (q ∙ ap (end_decls at) (within at 63 0 n (drop at row) [] [] (omega arith) (omega arith) most)))
   where
-    go : (g : GotDecls) → decls (λ s l. decode 63 s l) n (drop at row) ≡ g → End e ≡ end_decls at g → Declared row at n e
+    go : (g : GotDecls) → decls (λ s l. decode 63 s l) n (drop at row) ≡ g → Some e ≡ end_decls at g → Declared row at n e
     go (declared ds x) d h = typed (any_typed ds) refl h
       where
-        typed : (z : Bool) → any_typed ds ≡ z → End e ≡ pick z (End (at + length (encode_decls ds))) Bad → Declared row at n e
+        typed : (z : Bool) → any_typed ds ≡ z → Some e ≡ pick z (Some (at + length (encode_decls ds))) None → Declared row at n e
         typed true z h =
             let f : e ≡ at + length (encode_decls ds) = cc in
             let (w, o, c) = decls-sound 63 n (drop at row) ds x d in

@@ -1,13 +1,16 @@
 -- The heads of quantifiers with the declarations that are kept: they have room, and are those of the tree. Assumes nothing.
 use mathlib.Core.Path.{◌≡◌, refl, ap, sym, ◌∙◌}
-use mathlib.Core.Bool.{Bool, true, false, ◌&&◌, ◌||◌}
+use mathlib.Core.Bool.{Bool, true, false, cond, ◌&&◌, ◌||◌}
 use mathlib.Core.List.{List, [], ◌∷◌, ◌++◌, map}
 use Prim.Native.Nat.{ℕ, zero, suc, ◌+◌, ◌-◌, ◌*◌, ◌≤◌, ◌<◌}
+use native.Mathlib.Nat.{zero-add}
 use native.Mathlib.Omega.{arith}
 use borrow.Author.Tests.{le-leb, lt-leb, leb-true, leb-false, eq-eqb, ne_eqb}
 use lib.Dec.{leb, eqb}
 use lib.ListN.{length, get_or, take, drop, set, length-append, length-drop, length-map}
 use lib.Seq.{take_at}
+use Rattle.std.specs.List.{count_by}
+use Rattle.std.proofs.lemmas.List.Recursion.{is_count_by}
 use Rattle.tree.specs.Form.{Form, pick, encode, encode_decls}
 use Rattle.form.specs.Lists.{Place, kept, filled}
 use Rattle.form.proofs.HeadLaws.{here, gone}
@@ -32,19 +35,14 @@ pub encode-head : (t : ℕ) (ds : List Decl) (b : Form) → encode (quantify t d
 encode-head t [] b = refl
 encode-head t (d ∷ ds) b = encode-around t 0 (d ∷ ds) b
 
--- how many are kept: one more word, and no more
-module _ (ws : List ℕ) (i : ℕ) where
-  pub kept_more : i < length ws → (k n m : ℕ) → kept_in ws ≡ n + kept_in (drop i ws) → k ≡ pick (eqb (get_or ws i 0) 0) 1 0 → m ≡ n + k → kept_in ws ≡ m + kept_in (drop (i + 1) ws)
-  unfolding kept_in
-  kept_more h k n m e q s =
-      let x : kept_in (drop i ws) ≡ k + kept_in (drop (i + 1) ws) = rw (q, here ws i h) in
-      omega arith
+-- how many are kept, and no more than the words
+counts : (b : Bool) (n : ℕ) → pick b 1 0 + n ≡ cond b (1 + n) n
+counts true n = refl
+counts false n = zero-add n
 
-  pub kept-end : length ws ≤ i → (n : ℕ) → kept_in ws ≡ n + kept_in (drop i ws) → n ≡ kept_in ws
-  unfolding kept_in
-  kept-end h n e =
-      let x : kept_in (drop i ws) ≡ 0 = rw (gone ws i h) in
-      omega arith
+pub kept_counted : (ws : List ℕ) → kept_in ws ≡ count_by (λ w. eqb w 0) ws
+unfolding kept_in
+kept_counted ws = is_count_by kept_in (λ w. eqb w 0) refl (λ w l. counts (eqb w 0) (kept_in l)) ws
 
 kept-one : (b : Bool) → pick b 1 0 ≤ 1
 kept-one true = omega arith
@@ -54,9 +52,6 @@ pub kept-most : (ws : List ℕ) → kept_in ws ≤ length ws
 unfolding kept_in
 kept-most [] = omega arith
 kept-most (w ∷ ws) = let h = kept-most ws in let k = kept-one (eqb w 0) in omega arith
-
-pub kept-bound : (ws : List ℕ) (i : ℕ) → i < length ws → (k n : ℕ) → kept_in ws ≡ n + kept_in (drop i ws) → k ≡ pick (eqb (get_or ws i 0) 0) 1 0 → n + k ≤ length ws
-kept-bound ws i h k n e q = let a = kept_more ws i h k n (n + k) e q refl in let b = kept-most ws in omega arith
 
 pub kept-in : (ps : List Place) (ds : List Decl) → length ps ≡ length ds → kept_in (map word_for ps) ≡ length (kept_decls ps ds)
 unfolding kept_in
@@ -124,32 +119,14 @@ module _ (n words room : ℕ) where
   unfolding head_fits
   fits a b c d = rw (le-leb n 32 a, le-leb (2 + n) words b, le-leb words 8192 c, le-leb words room d)
 
-  pub not-few : 32 < n → false ≡ head_fits n words room
+  not-long : n ≤ 32 → words < 2 + n → false ≡ head_fits n words room
   unfolding head_fits
-  not-few h = rw (lt-leb n 32 h)
-
-  module _ (few : n ≤ 32) where
-    pub not-long : words < 2 + n → false ≡ head_fits n words room
-    unfolding head_fits
-    not-long h = rw (le-leb n 32 few, lt-leb (2 + n) words h)
-
-    module _ (long : 2 + n ≤ words) where
-      pub not_short : 8192 < words → false ≡ head_fits n words room
-      unfolding head_fits
-      not_short h = rw (le-leb n 32 few, le-leb (2 + n) words long, lt-leb words 8192 h)
-
-      pub last_fits : words ≤ 8192 → leb words room ≡ head_fits n words room
-      unfolding head_fits
-      last_fits h = rw (le-leb n 32 few, le-leb (2 + n) words long, le-leb words 8192 h)
+  not-long few h = rw (le-leb n 32 few, lt-leb (2 + n) words h)
 
 -- room for the row is enough
 pub room-enough : (op : ℕ) (ws row : List ℕ) (r s : ℕ) → length row ≤ r → length row ≤ s → noted_head op ws row r ≡ noted_head op ws row s
 unfolding noted_head head_fits
 room-enough op ws row r s h k = rw (le-leb (length row) r h, le-leb (length row) s k)
-
--- the answer of the test
-pub fit-test : (n words room : ℕ) (r b : Bool) → r ≡ head_fits n words room → r ≡ b → head_fits n words room ≡ b
-fit-test n words room r b e h = sym e ∙ h
 
 pub parts-fit : (full : Bool) (row ws : List ℕ) (room : ℕ) → Fit (length ws) (length row) room → 2 + length (kept_parts full row ws 2) ≤ room
 parts-fit true row ws room f =
@@ -172,31 +149,16 @@ head-written t n p ks (a ∷ b ∷ l) l' h e q =
     let o : p ≡ suc (suc (length ks)) = omega arith in
     rw (e ∙ s, o) (ap (λ z. t ∷ n ∷ z) (take_at ks (drop (length ks) l) (length ks) refl))
 
-module _ (op : ℕ) (ws row : List ℕ) (room : ℕ) where
-  pub noted-high : 852 < op → [] ≡ noted_head op ws row room
+pub ruleset written_heads = (fit_all, parts-fit, head-written)
+
+module _ (op : ℕ) (ws row : List ℕ) (room : ℕ) (low : op ≤ 852) where
+  noted-tight : head_fits (length ws) (length row) room ≡ false → [] ≡ noted_head op ws row room
   unfolding noted_head
-  noted-high h = rw (lt-leb op 852 h)
+  noted-tight h = rw (le-leb op 852 low, h)
 
-  module _ (low : op ≤ 852) where
-    pub noted-tight : head_fits (length ws) (length row) room ≡ false → [] ≡ noted_head op ws row room
-    unfolding noted_head
-    noted-tight h = rw (le-leb op 852 low, h)
-
-    module _ (fit : head_fits (length ws) (length row) room ≡ true) where
-      noted-is : noted_head op ws row room ≡ parts_head op (kept_in ws) (keeps_note row ws 2) (kept_parts (keeps_note row ws 2) row ws 2)
-      unfolding noted_head
-      noted-is = rw (le-leb op 852 low, fit)
-
-      pub noted-none : (n : ℕ) → n ≡ kept_in ws → n ≡ 0 → [] ≡ noted_head op ws row room
-      unfolding parts_head
-      noted-none n e h = sym (noted-is ∙ rw (eq-eqb (kept_in ws) 0 (sym e ∙ h)))
-
-      noted-some : (n : ℕ) (full : Bool) → n ≡ kept_in ws → (n ≡ 0 → ⊥) → full ≡ keeps_note row ws 2 → pick full (op + 10) op ∷ n ∷ kept_parts full row ws 2 ≡ noted_head op ws row room
-      unfolding parts_head
-      noted-some n full e h f = sym (noted-is ∙ rw (← f, ← e, ne_eqb n 0 h))
-
-      pub noted-tagged : (n : ℕ) (full : Bool) (t : ℕ) → n ≡ kept_in ws → (n ≡ 0 → ⊥) → full ≡ keeps_note row ws 2 → t ≡ pick full (op + 10) op → t ∷ n ∷ kept_parts full row ws 2 ≡ noted_head op ws row room
-      noted-tagged n full t e h f q = rw q (noted-some n full e h f)
+  noted-is : head_fits (length ws) (length row) room ≡ true → noted_head op ws row room ≡ parts_head op (kept_in ws) (keeps_note row ws 2) (kept_parts (keeps_note row ws 2) row ws 2)
+  unfolding noted_head
+  noted-is fit = rw (le-leb op 852 low, fit)
 
 -- the head on the tree
 parts-head : (op n : ℕ) (es : List Decl) → n ≡ length es → (full : Bool) → full ≡ any_noted es → (ks : List ℕ) → ks ≡ pick full (encode_decls (unlisted es)) (map name_of es) → parts_head op n full ks ≡ quant_head op es
@@ -253,17 +215,6 @@ module _ (ps : List Place) (ds : List Decl) (row r : List ℕ) (room : ℕ) (sam
   unfolding flagged_end
   flagged-end two = rw (decls-fit two, parts-full row ps ds 2 r same g e)
 
--- as the code answers
-module _ (ws row : List ℕ) (room : ℕ) (l : List ℕ) where
-  pub flagged-none : head_fits (length ws) (length row) room ≡ false → (◌≡◌ {A = ℕ} 0 (flagged_end ws row room)) × (l ≡ store l 2 (flagged_parts ws row room))
-  unfolding flagged_end flagged_parts store
-  flagged-none h = rw h (refl, refl)
-
-  pub flagged-some : head_fits (length ws) (length row) room ≡ true → (r : ℕ) → r ≡ 2 + length (kept_parts true row ws 2) → (l' : List ℕ) → l' ≡ store l 2 (kept_parts true row ws 2)
-      → (r ≡ flagged_end ws row room) × (l' ≡ store l 2 (flagged_parts ws row room))
-  unfolding flagged_end flagged_parts
-  flagged-some h r e l' s = rw h (e, s)
-
 -- the words from 2 on, as stored
 pub stored-behind : (l ws : List ℕ) → 2 + length ws ≤ length l → drop 2 (take (2 + length ws) (store l 2 ws)) ≡ ws
 stored-behind [] ws h = absurd (omega arith)
@@ -291,22 +242,8 @@ module _ (ns : List ℕ) (i : ℕ) where
   unfolding store encode
   flags-end h l p = rw (gone ns i h)
 
-module _ (n room : ℕ) where
-  pub names-many : 32 < n → names_fit n room ≡ false
-  unfolding names_fit
-  names-many h = rw (lt-leb n 32 h)
+pub names-fit : (n room : ℕ) → n ≤ 32 → 2 + 2 * n ≤ room → names_fit n room ≡ true
+unfolding names_fit
+names-fit n room few h = rw (le-leb n 32 few, le-leb (2 + 2 * n) room h)
 
-  pub names-tight : n ≤ 32 → room < 2 + 2 * n → names_fit n room ≡ false
-  unfolding names_fit
-  names-tight few h = rw (le-leb n 32 few, lt-leb (2 + 2 * n) room h)
-
-  pub names-fit : n ≤ 32 → 2 + 2 * n ≤ room → names_fit n room ≡ true
-  unfolding names_fit
-  names-fit few h = rw (le-leb n 32 few, le-leb (2 + 2 * n) room h)
-
-  module _ (l : List ℕ) (ws : List ℕ) where
-    pub names-none : names_fit n room ≡ false → (◌≡◌ {A = ℕ} 0 (pick (names_fit n room) (2 + 2 * n) 0)) × (l ≡ pick (names_fit n room) (store l 2 ws) l)
-    names-none h = rw h (refl, refl)
-
-    pub names-some : names_fit n room ≡ true → (r : ℕ) → r ≡ 2 + 2 * n → (l' : List ℕ) → l' ≡ store l 2 ws → (r ≡ pick (names_fit n room) (2 + 2 * n) 0) × (l' ≡ pick (names_fit n room) (store l 2 ws) l)
-    names-some h r e l' s = rw h (e, s)
+pub ruleset flag_steps = (flags-more, flags-end)

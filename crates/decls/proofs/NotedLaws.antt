@@ -6,7 +6,7 @@ use mathlib.Core.Option.{Option, none as absent, some}
 use Prim.Native.Nat.{ℕ, zero, suc, ◌+◌, ◌-◌, ◌≤◌, ◌<◌}
 use native.Mathlib.Nat.{le_refl}
 use native.Mathlib.Omega.{arith}
-use borrow.Author.Tests.{le-leb, lt-leb, leb-true, eq-eqb, ne_eqb}
+use borrow.Author.Tests.{le-leb, leb-true, eq-eqb, ne_eqb}
 use lib.Dec.{leb, eqb}
 use lib.ListN.{length, get_or, take, drop, length-append, length-drop}
 use lib.Seq.{drop-drop, drop-append_seam, get_or-drop, take_at, length-take-le}
@@ -23,6 +23,7 @@ use Rattle.replace.specs.Internal.Pieces.{part}
 use Rattle.shift.specs.Internal.Items.{store}
 use Rattle.shift.proofs.ItemLaws.{store-append}
 use Rattle.replace.proofs.FillTree.{word_for}
+use Rattle.replace.proofs.NameLaws.{store-empty}
 use Rattle.decls.specs.Internal.Noted.{decl_end, decls_end, keeps_note, part_if, kept_part, kept_parts}
 use Rattle.decls.proofs.DeclLaws.{GoodDecls}
 
@@ -123,7 +124,7 @@ module _ (row : List ℕ) where
   parts-names (filled x ∷ ps) (d ∷ ds) p r l g e = parts-names ps ds (decl_end row p) r (omega arith) g.2 (next-is row p d ds r g e)
   parts-names (kept ∷ ps) (d ∷ ds) p r l g e = rw (name-part p d ds r g e, parts-names ps ds (decl_end row p) r (omega arith) g.2 (next-is row p d ds r g e))
 
--- one step of each loop
+-- one step of each loop, and what is left behind the last
 pub note-next : (row ws : List ℕ) (i p : ℕ) → i < length ws → keeps_note row (drop i ws) p ≡ pick (eqb (get_or ws i 0) 0 && not (eqb (get_or row (p + 1) 0) 0)) true (keeps_note row (drop (i + 1) ws) (decl_end row p))
 unfolding keeps_note
 note-next row ws i p h = rw (here ws i h)
@@ -141,37 +142,6 @@ pub decls-none : (row : List ℕ) (p n : ℕ) → n ≤ 0 → decls_end row p n 
 unfolding decls_end
 decls-none row p zero h = refl
 decls-none row p (suc n) h = absurd (omega arith)
-
--- the tests of one declaration
-past_end : (l : List ℕ) (i : ℕ) → length l ≤ i → get_or l i 0 ≡ 0
-past_end [] i h = refl
-past_end (x ∷ l) zero h = absurd (omega arith)
-past_end (x ∷ l) (suc i) h = past_end l i (omega arith)
-
-module _ (row : List ℕ) (p : ℕ) where
-  pub short-end : length row < p + 2 → p ≡ decl_end row p
-  unfolding decl_end
-  short-end h = rw (lt-leb (p + 2) (length row) h)
-
-  pub flag-end : p + 2 ≤ length row → get_or row (p + 1) 0 ≡ 0 → p + 2 ≡ decl_end row p
-  unfolding decl_end
-  flag-end h e = rw (le-leb (p + 2) (length row) h, eq-eqb (get_or row (p + 1) 0) 0 e)
-
-  pub note-ends : p + 2 ≤ length row → (get_or row (p + 1) 0 ≡ 0 → ⊥) → (q : ℕ) → q ≡ (part_words row (p + 2) (p + 2)).middle → q ≡ decl_end row p
-  unfolding decl_end
-  note-ends h e q k = k ∙ rw (le-leb (p + 2) (length row) h, ne_eqb (get_or row (p + 1) 0) 0 e)
-
-  pub filled_none : (w : ℕ) → (w ≡ 0 → ⊥) → false ≡ (eqb w 0 && not (eqb (get_or row (p + 1) 0) 0))
-  filled_none w h = rw (ne_eqb w 0 h)
-
-  pub past-none : (w : ℕ) → w ≡ 0 → length row < p + 2 → false ≡ (eqb w 0 && not (eqb (get_or row (p + 1) 0) 0))
-  past-none w h l = rw (eq-eqb w 0 h, past_end row (p + 1) (omega arith))
-
-  pub flag-none : (w : ℕ) → w ≡ 0 → get_or row (p + 1) 0 ≡ 0 → false ≡ (eqb w 0 && not (eqb (get_or row (p + 1) 0) 0))
-  flag-none w h e = rw (eq-eqb w 0 h, e)
-
-  pub flag-note : (w : ℕ) → w ≡ 0 → (get_or row (p + 1) 0 ≡ 0 → ⊥) → true ≡ (eqb w 0 && not (eqb (get_or row (p + 1) 0) 0))
-  flag-note w h e = rw (eq-eqb w 0 h, ne_eqb (get_or row (p + 1) 0) 0 e)
 
 -- a declaration ends in the row
 module _ (row : List ℕ) where
@@ -261,3 +231,12 @@ part-ends false row p h = (omega arith, λ k. omega arith)
 
 pub part-at : (full : Bool) {b e d : ℕ} (p : ℕ) → b ≡ pick full e (p + 1) → e ≡ d → b ≡ pick full d (p + 1)
 part-at full p x y = rw (← y) x
+
+-- what the code's loops and cases rest on
+pub ruleset decl_steps = (decls-next, decls-none)
+
+pub ruleset note_steps = (note-next, note-end)
+
+pub ruleset part_cases = (part-skipped, part-gone, part-words, part-long, part_none, part-put)
+
+pub ruleset part_steps = (store-empty, part-ends, parts-room, parts_more, parts-end, decl-in, part-at)

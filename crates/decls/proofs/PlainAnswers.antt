@@ -1,4 +1,4 @@
--- Without annotations each rewriting of quantifiers is the one on declared names that document 01 describes: forms without annotations are a
+-- Without annotations each rewriting of quantifiers is the one on declared names alone: forms without annotations are a
 -- part of all forms, and what is answered of them is what was answered before there were annotations. Assumes nothing.
 use mathlib.Core.Path.{◌≡◌, refl, ap}
 use mathlib.Core.Bool.{Bool, true, false, ◌&&◌}

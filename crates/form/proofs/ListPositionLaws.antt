@@ -1,4 +1,4 @@
--- Where a list breaks is where document 02 says: some list of the kind of at most 8,192 words begins with the words before the break, and none
+-- Where a list breaks: some list of the kind of at most 8,192 words begins with the words before the break, and none
 -- with these and the next word. Assumes nothing.
 use mathlib.Core.Path.{◌≡◌, refl, ap, ◌∙◌}
 use mathlib.Core.Bool.{Bool, true, false}

@@ -1,4 +1,4 @@
--- Where a row breaks is where document 02 says: some row of the kind within the limits begins with the words before the break, and none with
+-- Where a row breaks: some row of the kind within the limits begins with the words before the break, and none with
 -- these and the next word. Assumes nothing.
 use mathlib.Core.Path.{◌≡◌, refl, sym, ◌∙◌}
 use mathlib.Core.Bool.{Bool, true, false, ◌&&◌}

@@ -1,4 +1,4 @@
--- Where a row breaks, in document 02's own words (Paper 4). Words are viable where some acceptable row begins with them; parsing calls them a
+-- Where a row breaks, without a word of how it is found. Words are viable where some acceptable row begins with them; parsing calls them a
 -- viable prefix. The words before the break are viable, with the word at the break they are not, and an accepted row has no break before its
 -- end. Only one number is such a break (`row-break-only`, `list-break-only`), so these theorems fix it without a look at its definition. Assumes
 -- nothing.
@@ -96,7 +96,7 @@ list-within : (kind : ListKind) (row : List ℕ) → break_list kind row ≤ len
 unfolding break_list
 list-within kind row = from_start _ _ _ row
 
--- document 02's sentence, of forms and of lists
+-- what it means that a row breaks there, of forms and of lists
 pub row-breaks-at : (kind : Kind) (row : List ℕ) → BreaksAt (Viable kind) row (break_at kind row)
 row-breaks-at kind row = record { within = row_within kind row; before = row-goes-on kind row; there = λ h (v, s, f, e). clash-found (row-breaks kind row h v) e }
   where

@@ -1,5 +1,6 @@
 pub mod Decode
 pub mod Lists
 pub mod Break
+pub mod Refusal
 pub mod Answer
 pub mod Internal

@@ -14,7 +14,7 @@ use Rattle.spell.specs.Spell.{digits, decimal, spaced, bracket, spell_leaf, spel
 use Rattle.line.specs.Scan.{on_digit, turn, note, mark_words, depth_after, Scan, ended, broken, add_byte, scan, group}
 use Rattle.line.specs.declared.turn.State.{State}
 use Rattle.line.specs.declared.turn.State.TheVariants.{Opened, Spaced, Closed, Digits}
-use Rattle.line.specs.declared.turn.Mark.TheVariants.{Nothing}
+use Rattle.std.specs.Prelude.{None}
 
 -- words and bytes put before what is read later
 abbrev pub prepend : List ℕ → ℕ → Scan → Scan
@@ -39,7 +39,7 @@ pub data Ready : State → Type 0 where
   after_open : Ready Opened
   after-space : Ready Spaced
 
-no-mark : (d : ℕ) {s : State} (b : ℕ) → Ready s → note false d s b ≡ Nothing
+no-mark : (d : ℕ) {s : State} (b : ℕ) → Ready s → note false d s b ≡ None
 unfolding note
 no-mark d b after_open = refl
 no-mark d b after-space = refl
@@ -64,7 +64,7 @@ module _ (k : ℕ) where
   first-digit d r after_open h = rw (digit-turn Opened d h, no-mark (suc k) (48 + d) after_open, digit-depth (suc k) d h) (add_is [] (scan false (suc k) (Digits d) r))
   first-digit d r after-space h = rw (digit-turn Spaced d h, no-mark (suc k) (48 + d) after-space, digit-depth (suc k) d h) (add_is [] (scan false (suc k) (Digits d) r))
 
-  digit-mark : (v d : ℕ) → d < 10 → note false (suc k) (Digits v) (48 + d) ≡ Nothing
+  digit-mark : (v d : ℕ) → d < 10 → note false (suc k) (Digits v) (48 + d) ≡ None
   unfolding note
   digit-mark v d h = rw (digit-test d h)
 

@@ -1,53 +1,49 @@
 -- Reading bracket groups byte by byte. A group is '[' items ']' with single spaces between its items; an item is a decimal word or a group.
 -- Its row is its words in order; in a place list each group directly inside gives 0 where it is empty and 1 before its words otherwise.
-use Rattle.std.specs.Prelude.{Bool, ◌&&◌, List, [], ◌∷◌, ◌++◌, ℕ, zero, suc, ◌+◌, ◌-◌, ◌*◌, leb, eqb, ℤ, pos, negsuc}
+use Rattle.std.specs.Prelude.{Bool, ◌&&◌, Option, Some, None, List, [], ◌∷◌, ◌++◌, ℕ, zero, suc, ◌+◌, ◌-◌, ◌*◌, leb, eqb, ℤ, pos, negsuc}
 use Rattle.tree.specs.Form.{pick, between}
 use Rattle.line.specs.declared.turn.State.{State}
 use Rattle.line.specs.declared.turn.State.TheVariants.{Opened, Spaced, Closed, Digits}
-use Rattle.line.specs.declared.turn.Turn.{Turn}
-use Rattle.line.specs.declared.turn.Turn.TheVariants.{To, Bad}
-use Rattle.line.specs.declared.turn.Mark.{Mark}
-use Rattle.line.specs.declared.turn.Mark.TheVariants.{Word, Nothing}
 
 -- which byte may follow: a bracket or a word after '[' or ' '; a space or ']' after a word or ']'; ']' also after '['
-abbrev pub on_open : State → Turn
-on_open Opened = To Opened
-on_open Spaced = To Opened
-on_open Closed = Bad
-on_open (Digits v) = Bad
+abbrev pub on_open : State → Option State
+on_open Opened = Some Opened
+on_open Spaced = Some Opened
+on_open Closed = None
+on_open (Digits v) = None
 
-abbrev pub on_close : State → Turn
-on_close Opened = To Closed
-on_close Spaced = Bad
-on_close Closed = To Closed
-on_close (Digits v) = To Closed
+abbrev pub on_close : State → Option State
+on_close Opened = Some Closed
+on_close Spaced = None
+on_close Closed = Some Closed
+on_close (Digits v) = Some Closed
 
-abbrev pub on_space : State → Turn
-on_space Opened = Bad
-on_space Spaced = Bad
-on_space Closed = To Spaced
-on_space (Digits v) = To Spaced
+abbrev pub on_space : State → Option State
+on_space Opened = None
+on_space Spaced = None
+on_space Closed = Some Spaced
+on_space (Digits v) = Some Spaced
 
 -- a word has no leading zero, and is below 2 ^ 32
-unfoldable pub on_digit : State → ℕ → Turn
-on_digit Opened d = To (Digits d)
-on_digit Spaced d = To (Digits d)
-on_digit Closed d = Bad
-on_digit (Digits v) d = pick (leb 1 v && leb (v * 10 + d) 4294967295) (To (Digits (v * 10 + d))) Bad
+unfoldable pub on_digit : State → ℕ → Option State
+on_digit Opened d = Some (Digits d)
+on_digit Spaced d = Some (Digits d)
+on_digit Closed d = None
+on_digit (Digits v) d = pick (leb 1 v && leb (v * 10 + d) 4294967295) (Some (Digits (v * 10 + d))) None
 
-unfoldable pub turn : State → ℕ → Turn
-turn s b = pick (eqb b 91) (on_open s) (pick (eqb b 93) (on_close s) (pick (eqb b 32) (on_space s) (pick (between 48 57 b) (on_digit s (b - 48)) Bad)))
+unfoldable pub turn : State → ℕ → Option State
+turn s b = pick (eqb b 91) (on_open s) (pick (eqb b 93) (on_close s) (pick (eqb b 32) (on_space s) (pick (between 48 57 b) (on_digit s (b - 48)) None)))
 
 -- the word that the byte b ends, or, as the first byte inside a place's bracket, gives
-unfoldable pub note : Bool → ℕ → State → ℕ → Mark
-note places d Opened b = pick (places && eqb d 2) (Word (pick (eqb b 93) 0 1)) Nothing
-note places d Spaced b = Nothing
-note places d Closed b = Nothing
-note places d (Digits v) b = pick (between 48 57 b) Nothing (Word v)
+unfoldable pub note : Bool → ℕ → State → ℕ → Option ℕ
+note places d Opened b = pick (places && eqb d 2) (Some (pick (eqb b 93) 0 1)) None
+note places d Spaced b = None
+note places d Closed b = None
+note places d (Digits v) b = pick (between 48 57 b) None (Some v)
 
-unfoldable pub mark_words : Mark → List ℕ
-mark_words (Word w) = w ∷ []
-mark_words Nothing = []
+unfoldable pub mark_words : Option ℕ → List ℕ
+mark_words (Some w) = w ∷ []
+mark_words None = []
 
 unfoldable pub depth_after : ℕ → ℕ → ℕ
 depth_after d b = pick (eqb b 91) (d + 1) (pick (eqb b 93) (d - 1) d)
@@ -61,10 +57,10 @@ unfoldable pub add_byte : List ℕ → Scan → Scan
 add_byte w (ended ws k) = ended (w ++ ws) (suc k)
 add_byte w (broken ws) = broken (w ++ ws)
 
-abbrev pub moved : Turn → List ℕ → ℕ → (State → Scan) → Scan
-moved Bad ws d k = broken []
-moved (To s) ws zero k = ended ws 1
-moved (To s) ws (suc d) k = add_byte ws (k s)
+abbrev pub moved : Option State → List ℕ → ℕ → (State → Scan) → Scan
+moved None ws d k = broken []
+moved (Some s) ws zero k = ended ws 1
+moved (Some s) ws (suc d) k = add_byte ws (k s)
 
 -- inside so many open brackets
 unfoldable pub scan : Bool → ℕ → State → List ℕ → Scan
@@ -95,9 +91,9 @@ finished Opened = none
 finished Spaced = none
 finished Closed = none
 
-abbrev pub turned : Turn → (State → Decimal) → Decimal
-turned Bad k = none
-turned (To s) k = add_digit (k s)
+abbrev pub turned : Option State → (State → Decimal) → Decimal
+turned None k = none
+turned (Some s) k = add_digit (k s)
 
 unfoldable pub number : State → List ℕ → Decimal
 number s [] = finished s

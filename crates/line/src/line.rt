@@ -5,9 +5,9 @@ ghost use Rattle.line.specs.Line.{last_group, form_arg, next_arg, offset_args, l
 ghost use Rattle.spell.specs.Put.{put};
 ghost use Rattle.line.specs.Internal.Places.{Grouped, FormRead};
 
-use crate::group::{Group, read_group};
-use crate::head::{Start, read_head};
-use crate::number::{Offset, read_offset};
+use crate::group::read_group;
+use crate::head::read_head;
+use crate::number::read_offset;
 use rules::command::{Args, Command, args_of};
 
 // A group of the line: where it starts and ends, and the number of its words.
@@ -27,91 +27,61 @@ pub struct Parts {
     pub form: Part,
 }
 
-#[derive(Clone, Copy)]
-pub enum Line {
-    Read(Parts),
-    Misspelled,
-}
+// Where the line has no such part, or none that is read yet.
+const NONE: Part = Part {
+    start: 0,
+    end: 0,
+    count: 0,
+};
 
 // The group at `at`, with the line's last bracket after it.
-fn last_group(line: &[u8], row: &mut [u32], at: usize) -> Group
-    ensures { Grouped at 0 (last_group (drop at line.now)) row.old row.new result }
+fn last_group(line: &[u8], row: &mut [u32], at: usize) -> Option<Part>
+    ensures { Grouped at at 0 (last_group (drop at line.now)) row.old row.new result }
 {
-    let Group::End(p, n) = read_group(line, row, at, false) else {
-        return Group::Misspelled;
-    };
-    if line.len() <= p {
-        return Group::Misspelled;
+    let part = read_group(line, row, at, false)?;
+    if line.len() <= part.end {
+        return None;
     }
-    if line[p] != b']' {
-        return Group::Misspelled;
+    if line[part.end] != b']' || line.len() != part.end + 1 {
+        return None;
     }
-    if line.len() != p + 1 {
-        return Group::Misspelled;
-    }
-    Group::End(p, n)
+    Some(part)
 }
 
-// The form, as the last argument.
-fn read_form(
-    line: &[u8],
-    form: &mut [u32],
-    at: usize,
-    command: Command,
-    offset: i32,
-    list: Part,
-) -> Line
-    ensures { FormRead (form_arg command offset list at line.now) form.old form.new result }
+// The form, as the last argument, after the parts that are read already.
+fn read_form(line: &[u8], form: &mut [u32], at: usize, parts: Parts) -> Option<Parts>
+    ensures { FormRead (form_arg parts.command parts.offset parts.list at line.now) form.old form.new result }
 {
-    let Group::End(p, n) = last_group(line, form, at) else {
-        return Line::Misspelled;
-    };
-    let part = Part {
-        start: at,
-        end: p,
-        count: n,
-    };
-    Line::Read(Parts {
-        command,
-        offset,
-        list,
-        form: part,
-    })
+    let mut whole = parts;
+    whole.form = last_group(line, form, at)?;
+    Some(whole)
 }
 
 // A space, and the form.
-fn read_next(
-    line: &[u8],
-    form: &mut [u32],
-    at: usize,
-    command: Command,
-    offset: i32,
-    list: Part,
-) -> Line
-    ensures { FormRead (next_arg command offset list at line.now) form.old form.new result }
+fn read_next(line: &[u8], form: &mut [u32], at: usize, parts: Parts) -> Option<Parts>
+    ensures { FormRead (next_arg parts.command parts.offset parts.list at line.now) form.old form.new result }
 {
     if line.len() <= at {
-        return Line::Misspelled;
+        return None;
     }
     if line[at] != b' ' {
-        return Line::Misspelled;
+        return None;
     }
-    read_form(line, form, at + 1, command, offset, list)
+    read_form(line, form, at + 1, parts)
 }
 
 // An offset, a space, and the form.
-fn read_signed(line: &[u8], form: &mut [u32], at: usize, command: Command) -> Line
+fn read_signed(line: &[u8], form: &mut [u32], at: usize, command: Command) -> Option<Parts>
     ensures { FormRead (offset_args command at line.now) form.old form.new result }
 {
-    let Offset::Is(z, p) = read_offset(line, at) else {
-        return Line::Misspelled;
+    let (offset, end) = read_offset(line, at)?;
+    let parts = Parts {
+        command,
+        offset,
+        list: NONE,
+        form: NONE,
     };
-    let none = Part {
-        start: 0,
-        end: 0,
-        count: 0,
-    };
-    read_next(line, form, p, command, z, none)
+    read_next(line, form, end, parts)
 }
 
 // A list, a space, and the form.
@@ -122,45 +92,45 @@ fn read_listed(
     at: usize,
     command: Command,
     places: bool,
-) -> Line
+) -> Option<Parts>
     ensures form_read { FormRead (list_args command places at line.now) form.old form.new result }
     ensures list_after { list.new ≡ put list.old 0 (scan_words (group places (drop at line.now))) }
 {
-    let Group::End(p, n) = read_group(line, list, at, places) else {
-        return Line::Misspelled;
+    let part = read_group(line, list, at, places)?;
+    let parts = Parts {
+        command,
+        offset: 0,
+        list: part,
+        form: NONE,
     };
-    let part = Part {
-        start: at,
-        end: p,
-        count: n,
-    };
-    read_next(line, form, p, command, 0, part)
+    read_next(line, form, part.end, parts)
 }
 
 // The command of a line. The words of its list and of its form are stored at the front of the two rows; words past the end of a row
 // are counted only, and where the line is misspelled the words before the break are stored.
-pub fn read_line(line: &[u8], list: &mut [u32], form: &mut [u32]) -> Line
+pub fn read_line(line: &[u8], list: &mut [u32], form: &mut [u32]) -> Option<Parts>
     ensures value { result ≡ line_of (read_line line.now) }
     ensures list_after { list.new ≡ put list.old 0 (list_row line.now) }
     ensures form_after { form.new ≡ put form.old 0 (form_row (read_line line.now)) }
 {
     if 65535 < line.len() {
-        return Line::Misspelled;
+        return None;
     }
-    let Start::At(command, at) = read_head(line) else {
-        return Line::Misspelled;
-    };
-    let none = Part {
-        start: 0,
-        end: 0,
-        count: 0,
-    };
-    let args = args_of(command);
-    match args {
-        Args::Nothing => read_form(line, form, at, command, 0, none),
+    let start = read_head(line)?;
+    let command = start.command;
+    let at = start.at;
+    match args_of(command) {
+        Args::Nothing => {
+            let parts = Parts {
+                command,
+                offset: 0,
+                list: NONE,
+                form: NONE,
+            };
+            read_form(line, form, at, parts)
+        }
         Args::Offset => read_signed(line, form, at, command),
-        Args::Names => read_listed(line, list, form, at, command, false),
-        Args::Pairs => read_listed(line, list, form, at, command, false),
+        Args::Names | Args::Pairs => read_listed(line, list, form, at, command, false),
         Args::Places => read_listed(line, list, form, at, command, true),
     }
 }

@@ -12,135 +12,98 @@ pub enum State {
     Digits(u32),
 }
 
-#[derive(Clone, Copy)]
-pub enum Turn {
-    To(State),
-    Bad,
-}
-
-#[derive(Clone, Copy)]
-pub enum Mark {
-    Word(u32),
-    Nothing,
-}
-
-fn after_open(state: State) -> Turn
+fn after_open(state: State) -> Option<State>
     ensures { result ≡ on_open state }
 {
     match state {
-        State::Opened => Turn::To(State::Opened),
-        State::Spaced => Turn::To(State::Opened),
-        State::Closed => Turn::Bad,
-        State::Digits(_) => Turn::Bad,
+        State::Opened | State::Spaced => Some(State::Opened),
+        State::Closed | State::Digits(_) => None,
     }
 }
 
-fn after_close(state: State) -> Turn
+fn after_close(state: State) -> Option<State>
     ensures { result ≡ on_close state }
 {
     match state {
-        State::Opened => Turn::To(State::Closed),
-        State::Spaced => Turn::Bad,
-        State::Closed => Turn::To(State::Closed),
-        State::Digits(_) => Turn::To(State::Closed),
+        State::Spaced => None,
+        State::Opened | State::Closed | State::Digits(_) => Some(State::Closed),
     }
 }
 
-fn after_space(state: State) -> Turn
+fn after_space(state: State) -> Option<State>
     ensures { result ≡ on_space state }
 {
     match state {
-        State::Opened => Turn::Bad,
-        State::Spaced => Turn::Bad,
-        State::Closed => Turn::To(State::Spaced),
-        State::Digits(_) => Turn::To(State::Spaced),
+        State::Opened | State::Spaced => None,
+        State::Closed | State::Digits(_) => Some(State::Spaced),
     }
 }
 
 // One digit more of the word v.
-fn longer(v: u32, digit: u32) -> Turn
+fn longer(v: u32, digit: u32) -> Option<State>
     requires { digit < 10 }
     ensures { result ≡ on_digit (State.Digits v) digit }
 {
     if v == 0 {
-        return Turn::Bad;
+        return None;
     }
-    let w = (v as u64) * 10 + (digit as u64);
-    if 4294967295 < w {
-        return Turn::Bad;
-    }
-    Turn::To(State::Digits(w as u32))
+    let w = v.checked_mul(10)?.checked_add(digit)?;
+    Some(State::Digits(w))
 }
 
-pub(crate) fn after_digit(state: State, digit: u32) -> Turn
+pub(crate) fn after_digit(state: State, digit: u32) -> Option<State>
     requires { digit < 10 }
     ensures { result ≡ on_digit state digit }
 {
     match state {
-        State::Opened => Turn::To(State::Digits(digit)),
-        State::Spaced => Turn::To(State::Digits(digit)),
-        State::Closed => Turn::Bad,
+        State::Opened | State::Spaced => Some(State::Digits(digit)),
+        State::Closed => None,
         State::Digits(v) => longer(v, digit),
     }
 }
 
-pub(crate) fn next(state: State, byte: u8) -> Turn
+pub(crate) fn next(state: State, byte: u8) -> Option<State>
     ensures { result ≡ turn state byte }
 {
-    if byte < b'0' {
-        if byte == b' ' {
-            return after_space(state);
-        }
-        return Turn::Bad;
+    match byte {
+        b' ' => after_space(state),
+        b'0'..=b'9' => after_digit(state, u32::from(byte - b'0')),
+        b'[' => after_open(state),
+        b']' => after_close(state),
+        _ => None,
     }
-    if byte <= b'9' {
-        return after_digit(state, (byte - b'0') as u32);
-    }
-    if byte == b'[' {
-        return after_open(state);
-    }
-    if byte == b']' {
-        return after_close(state);
-    }
-    Turn::Bad
 }
 
 // What the first byte inside a place's bracket gives.
-fn place_mark(places: bool, depth: usize, byte: u8) -> Mark
+fn place_mark(places: bool, depth: usize, byte: u8) -> Option<u32>
     ensures { result ≡ note places depth State.Opened byte }
 {
-    if !places {
-        return Mark::Nothing;
-    }
-    if depth != 2 {
-        return Mark::Nothing;
+    if !places || depth != 2 {
+        return None;
     }
     if byte == b']' {
-        return Mark::Word(0);
+        return Some(0);
     }
-    Mark::Word(1)
+    Some(1)
 }
 
 // The word that ends where a byte is no digit.
-fn word_mark(v: u32, byte: u8) -> Mark
+fn word_mark(v: u32, byte: u8) -> Option<u32>
     ensures { result ≡ note true 0 (State.Digits v) byte }
 {
-    if byte < b'0' {
-        return Mark::Word(v);
+    if byte.is_ascii_digit() {
+        return None;
     }
-    if b'9' < byte {
-        return Mark::Word(v);
-    }
-    Mark::Nothing
+    Some(v)
 }
 
-pub(crate) fn noted(places: bool, depth: usize, state: State, byte: u8) -> Mark
+// The word that the byte ends or gives.
+pub(crate) fn noted(places: bool, depth: usize, state: State, byte: u8) -> Option<u32>
     ensures { result ≡ note places depth state byte }
 {
     match state {
         State::Opened => place_mark(places, depth, byte),
-        State::Spaced => Mark::Nothing,
-        State::Closed => Mark::Nothing,
+        State::Spaced | State::Closed => None,
         State::Digits(v) => word_mark(v, byte),
     }
 }
@@ -149,21 +112,19 @@ pub(crate) fn depth_after(depth: usize, byte: u8) -> usize
     requires { (0 < depth) × (depth + 1 < 2 ^ 64) }
     ensures { result ≡ depth_after depth byte }
 {
-    if byte == b'[' {
-        return depth + 1;
+    match byte {
+        b'[' => depth + 1,
+        b']' => depth - 1,
+        _ => depth,
     }
-    if byte == b']' {
-        return depth - 1;
-    }
-    depth
 }
 
 // The word of a mark, at n of the row. Nothing is written past its end.
-pub(crate) fn put_mark(row: &mut [u32], n: usize, mark: Mark) -> usize
+pub(crate) fn put_mark(row: &mut [u32], n: usize, mark: Option<u32>) -> usize
     requires { n + 1 < 2 ^ 64 }
     ensures { Wrote n (mark_words mark) row.old row.new result }
 {
-    let Mark::Word(w) = mark else {
+    let Some(w) = mark else {
         return n;
     };
     if row.len() <= n {

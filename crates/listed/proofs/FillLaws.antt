@@ -14,7 +14,7 @@ use Rattle.tree.specs.Tag.{Sort, pred}
 use Rattle.form.specs.Break.{break_at, break_list}
 use Rattle.form.specs.Decode.{row_form, missing, form_of}
 use Rattle.form.specs.Lists.{Place, kept, filled, Entry, entry, word_of, place_of, list_of}
-use Rattle.form.specs.Answer.{Outcome, refusal, needs, is_one, finish, stop}
+use Rattle.form.specs.Answer.{Outcome, stop, needs, is_one, finish}
 use Rattle.reader.specs.Internal.Reads.{mark, mark_entries, table_of, empty_table, tabled, Listing}
 use Rattle.form.specs.declared.answer.Kind.TheVariants.{Predicate}
 use Rattle.form.specs.declared.answer.ListKind.TheVariants.{Places}
@@ -45,6 +45,7 @@ use Rattle.listed.proofs.CallLaws.{call-small, call_long, call-missing, call-lis
 use Rattle.replace.proofs.FillTree.{word_for, fill-tree}
 use Rattle.replace.proofs.QuantLaws.{pred-sort, form-ok}
 use Rattle.replace.proofs.ReadyLaws.{ready-is}
+use Rattle.form.specs.declared.answer.Refusal.TheVariants.{TooLong, NotQuantified, TooManyPlaces, WorkTooShort, Broken}
 
 -- what the code writes under a head
 pub plain-placed : (sure : Bool) (hd list lm row marks : List ℕ) (t : Table) (room : ℕ) → Ready (fill_plan t) list lm → hd ≡ head_words (get_or row 0 0) (kept_words (take t.n t.words) (drop 2 row))
@@ -125,29 +126,29 @@ module _ (m : ℕ) (f : Form) (d : ℕ) (o : Ok (suc d) pred f) (deep : d + m �
 
 -- the whole call
 abbrev fill_go : ℕ → Sort → Form → List Entry → Outcome
-fill_go room s f es = of_quantified (λ t ns b. needs 5 (leb (length es) (length ns)) (finish pred room (fill t ns (places_for (length ns) es) b))) 3 (quantified f)
+fill_go room s f es = of_quantified (λ t ns b. needs TooManyPlaces (leb (length es) (length ns)) (finish pred room (fill t ns (places_for (length ns) es) b))) NotQuantified (quantified f)
 
 module _ (list row : List ℕ) (wl room : ℕ) where
-  pub fill-small : wl < 16384 → fill_outcome list row wl room ≡ refusal 15
+  pub fill-small : wl < 16384 → fill_outcome list row wl room ≡ stop WorkTooShort
   unfolding fill_outcome
   fill-small h = call-small Predicate Places (fill_go room) list row wl h
 
   module _ (enough : 16384 ≤ wl) where
-    pub fill-long : 8192 < length row → fill_outcome list row wl room ≡ refusal 1
+    pub fill-long : 8192 < length row → fill_outcome list row wl room ≡ stop TooLong
     unfolding fill_outcome
     fill-long h = call_long Predicate Places (fill_go room) list row wl enough h
 
-    pub fill-missing : length row ≤ 8192 → form_of Predicate row ≡ missing → fill_outcome list row wl room ≡ stop 2 (break_at Predicate row)
+    pub fill-missing : length row ≤ 8192 → form_of Predicate row ≡ missing → fill_outcome list row wl room ≡ stop (Broken (break_at Predicate row))
     unfolding fill_outcome
     fill-missing h q = call-missing Predicate Places (fill_go room) list row wl enough h q
 
-    pub fill-list-long : length row ≤ 8192 → 8192 < length list → fill_outcome list row wl room ≡ pick (has_form (form_of Predicate row)) (refusal 1) (stop 2 (break_at Predicate row))
+    pub fill-list-long : length row ≤ 8192 → 8192 < length list → fill_outcome list row wl room ≡ pick (has_form (form_of Predicate row)) (stop TooLong) (stop (Broken (break_at Predicate row)))
     unfolding fill_outcome
     fill-list-long h l = call-list-long Predicate Places (fill_go room) list row wl enough h l
 
     module _ (m : List ℕ) (x : Checked Predicate row m (length row)) where
       module _ (short : length list ≤ 8192) where
-        pub fill-no-list : list_of Places list ≡ absent → fill_outcome list row wl room ≡ stop 2 (break_list Places list)
+        pub fill-no-list : list_of Places list ≡ absent → fill_outcome list row wl room ≡ stop (Broken (break_list Places list))
         unfolding fill_outcome
         fill-no-list o = call-no-list Predicate Places (fill_go room) list row wl enough m x short o
 
@@ -156,24 +157,24 @@ module _ (list row : List ℕ) (wl room : ℕ) where
         fill-read es o = call-read Predicate Places (fill_go room) list row wl enough m x short es o
 
         fill-counted : (es : List Entry) → list_of Places list ≡ some es → (q : Quant 63 x.form)
-            → fill_outcome list row wl room ≡ needs 5 (leb (length es) (length q.decls)) (finish pred room (fill q.op q.decls (places_for (length q.decls) es) q.body))
+            → fill_outcome list row wl room ≡ needs TooManyPlaces (leb (length es) (length q.decls)) (finish pred room (fill q.op q.decls (places_for (length q.decls) es) q.body))
         fill-counted es o q = fill-read es o ∙ rw q.is
 
         module _ (a b : List ℕ) (t : Table) (ok : Bool) (h : Listing (list_of Places list) empty_table t a b ok) (y : ok ≡ true) (n : ℕ) (e : n ≡ count_in row) where
-          pub fill-other : n ≡ 0 → fill_outcome list row wl room ≡ refusal 3
+          pub fill-other : n ≡ 0 → fill_outcome list row wl room ≡ stop NotQuantified
           fill-other z =
               let (es, o, u, k) = listing-yes _ _ _ _ _ _ h y in
               go es o
             where
-              go : (es : List Entry) → list_of Places list ≡ some es → fill_outcome list row wl room ≡ refusal 3
+              go : (es : List Entry) → list_of Places list ≡ some es → fill_outcome list row wl room ≡ stop NotQuantified
               go es o = fill-read es o ∙ rw (no-quant row m (length row) x n e z)
 
-          pub fill_more : (n ≡ 0 → ⊥) → n < t.n → fill_outcome list row wl room ≡ refusal 5
+          pub fill_more : (n ≡ 0 → ⊥) → n < t.n → fill_outcome list row wl room ≡ stop TooManyPlaces
           fill_more z c =
               let (es, o, u, k) = listing-yes _ _ _ _ _ _ h y in
               go es o u
             where
-              go : (es : List Entry) → list_of Places list ≡ some es → t ≡ tabled es 0 empty_table → fill_outcome list row wl room ≡ refusal 5
+              go : (es : List Entry) → list_of Places list ≡ some es → t ≡ tabled es 0 empty_table → fill_outcome list row wl room ≡ stop TooManyPlaces
               go es o u =
                   let q = the-quant row m (length row) x n e z in
                   let r = rows-n es t u in
@@ -260,7 +261,7 @@ module _ (list : List ℕ) (t : Table) (work : List ℕ) (n : ℕ) (y : Placing 
         fill-counted list row wl room enough (take (length row) work) x short y.es y.is q ∙ rw (← decls-count, le-leb (length y.es) n h)
 
     -- the depth of the expressions is measured by the entries alone
-    module _ (d : ℕ) (left : LeavesBy t.starts t.ends t.n list d) (b : Bool) (shallow : b ≡ true → Ok d x.sort x.form) where
+    module _ (d : ℕ) (left : LeavesBy t list d) (b : Bool) (shallow : b ≡ true → Ok d x.sort x.form) where
       abbrev result : Form
       result = fill q.op q.decls ps q.body
 

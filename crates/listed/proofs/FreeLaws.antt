@@ -14,7 +14,7 @@ use Rattle.tree.specs.Tag.{Sort, expr, pred}
 use Rattle.form.specs.Break.{break_at, break_list}
 use Rattle.form.specs.Decode.{Whole, one, not-one, found, missing, as_sort, row_form, form_of}
 use Rattle.form.specs.Lists.{Place, kept, filled, Entry, entry, word_of, place_of, list_of, distinct, good_names}
-use Rattle.form.specs.Answer.{Outcome, refusal, needs, is_one, finish, stop}
+use Rattle.form.specs.Answer.{Outcome, stop, needs, is_one, finish}
 use Rattle.reader.specs.Internal.Reads.{as_expr, mark_entries, empty_table, tabled, Listing, good_words}
 use Rattle.form.specs.declared.answer.Kind.TheVariants.{Either}
 use Rattle.form.specs.declared.answer.ListKind.TheVariants.{Pairs}
@@ -41,6 +41,7 @@ use Rattle.replace.proofs.BuildLaws.{kind_of, emit-sure}
 use Rattle.replace.proofs.InsideLaws.{some-deep, free-fits}
 use Rattle.replace.proofs.SmallLaws.{LeavesBy, listed_small}
 use Rattle.listed.proofs.CallLaws.{call-small, call_long, call-missing, call-list-long, call-no-list, call-read}
+use Rattle.form.specs.declared.answer.Refusal.TheVariants.{TooLong, BadNames, WorkTooShort, Broken}
 
 -- the list is searched as the words are
 seek-step : (n m : ℕ) (p : Place) (es : List Entry) (b : Bool) → seek es m ≡ or_name m (get_or (map place_of es) (spot m (map word_of es)) kept)
@@ -142,29 +143,29 @@ kind-sort row s f q b e = go b (row_form (sort_for b) row) (sym (form-of Either 
 
 -- the whole call
 abbrev free_go : ℕ → Sort → Form → List Entry → Outcome
-free_go room s f es = needs 4 (good_names (map word_of es)) (finish s room (substitute es f))
+free_go room s f es = needs BadNames (good_names (map word_of es)) (finish s room (substitute es f))
 
 module _ (list row : List ℕ) (wl room : ℕ) where
-  pub free-small : wl < 16384 → free_outcome list row wl room ≡ refusal 15
+  pub free-small : wl < 16384 → free_outcome list row wl room ≡ stop WorkTooShort
   unfolding free_outcome
   free-small h = call-small Either Pairs (free_go room) list row wl h
 
   module _ (enough : 16384 ≤ wl) where
-    pub free-long : 8192 < length row → free_outcome list row wl room ≡ refusal 1
+    pub free-long : 8192 < length row → free_outcome list row wl room ≡ stop TooLong
     unfolding free_outcome
     free-long h = call_long Either Pairs (free_go room) list row wl enough h
 
-    pub free-missing : length row ≤ 8192 → form_of Either row ≡ missing → free_outcome list row wl room ≡ stop 2 (break_at Either row)
+    pub free-missing : length row ≤ 8192 → form_of Either row ≡ missing → free_outcome list row wl room ≡ stop (Broken (break_at Either row))
     unfolding free_outcome
     free-missing h q = call-missing Either Pairs (free_go room) list row wl enough h q
 
-    pub free-list-long : length row ≤ 8192 → 8192 < length list → free_outcome list row wl room ≡ pick (has_form (form_of Either row)) (refusal 1) (stop 2 (break_at Either row))
+    pub free-list-long : length row ≤ 8192 → 8192 < length list → free_outcome list row wl room ≡ pick (has_form (form_of Either row)) (stop TooLong) (stop (Broken (break_at Either row)))
     unfolding free_outcome
     free-list-long h l = call-list-long Either Pairs (free_go room) list row wl enough h l
 
     module _ (m : List ℕ) (x : Checked Either row m (length row)) where
       module _ (short : length list ≤ 8192) where
-        pub free-no-list : list_of Pairs list ≡ absent → free_outcome list row wl room ≡ stop 2 (break_list Pairs list)
+        pub free-no-list : list_of Pairs list ≡ absent → free_outcome list row wl room ≡ stop (Broken (break_list Pairs list))
         unfolding free_outcome
         free-no-list o = call-no-list Either Pairs (free_go room) list row wl enough m x short o
 
@@ -173,12 +174,12 @@ module _ (list row : List ℕ) (wl room : ℕ) where
         free-named es o = call-read Either Pairs (free_go room) list row wl enough m x short es o
 
         module _ (a b : List ℕ) (t : Table) (ok : Bool) (h : Listing (list_of Pairs list) empty_table t a b ok) (y : ok ≡ true) where
-          pub free-bad : (g : Bool) → g ≡ good_words t.n t.words → g ≡ false → free_outcome list row wl room ≡ refusal 4
+          pub free-bad : (g : Bool) → g ≡ good_words t.n t.words → g ≡ false → free_outcome list row wl room ≡ stop BadNames
           free-bad g e n =
               let (es, o, u, k) = listing-yes _ _ _ _ _ _ h y in
               go es o u
             where
-              go : (es : List Entry) → list_of Pairs list ≡ some es → t ≡ tabled es 0 empty_table → free_outcome list row wl room ≡ refusal 4
+              go : (es : List Entry) → list_of Pairs list ≡ some es → t ≡ tabled es 0 empty_table → free_outcome list row wl room ≡ stop BadNames
               go es o u = free-named es o ∙ rw (← good-listed es t u, ← e, n)
 
 few-names-of : (es : List Entry) → good_names (map word_of es) ≡ true → length es ≤ 32
@@ -230,7 +231,7 @@ module _ (list : List ℕ) (t : Table) (work : List ℕ) (y : Pairing list t wor
     free-said : free_outcome list row wl room ≡ finish x.sort room (substitute y.es x.form)
     free-said = free-named list row wl room enough (take (length row) work) x short y.es y.is ∙ rw y.good
 
-    pub free-row : (d : ℕ) → LeavesBy t.starts t.ends t.n list d → (b : Bool) → (b ≡ true → Ok d x.sort x.form) → replaced b (kind_for (as_expr Either row)) [] (free_plan t) list (drop 8192 work) row work room ≡ free_outcome list row wl room
+    pub free-row : (d : ℕ) → LeavesBy t list d → (b : Bool) → (b ≡ true → Ok d x.sort x.form) → replaced b (kind_for (as_expr Either row)) [] (free_plan t) list (drop 8192 work) row work room ≡ free_outcome list row wl room
     free-row d left b shallow = free-built b (λ y l. within (shallow y) l) ∙ sym free-said
       where
         within : Ok d x.sort x.form → length (encode (substitute y.es x.form)) ≤ 8192 → is_one (row_form x.sort (encode (substitute y.es x.form))) ≡ true

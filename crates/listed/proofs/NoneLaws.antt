@@ -19,6 +19,7 @@ use Rattle.rules.specs.Fill.{Decl, quantifier, quantified, around, quantify, fil
 use Rattle.rules.proofs.FrontLaws.{fill-kept}
 use Rattle.shift.proofs.AroundLaws.{Quant, quant-of}
 use Rattle.replace.proofs.QuantLaws.{pred-sort}
+use Rattle.form.specs.declared.answer.Refusal.TheVariants.{OutputTooShort}
 
 quantify-some : (t : ℕ) (ds : List Decl) (b : Form) → 1 ≤ length ds → quantify t ds b ≡ around t ds b
 quantify-some t [] b h = absurd (omega arith)
@@ -32,12 +33,12 @@ all-missing f y =
 
 -- of a row that was read
 module _ (row : List ℕ) (s : Sort) (f : Form) (e : form_of Predicate row ≡ found s f) (work room : ℕ) (w : 16384 ≤ work) where
-  row_back : (y : Quant 63 f) → length row ≤ 8192 → row ≡ encode f → row_form pred row ≡ one f → fill_outcome [] row work room ≡ needs 14 (leb (length row) room) (answer row)
+  row_back : (y : Quant 63 f) → length row ≤ 8192 → row ≡ encode f → row_form pred row ≡ one f → fill_outcome [] row work room ≡ needs OutputTooShort (leb (length row) room) (answer row)
   unfolding fill_outcome finish
   row_back y l r x =
       rw (le-leb 16384 work w, le-leb (length row) 8192 l, e, list-nil Places, y.is, le-leb 0 (length y.decls) (omega arith), all-missing f y, ← r, x)
 
-  pub fill_none : (t : ℕ) (ns : List Decl) (b : Form) → quantified f ≡ quantifier t ns b → fill_outcome [] row work room ≡ needs 14 (leb (length row) room) (answer row)
+  pub fill_none : (t : ℕ) (ns : List Decl) (b : Form) → quantified f ≡ quantifier t ns b → fill_outcome [] row work room ≡ needs OutputTooShort (leb (length row) room) (answer row)
   fill_none t ns b q =
       let (l, r, o) = found-row row s f Predicate e in
       let p = pred-sort row s f e in

@@ -5,38 +5,26 @@ ghost use Rattle.tree.specs.Tag.{expr, pred};
 ghost use Rattle.form.specs.Break.{break_at};
 ghost use Rattle.form.specs.Decode.{decode, form_of};
 ghost use Rattle.form.specs.Lists.{list_of};
-ghost use Rattle.reader.specs.Internal.Reads.{Told, Marked, table_of, Listing};
-ghost use Rattle.form.specs.declared.answer.Answer.TheVariants.{No};
+ghost use Rattle.reader.specs.Internal.Reads.{Told, Marked, emptied, Listing};
+ghost use Rattle.form.specs.declared.answer.Refusal.TheVariants.{TooLong, Broken};
 ghost use Rattle.shift.specs.Internal.Items.{store};
 ghost use Rattle.replace.specs.Internal.Pieces.{has_form};
 ghost use Rattle.listed.specs.Internal.Listed.{shallow_form, reading_of};
 
 use broken::position::broken_at;
-use form::answer::{Answer, Kind, ListKind};
-use form::head::Step;
-use reader::check::{is_expr, is_of_kind};
-use reader::lists::Listed;
+use form::answer::{Kind, ListKind, Refusal};
+use reader::check::{is_expr, is_form, is_of_kind, mark_form};
+use reader::lists::{Table, mark_list};
 use reader::reader::{expr_at, pred_at};
-
-// A row that is a form, and whether it is at most as deep as was asked first; or one that is none.
-#[derive(Clone, Copy)]
-pub enum Reading {
-    Taken(bool),
-    Refused,
-}
 
 fn clear(work: &mut [u32], at: usize, n: usize)
     requires { at + n ≤ length work.old }
     ensures { work.new ≡ store work.old at (replicate n 0) }
 {
-    let mut i = 0;
-    while i < n {
-        work[at + i] = 0;
-        i += 1;
-    }
+    work[at..at + n].fill(0);
 }
 
-fn shallow_form(row: &[u32], is_expr: bool, depth: u32, marks: &mut [u32]) -> Step
+fn shallow_form(row: &[u32], is_expr: bool, depth: u32, marks: &mut [u32]) -> Option<usize>
     requires { depth ≤ 64 }
     ensures { Told 0 0 (decode depth (pick is_expr expr pred) row.now) marks.old marks.new result }
 {
@@ -53,17 +41,14 @@ fn mark_shallow(row: &[u32], kind: Kind, depth: u32, marks: &mut [u32]) -> bool
     ensures value { result ≡ has_form (shallow_form depth kind row.now) }
     ensures marked { Marked (shallow_form depth kind row.now) marks.old marks.new }
 {
-    let Step::End(p) = shallow_form(row, is_expr(row, kind), depth, marks) else {
+    let Some(p) = shallow_form(row, is_expr(row, kind), depth, marks) else {
         return false;
     };
-    if p == row.len() {
-        return is_of_kind(row, kind);
-    }
-    false
+    p == row.len() && is_of_kind(row, kind)
 }
 
-// The check of the row, which marks it at the start of the marks: first as a form at most so deep.
-fn mark_front(row: &[u32], kind: Kind, depth: u32, marks: &mut [u32]) -> Reading
+// Whether the row, if it is a form of the kind, is at most so deep; None where it is no such form. A form is marked at the start of the marks.
+fn mark_front(row: &[u32], kind: Kind, depth: u32, marks: &mut [u32]) -> Option<bool>
     requires depth_bound { depth ≤ 64 }
     requires row_in_bounds { length row.now ≤ length marks.old }
     requires row_len_bound { length row.now ≤ 8192 }
@@ -72,17 +57,17 @@ fn mark_front(row: &[u32], kind: Kind, depth: u32, marks: &mut [u32]) -> Reading
 {
     clear(marks, 0, row.len());
     if mark_shallow(row, kind, depth, marks) {
-        return Reading::Taken(true);
+        return Some(true);
     }
     clear(marks, 0, row.len());
-    if reader::check::mark_form(row, kind, marks) {
-        return Reading::Taken(false);
+    if mark_form(row, kind, marks) {
+        return Some(false);
     }
-    Reading::Refused
+    None
 }
 
 // The same in the first 8,192 words of the work row.
-pub(crate) fn mark_row(row: &[u32], kind: Kind, depth: u32, work: &mut [u32]) -> Reading
+pub(crate) fn mark_row(row: &[u32], kind: Kind, depth: u32, work: &mut [u32]) -> Option<bool>
     requires depth_bound { depth ≤ 64 }
     requires in_bounds { 8192 ≤ length work.old }
     requires row_len_bound { length row.now ≤ 8192 }
@@ -94,27 +79,26 @@ pub(crate) fn mark_row(row: &[u32], kind: Kind, depth: u32, work: &mut [u32]) ->
 }
 
 // The refusal of a list that is too long: the row's own comes first.
-pub(crate) fn refuse_list(row: &[u32], kind: Kind) -> Answer
-    ensures { result ≡ pick (has_form (form_of kind row.now)) (No 1 0) (No 2 (break_at kind row.now)) }
+pub(crate) fn list_refusal(row: &[u32], kind: Kind) -> Refusal
+    ensures { result ≡ pick (has_form (form_of kind row.now)) TooLong (Broken (break_at kind row.now)) }
 {
-    if reader::check::is_form(row, kind) {
-        return Answer::No(1, 0);
+    if is_form(row, kind) {
+        Refusal::TooLong
+    } else {
+        Refusal::Broken(broken_at(row, kind))
     }
-    Answer::No(2, broken_at(row, kind))
 }
 
-// The entries of the list, which are marked from word 8,192 of the work row on; the rows of their table are lent.
+// Whether the list's entries, which are marked from word 8,192 of the work row on, were read into the table.
 pub(crate) fn mark_entries(
     list: &[u32],
     kind: ListKind,
     work: &mut [u32],
-    words: &mut [u32; 32],
-    starts: &mut [usize; 32],
-    ends: &mut [usize; 32],
-) -> Listed
+    table: &mut Table,
+) -> bool
     requires { 8192 + length list.now ≤ length work.old }
-    ensures { Listing (list_of kind list.now) (table_of 0 words.old starts.old ends.old) (table_of result.n words.new starts.new ends.new) (replicate (length list.now) 0) (take (length list.now) (drop 8192 work.new)) result.ok }
+    ensures { Listing (list_of kind list.now) (emptied table.old) table.new (replicate (length list.now) 0) (take (length list.now) (drop 8192 work.new)) result }
 {
     clear(work, 8192, list.len());
-    reader::lists::mark_list(list, kind, &mut work[8192..], words, starts, ends)
+    mark_list(list, kind, &mut work[8192..], table)
 }

@@ -5,7 +5,7 @@ use mathlib.Core.List.{List, [], ◌∷◌, ◌++◌, append-nil, map}
 use mathlib.Core.Option.{none as absent, some}
 use Prim.Native.Nat.{ℕ, suc, ◌+◌, ◌-◌, ◌≤◌}
 use native.Mathlib.Omega.{arith}
-use lib.Dec.{leb, ltb}
+use lib.Dec.{leb}
 use lib.ListN.{length, get_or, take, drop, set, replicate, length-append, length-map}
 use lib.Seq.{drop-drop, drop_at, take_at}
 use Rattle.tree.specs.Form.{free, bound, Form, leaf, node, noted, Decls, undeclared, bare, typed, names_of, Forms, none, more, pick, count, encode, encode_decls, encode_all}
@@ -29,7 +29,8 @@ use Rattle.rules.specs.Partial.{no_places}
 use Rattle.rules.specs.Member.{offer_all, any_filled, fill_offers, member_of}
 use Rattle.places.specs.Internal.Wrote.{Wrote}
 use Rattle.places.specs.Internal.Positions.{read_all, Beside, parts_at, MarkedAt}
-use Rattle.member.specs.Internal.Member.{Shares, shares, keep_part, spot_at, share, equalities, Shared, Sharing, set_head, SetIn, BodyTold, lifted, filled_body, shallow, Shaped, well-formed, conjunction, left_parts}
+use Rattle.std.specs.Prelude.{Option as Maybe, Some, None}
+use Rattle.member.specs.Internal.Member.{Shares, shares, keep_part, spot_at, share_next, share, equalities, Shared, Sharing, set_head, SetIn, BodyTold, lifted, filled_body, shallow, Shaped, well-formed, conjunction, left_parts}
 use Rattle.member.specs.declared.member.Comprehension.{Comprehension}
 use Rattle.places.proofs.WroteLaws.{wrote-end, wrote_on, wrote-in, wrote_self, based, headed}
 use Rattle.places.proofs.PartsOk.{OkParts, equal-ok, counted-ok, parts-few}
@@ -43,6 +44,14 @@ unfolding encode
 decls-long [] = omega arith
 decls-long ((n, absent) ∷ ds) = let h = decls-long ds in omega arith
 decls-long ((n, some f) ∷ ds) = let h = decls-long ds in let l = length-append (encode f) (encode_decls (unlisted ds)) in omega arith
+
+-- where the parts of a comprehension lie
+pub record Positions (row : List ℕ) (c : Comprehension) : Type 0 where
+  pub at : 1 ≤ c.at
+  pub guard : c.at + 3 ≤ c.guard
+  pub value : c.guard ≤ c.value
+  pub within : c.value ≤ length row
+  pub few : c.n ≤ 32
 
 -- where the parts stand
 module _ {row : List ℕ} {c : Comprehension} (x : SetIn row c) where
@@ -121,8 +130,8 @@ module _ {row : List ℕ} {c : Comprehension} (x : SetIn row c) where
     pub names-count : length (take (c.guard - (c.at + 3)) (drop (c.at + 3) row)) ≡ c.n
     names-count = ap length names-part ∙ (length-map x.decls name_of ∙ sym x.number)
 
-  pub places : (1 ≤ c.at) × (c.at + 3 ≤ c.guard) × (c.guard ≤ c.value) × (c.value - c.guard ≡ gd) × (c.value ≤ length row) × (c.n ≤ 32)
-  places =
+  pub positions : Positions row c
+  positions =
       let a = x.at in
       let g = x.guard-at in
       let v = x.value-at in
@@ -130,7 +139,7 @@ module _ {row : List ℕ} {c : Comprehension} (x : SetIn row c) where
       let k = head-least in
       let m = x.most in
       let n = x.number in
-      (omega arith, omega arith, omega arith, omega arith, omega arith, omega arith)
+      record { at = omega arith; guard = omega arith; value = omega arith; within = omega arith; few = omega arith }
 
   ok_of : {d : ℕ} {f : Form} → decode d expr (encode f) ≡ got f [] → Ok d expr f
   ok_of {d} {f} e = (decode-sound d expr (encode f) f [] e).1
@@ -171,7 +180,7 @@ module _ {row : List ℕ} {c : Comprehension} (x : SetIn row c) where
     set-parts = rw (read_left, read_right) (append-nil (parts x.value x.element))
 
     pub sharing : (lm : List ℕ) (u w words : ℕ) → w ≡ 2 + gd → words ≡ 16384 → MarkedAt row lm 1 1 → length row ≤ length lm → u ≤ 32 → Sharing row lm c.value 1 c.n u w words
-    sharing lm u w words e f m l h = record { beside = rw f (set-beside w e); marked = m; short = short; long = l; few = places.5; low = h }
+    sharing lm u w words e f m l h = record { beside = rw f (set-beside w e); marked = m; short = short; long = l; few = positions.few; low = h }
 
 -- what was written of the parts
 equals-count : (u : ℕ) (qs : List (Form × Form)) → count (equalities u qs) ≡ length qs
@@ -208,30 +217,26 @@ module _ (n d : ℕ) where
   keep-ok : (p : Form × Form) (z : Shares) → Ok d expr p.0 × Ok d expr p.1 → OkParts d (left_parts z) → OkParts d (left_parts (keep_part p z))
   keep-ok p (shares ps qs) h k = (h, k)
 
-  next-ok : (p : Form × Form) (y z : Shares) → Ok d expr p.0 × Ok d expr p.1 → OkParts d (left_parts y) → OkParts d (left_parts z) → (b : Bool) → OkParts d (left_parts (pick b y (keep_part p z)))
-  next-ok p y z h k l true = k
-  next-ok p y z h k l false = keep-ok p z h l
+  next-ok : (p : Form × Form) (ps : List Place) (later : List Place → Shares) → Ok d expr p.0 × Ok d expr p.1 → ((qs : List Place) → OkParts d (left_parts (later qs))) → (x : Maybe ℕ) → OkParts d (left_parts (share_next x p ps later))
+  next-ok p ps later h k (Some j) = k (set ps j (filled p.1))
+  next-ok p ps later h k None = keep-ok p (later ps) h (k ps)
 
   pub left-ok : (rest : List (Form × Form)) (ps : List Place) → OkParts d rest → OkParts d (left_parts (share n rest ps))
   unfolding share
   left-ok [] ps h = tt
-  left-ok (p ∷ rest) ps h =
-      let j = spot_at n ps (index_of p.0) in
-      next-ok p (share n rest (set ps j (filled p.1))) (share n rest ps) h.0 (left-ok rest (set ps j (filled p.1)) h.1) (left-ok rest ps h.1) (ltb j n)
+  left-ok (p ∷ rest) ps h = next-ok p ps (λ qs. share n rest qs) h.0 (λ qs. left-ok rest qs h.1) (spot_at n ps (index_of p.0))
 
 keep-few : (p : Form × Form) (z : Shares) → length (left_parts (keep_part p z)) ≡ suc (length (left_parts z))
 keep-few p (shares ps qs) = refl
 
-next-few : (p : Form × Form) (y z : Shares) (m : ℕ) → length (left_parts y) ≤ m → length (left_parts z) ≤ m → (b : Bool) → length (left_parts (pick b y (keep_part p z))) ≤ suc m
-next-few p y z m k l true = omega arith
-next-few p y z m k l false = let e = keep-few p z in omega arith
+next-few : (p : Form × Form) (ps : List Place) (later : List Place → Shares) (m : ℕ) → ((qs : List Place) → length (left_parts (later qs)) ≤ m) → (x : Maybe ℕ) → length (left_parts (share_next x p ps later)) ≤ suc m
+next-few p ps later m k (Some j) = let h = k (set ps j (filled p.1)) in omega arith
+next-few p ps later m k None = let e = keep-few p (later ps) in let h = k ps in omega arith
 
 pub left-few : (n : ℕ) (rest : List (Form × Form)) (ps : List Place) → length (left_parts (share n rest ps)) ≤ length rest
 unfolding share
 left-few n [] ps = omega arith
-left-few n (p ∷ rest) ps =
-    let j = spot_at n ps (index_of p.0) in
-    next-few p (share n rest (set ps j (filled p.1))) (share n rest ps) (length rest) (left-few n rest (set ps j (filled p.1))) (left-few n rest ps) (ltb j n)
+left-few n (p ∷ rest) ps = next-few p ps (λ qs. share n rest qs) (length rest) (left-few n rest) (spot_at n ps (index_of p.0))
 
 -- a shift keeps the shape of a form: its marks, its length and its depth
 marks-index : (n k u i : ℕ) (z : Binding) → marks_of u (walk_index (up n) k i z) ≡ suc u ∷ 0 ∷ []

@@ -1,32 +1,51 @@
 -- The names that are kept round a body, by the words of the table. Assumes nothing.
-use mathlib.Core.Path.{◌≡◌, refl}
+use mathlib.Core.Path.{◌≡◌, refl, ◌∙◌}
 use mathlib.Core.List.{List, [], ◌∷◌, ◌++◌, append_assoc}
 use Prim.Native.Nat.{ℕ, zero, suc, ◌+◌, ◌≤◌, ◌<◌, ◌-◌}
 use native.Mathlib.Numerals.{add-one}
 use native.Mathlib.Omega.{arith}
-use borrow.Author.Tests.{eq-eqb, ne_eqb}
 use lib.ListN.{length, get_or, take, drop, set}
 use lib.Seq.{take-suc-set}
 use Rattle.form.proofs.HeadLaws.{here, gone}
 use Rattle.replace.specs.Internal.Pieces.{kept_words}
 use Rattle.member.specs.Internal.Member.{front_of}
-use mathlib.Core.Bool.{false}
+use mathlib.Core.Bool.{Bool, true, false, cond, not}
+use native.Mathlib.Nat.{zero-add}
+use lib.Dec.{ltb, eqb}
+use Rattle.tree.specs.Form.{pick}
+use Rattle.std.specs.Prelude.{Some, None, unwrap_or}
+use Rattle.std.specs.List.{position, position_or_len}
+use Rattle.std.proofs.lemmas.Bool.Decides.{nat_tests}
 use Rattle.reader.specs.declared.lists.Table.{Table}
 use Rattle.replace.specs.Internal.Partial.{partial_row}
 use Rattle.replace.proofs.BuildLaws.{rest_part}
 
 -- words before the first that is not 0
-pub front-more : (ws : List ℕ) (i : ℕ) → i < length ws → get_or ws i 0 ≡ 0 → front_of i (drop i ws) ≡ front_of (i + 1) (drop (i + 1) ws)
-unfolding front_of
-front-more ws i h e = rw (here ws i h, eq-eqb (get_or ws i 0) 0 e, add-one)
+moved : (i k n : ℕ) → cond (ltb k n) (suc i + k) 0 ≡ cond (ltb (1 + k) (suc n)) (i + (1 + k)) 0
+moved i k n = grind (arith, nat_tests)
 
-pub front-stop : (ws : List ℕ) (i : ℕ) → i < length ws → (get_or ws i 0 ≡ 0 → ⊥) → i ≡ front_of i (drop i ws)
-unfolding front_of
-front-stop ws i h e = rw (here ws i h, ne_eqb (get_or ws i 0) 0 e)
+first : (i n : ℕ) → i ≡ cond (ltb 0 (suc n)) (i + 0) 0
+first i n = grind (arith, nat_tests)
 
-pub front-end : (ws : List ℕ) (i : ℕ) → length ws ≤ i → 0 ≡ front_of i (drop i ws)
+abbrev pub some_word : ℕ → Bool
+some_word w = not (eqb w 0)
+
+fronts-from : (i : ℕ) (ws : List ℕ) → front_of i ws ≡ cond (ltb (position_or_len some_word ws) (length ws)) (i + position_or_len some_word ws) 0
 unfolding front_of
-front-end ws i h = rw (gone ws i h)
+fronts-from i [] = refl
+fronts-from i (w ∷ ws) = go (eqb w 0) (position_or_len some_word ws) (fronts-from (suc i) ws)
+  where
+    go : (b : Bool) (k : ℕ) → front_of (suc i) ws ≡ cond (ltb k (length ws)) (suc i + k) 0
+        → pick b (front_of (suc i) ws) i ≡ cond (ltb (cond (not (not b)) (1 + k) 0) (suc (length ws))) (i + cond (not (not b)) (1 + k) 0) 0
+    go true k h = h ∙ moved i k (length ws)
+    go false k h = first i (length ws)
+
+pub fronts : (ws : List ℕ) → front_of 0 ws ≡ unwrap_or (position some_word ws) 0
+fronts ws = fronts-from 0 ws ∙ go (ltb (position_or_len some_word ws) (length ws))
+  where
+    go : (b : Bool) → cond b (0 + position_or_len some_word ws) 0 ≡ unwrap_or (cond b (Some (position_or_len some_word ws)) None) 0
+    go true = zero-add (position_or_len some_word ws)
+    go false = refl
 
 -- names whose word is 0
 word-zero : (w n : ℕ) (ws ns : List ℕ) → w ≡ 0 → kept_words (w ∷ ws) (n ∷ ns) ≡ n ∷ kept_words ws ns

@@ -5,24 +5,22 @@ use mathlib.Core.List.{List, [], ◌∷◌, ◌++◌, append-nil}
 use mathlib.Core.Option.{none as absent, some}
 use Prim.Native.Nat.{ℕ, ◌+◌, ◌≤◌, ◌<◌}
 use native.Mathlib.Omega.{arith}
-use borrow.Author.Tests.{eq-eqb, ne_eqb}
+use borrow.Author.Tests.{ne_eqb}
 use lib.Dec.{eqb}
 use lib.ListN.{length, get_or, drop, length-append}
 use lib.Seq.{drop-drop, drop_at}
 use Rattle.tree.specs.Form.{Form, leaf, node, noted, Decls, Forms, none, more, encode}
 use Rattle.tree.specs.Tag.{Sort, expr, pred, shape_of, pred_tags}
 use Rattle.form.specs.Decode.{got, decode}
-use Rattle.form.specs.declared.head.Step.{Step}
-use Rattle.form.specs.declared.head.Step.TheVariants.{End, Bad}
 use Rattle.form.proofs.DecodeLaws.{clash, Ok, ok-node, ok-noted, decode-encode, decode-sound}
 use Rattle.rules.proofs.OkLaws.{ok-deep}
-use Rattle.decls.specs.Internal.Noted.{decls_end}
 use Rattle.rules.specs.Member.{member_of, in_set, membership}
 use Rattle.places.specs.Internal.Positions.{end_at, part_words}
 use Rattle.member.specs.Internal.Member.{set_head, set_tag, guard_at, SetIn}
 use Rattle.places.proofs.ViewLaws.{plain-node, plain-noted, two-more}
 use Rattle.places.proofs.PartsLaws.{tag_of, tag_at, some_words, in_row, same-form}
 use Rattle.member.proofs.SetLaws.{SetView, set_view, set-good, encode-set, head-count, head-long, guard-after}
+use Rattle.std.specs.Prelude.{Some, None, Option}
 
 -- 107 and its sides
 pub record InView (f : Form) : Type 0 where
@@ -90,25 +88,6 @@ other-right l (noted t o ds (more f (more g (more k ks)))) h = refl
 member-shape : (f l r : Form) (x : Form) → f ≡ node 107 [] [] (more l (more r none)) → in_set l r ≡ some x → membership f ≡ some x
 unfolding membership
 member-shape f l r x a b = rw (a, b)
-
--- the tests of the code
-pub set_first : (t : ℕ) → t ≡ 803 → true ≡ set_tag t
-set_first t e = rw e
-
-pub set-second : (t : ℕ) → (t ≡ 803 → ⊥) → t ≡ 873 → true ≡ set_tag t
-set-second t h e = rw e
-
-pub set-none : (t : ℕ) → (t ≡ 803 → ⊥) → (t ≡ 873 → ⊥) → false ≡ set_tag t
-set-none t h k = rw (ne_eqb t 803 h, ne_eqb t 873 k)
-
-module _ (row : List ℕ) (at n : ℕ) where
-  pub guard-plain : get_or row at 0 ≡ 803 → at + (3 + n) ≡ guard_at row at n
-  unfolding guard_at
-  guard-plain e = rw (eq-eqb (get_or row at 0) 803 e)
-
-  pub guard-noted : (get_or row at 0 ≡ 803 → ⊥) → decls_end row (at + 3) n ≡ guard_at row at n
-  unfolding guard_at
-  guard-noted h = rw (ne_eqb (get_or row at 0) 803 h)
 
 module _ (row : List ℕ) (f : Form) (is : decode 64 pred row ≡ got f []) where
   row_is : (row ≡ encode f ++ []) × Ok 64 pred f
@@ -188,12 +167,12 @@ module _ (row : List ℕ) (f : Form) (is : decode 64 pred row ≡ got f []) wher
             guard-read : decode 62 pred (drop guard row) ≡ got set.guard (encode set.value)
             guard-read = rw guard-at (decode-encode set.ok-guard (encode set.value))
 
-            module _ (s : Step) (to : s ≡ end_at guard (decode 62 pred (drop guard row))) where
-              end_is : s ≡ End (guard + length (encode set.guard))
+            module _ (s : Option ℕ) (to : s ≡ end_at guard (decode 62 pred (drop guard row))) where
+              end_is : s ≡ Some (guard + length (encode set.guard))
               unfolding end_at
               end_is = to ∙ rw guard-read
 
-              pub guard-ends : s ≡ Bad → ⊥
+              pub guard-ends : s ≡ None → ⊥
               guard-ends e = let z = end_is in clash cc
 
               member_is : membership f ≡ some (member_of view.l set.decls set.guard set.value)
@@ -205,7 +184,7 @@ module _ (row : List ℕ) (f : Form) (is : decode 64 pred row ≡ got f []) wher
               self : {d : ℕ} {t : Sort} {h : Form} → Ok d t h → decode d t (encode h) ≡ got h []
               self {d} {t} {h} ok = rw (← append-nil (encode h)) (decode-encode ok [])
 
-              pub set-in : (v : ℕ) → s ≡ End v → SetIn row (record { at = at; n = n; guard = guard; value = v })
+              pub set-in : (v : ℕ) → s ≡ Some v → SetIn row (record { at = at; n = n; guard = guard; value = v })
               set-in v e =
                   let q : v ≡ guard + length (encode set.guard) = let z = end_is in cc in
                   record {

@@ -4,16 +4,17 @@ use mathlib.Core.List.{List, [], ◌∷◌, ◌++◌, append-nil, append_assoc}
 use Prim.Native.Nat.{ℕ, ◌+◌, ◌-◌, ◌≤◌, ◌<◌}
 use native.Mathlib.Omega.{arith}
 use borrow.Author.Tests.{le-leb, lt-leb}
-use lib.ListN.{length, take, drop, replicate, length-take, length-replicate}
+use lib.ListN.{length, take, drop, replicate}
 use lib.Seq.{drop_at, drop-drop}
 use Rattle.tree.specs.Form.{Form, node, none, more, encode}
 use Rattle.tree.specs.Tag.{Sort, expr, pred}
 use Rattle.form.specs.Decode.{got, decode, form_of}
-use Rattle.form.specs.Answer.{Outcome, refusal, told, finish, check_outcome, stop}
+use Rattle.form.specs.Answer.{Outcome, stop, told, finish, check_outcome}
 use Rattle.reader.specs.Internal.Reads.{mark, Marked}
 use Rattle.form.specs.declared.answer.Kind.TheVariants.{Predicate}
-use Rattle.form.specs.declared.answer.Answer.{Answer}
-use Rattle.form.specs.declared.answer.Answer.TheVariants.{No}
+use Rattle.form.specs.Answer.{Answer}
+use Rattle.form.specs.declared.answer.Refusal.{Refusal}
+use Rattle.std.specs.Prelude.{Err}
 use Rattle.reader.specs.declared.lists.Table.{Table}
 use Rattle.form.proofs.DecodeLaws.{Ok, decode-encode, decode-sound}
 use Rattle.shift.proofs.CheckedLaws.{too_long, form-there, check-refuses}
@@ -29,13 +30,13 @@ use Rattle.places.specs.Internal.Wrote.{Wrote}
 use Rattle.places.specs.Internal.Positions.{Cleared, form_marks, MarksAre, MarkedAt}
 use Rattle.member.specs.Internal.Member.{Shares, shares, share, equalities, SetIn, SetTold, BodyTold, Membering, filled_body, Filling, left_parts, unshifted, Unshifted}
 use Rattle.member.specs.declared.member.Comprehension.{Comprehension}
-use Rattle.member.specs.declared.member.Membership.{Membership}
-use Rattle.member.specs.declared.member.Membership.TheVariants.{In, Not}
+use Rattle.std.specs.Prelude.{Option as Maybe, Some, None}
 use Rattle.places.proofs.WroteLaws.{wrote-in}
 use Rattle.places.proofs.PartsOk.{OkParts, parts-ok}
 use Rattle.places.proofs.PartsLaws.{same-forms, marks-long}
 use Rattle.places.proofs.PlacesLaws.{PredRow}
 use Rattle.member.proofs.BodyLaws.{read_right, ok-element, ok-value, set-count, left-ok, guard_ok, guard-shape, guard-flat, marks-same, guard-length, member-shares}
+use Rattle.form.specs.declared.answer.Refusal.TheVariants.{TooLong, NothingToRewrite, WorkTooShort}
 
 -- the body as it was written
 module _ (row lm : List ℕ) (n u : ℕ) (g : Form) (out : List ℕ) (t : Table) (end : ℕ) (o : List ℕ) where
@@ -46,12 +47,6 @@ module _ (row lm : List ℕ) (n u : ℕ) (g : Form) (out : List ℕ) (t : Table)
   pub body-words : (z : Shares) → BodyTold row lm n u g out z t end o → take end o ≡ encode (join_all 351 g (equalities u (left_parts z)))
   unfolding BodyTold Wrote
   body-words (shares ps qs) h = h.1.1
-
-pub cleared-zeros : (end m : ℕ) (work : List ℕ) → end ≤ m → Cleared (take end work) (replicate m 0)
-cleared-zeros end m work h =
-    let l = length-replicate {A = ℕ} m 0 in
-    let k = length-take end work in
-    record { zeros = ap (λ (i : ℕ). replicate i 0) (sym l); enough = omega arith }
 
 -- the places filled in the body
 pub record Fills (n : ℕ) (row lm : List ℕ) (ds : List Decl) (t : Table) (body marks : List ℕ) (r : Form) : Type 0 where
@@ -122,19 +117,19 @@ module _ (row : List ℕ) (wl room : ℕ) where
   abbrev go : Sort → Form → Outcome
   go s f = of_result room (membership f)
 
-  pub member-small : wl < 16384 → member_outcome row wl room ≡ refusal 15
+  pub member-small : wl < 16384 → member_outcome row wl room ≡ stop WorkTooShort
   unfolding member_outcome
   member-small h = rw (lt-leb 16384 wl h)
 
   module _ (enough : 16384 ≤ wl) where
-    pub member-long : 8192 < length row → member_outcome row wl room ≡ refusal 1
+    pub member-long : 8192 < length row → member_outcome row wl room ≡ stop TooLong
     unfolding member_outcome
     member-long h = rw (le-leb 16384 wl enough) (too_long Predicate row go h)
 
     module _ (short : length row ≤ 8192) where
-      pub member-refused : (a : Answer) (k p : ℕ) → a ≡ told (check_outcome Predicate row) → a ≡ No k p → member_outcome row wl room ≡ stop k p
+      pub member-refused : (a : Answer) (r : Refusal) → a ≡ told (check_outcome Predicate row) → a ≡ Err r → member_outcome row wl room ≡ stop r
       unfolding member_outcome
-      member-refused a k p e n = rw (le-leb 16384 wl enough) (check-refuses Predicate row go a k p e n)
+      member-refused a r e n = rw (le-leb 16384 wl enough) (check-refuses Predicate row go a r e n)
 
       module _ (x : PredRow row) where
         pub row_read : decode 64 pred row ≡ got x.form []
@@ -144,11 +139,11 @@ module _ (row : List ℕ) (wl room : ℕ) where
         unfolding member_outcome
         member-read = rw (le-leb 16384 wl enough) (form-there Predicate row go pred x.form short x.is_found)
 
-        pub member-other : (m : Membership) → SetTold row m → m ≡ Not → member_outcome row wl room ≡ refusal 9
+        pub member-other : (m : Maybe Comprehension) → SetTold row m → m ≡ None → member_outcome row wl room ≡ stop NothingToRewrite
         unfolding SetTold
         member-other m h e = member-read ∙ rw ((rw e at h) x.form row_read)
 
-        module _ (m : Membership) (h : SetTold row m) (c : Comprehension) (e : m ≡ In c) where
+        module _ (m : Maybe Comprehension) (h : SetTold row m) (c : Comprehension) (e : m ≡ Some c) where
           pub set-of : SetIn row c
           unfolding SetTold
           set-of = rw e at h

@@ -6,7 +6,7 @@ use mathlib.Core.List.{List, [], ◌∷◌, ◌++◌, map, map-append, reverse, 
 use mathlib.Core.Option.{Option, none as absent, some}
 use Prim.Native.Nat.{ℕ, zero, suc, ◌+◌, ◌-◌, ◌≤◌, ◌<◌}
 use native.Mathlib.Omega.{arith}
-use borrow.Author.Tests.{ltb-true, ltb-false, lt-ltb, le-ltb, le-leb}
+use borrow.Author.Tests.{ltb-true, ltb-false, le-ltb, le-leb}
 use lib.Dec.{ltb, eqb}
 use lib.ListN.{length, get_or, take, drop, set, replicate, get_or-map}
 use Rattle.tree.specs.Form.{free, bound, Form, leaf, node, noted, Forms, none, more, pick}
@@ -22,6 +22,7 @@ use Rattle.rules.specs.Replacement.{Taken, taken, nothing, index_of, above, acce
 use Rattle.rules.specs.Split.{is_two, is_pair, parts, parts_all, equal}
 use Rattle.rules.specs.Partial.{front, lower_place}
 use Rattle.rules.specs.Member.{Offers, offers, is_free, leave, offer_next, offer_all}
+use Rattle.std.specs.Prelude.{Option as Maybe, Some, None}
 use Rattle.member.specs.Internal.Member.{Shares, shares, keep_part, spot_at, share_next, share, equalities, lifted}
 use Rattle.places.proofs.PlacesLaws.{place-from}
 use Rattle.rules.proofs.FrontLaws.{reverse-kept, kept-index, subst-kept}
@@ -127,15 +128,15 @@ module _ (n : ℕ) (p : Form × Form) (rest : List (Form × Form)) (rec : (qs : 
   abbrev Later : List Place → Offers
   Later qs = offer_all n (map (shift_right n) rest) qs
 
-  abbrev Told : Offers → ℕ → Type 0
-  Told z j = z ≡ offers_of n (share_next n j p ps (λ qs. share n rest qs))
+  abbrev Told : Offers → Maybe ℕ → Type 0
+  Told z j = z ≡ offers_of n (share_next j p ps (λ qs. share n rest qs))
 
-  passes : Told (leave (equal p.0 (lift n p.1)) (Later (map (lifted n) ps))) n
-  passes = rw (le-ltb n n (omega arith), rec ps) (leave-kept n p (share n rest ps))
+  passes : Told (leave (equal p.0 (lift n p.1)) (Later (map (lifted n) ps))) None
+  passes = rw (rec ps) (leave-kept n p (share n rest ps))
 
   fills : (i : ℕ) → i < n → (b : Bool) → is_free (get_or ps (n - 1 - i) kept) ≡ b
-      → Told (pick (is_free (get_or (map (lifted n) ps) (n - suc i) kept)) (Later (set (map (lifted n) ps) (n - suc i) (filled (lift n p.1)))) (leave (equal p.0 (lift n p.1)) (Later (map (lifted n) ps)))) (pick b (n - 1 - i) n)
-  fills i h true e = rw (free-lift n ps (n - suc i), place-from n i, e, ← lift-set n ps (n - 1 - i) p.1, rec (set ps (n - 1 - i) (filled p.1)), lt-ltb (n - 1 - i) n (omega arith))
+      → Told (pick (is_free (get_or (map (lifted n) ps) (n - suc i) kept)) (Later (set (map (lifted n) ps) (n - suc i) (filled (lift n p.1)))) (leave (equal p.0 (lift n p.1)) (Later (map (lifted n) ps)))) (pick b (Some (n - 1 - i)) None)
+  fills i h true e = rw (free-lift n ps (n - suc i), place-from n i, e, ← lift-set n ps (n - 1 - i) p.1, rec (set ps (n - 1 - i) (filled p.1)))
   fills i h false e = rw (free-lift n ps (n - suc i), place-from n i, e) passes
 
   one-share : (x : Option ℕ) → Told (offer_next n (equal p.0 (lift n p.1)) (map (lifted n) ps) (accept_left n (lift n p.1) x) Later) (spot_at n ps x)
@@ -143,7 +144,7 @@ module _ (n : ℕ) (p : Form × Form) (rest : List (Form × Form)) (rec : (qs : 
   one-share (some i) = go (ltb i n) refl
     where
       go : (b : Bool) → ltb i n ≡ b
-          → Told (offer_next n (equal p.0 (lift n p.1)) (map (lifted n) ps) (pick b (taken i (lift n p.1)) nothing) Later) (pick b (pick (is_free (get_or ps (n - 1 - i) kept)) (n - 1 - i) n) n)
+          → Told (offer_next n (equal p.0 (lift n p.1)) (map (lifted n) ps) (pick b (taken i (lift n p.1)) nothing) Later) (pick b (pick (is_free (get_or ps (n - 1 - i) kept)) (Some (n - 1 - i)) None) None)
       go true h = fills i (ltb-true i n h) (is_free (get_or ps (n - 1 - i) kept)) refl
       go false h = passes
 

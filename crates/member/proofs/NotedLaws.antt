@@ -12,7 +12,7 @@ use lib.Seq.{length-take-le}
 use Rattle.tree.specs.Form.{free, Form, leaf, node, Forms, pick, encode, encode_decls}
 use Rattle.tree.specs.Tag.{pred}
 use Rattle.form.specs.Lists.{Place, kept, filled}
-use Rattle.form.specs.Answer.{refusal, finish}
+use Rattle.form.specs.Answer.{stop, finish}
 use Rattle.form.specs.Decode.{row_form}
 use Rattle.form.proofs.DecodeLaws.{clash, Ok, decode-sound, decls-sound}
 use Rattle.reader.specs.declared.lists.Table.{Table}
@@ -44,9 +44,10 @@ use Rattle.member.proofs.TableLaws.{in_front, words_are, front-is, ready, marks-
 use Rattle.member.proofs.NotedSteps.{front-in}
 use Rattle.member.proofs.NotesLaws.{last-filled, front-table, notes-in, any_same, plain-same}
 use Rattle.member.proofs.FormLaws.{left, form-apart, joins_any, joins-count, joins-low, joins-kept, joined-other, joined-unlike, joined-conjunction, deep, joined-clear, joined-apart, plain-clear}
+use Rattle.form.specs.declared.answer.Refusal.TheVariants.{OutOfLimits}
 
 -- a form with too many words is refused
-finish-long : (room : ℕ) (f : Form) → 8192 < length (encode f) → finish pred room f ≡ refusal 7
+finish-long : (room : ℕ) (f : Form) → 8192 < length (encode f) → finish pred room f ≡ stop OutOfLimits
 unfolding finish row_form
 finish-long room f h = rw (lt-leb (length (encode f)) 8192 h)
 
@@ -55,10 +56,6 @@ module _ (joins clear : Bool) (body : List ℕ) where
   no_names : (get_or body 0 0 ≡ 852 → ⊥) → joins_names 852 joins body ≡ false
   unfolding joins_names
   no_names h = rw (ne_eqb (get_or body 0 0) 852 h) (and-false joins)
-
-  no-notes : (get_or body 0 0 ≡ 862 → ⊥) → joins_notes 852 joins clear body ≡ false
-  unfolding joins_notes
-  no-notes h = rw (ne_eqb (get_or body 0 0) 862 h, and-false clear) (and-false joins)
 
 unclear-notes : (joins : Bool) (body : List ℕ) → joins_notes 852 joins false body ≡ false
 unfolding joins_notes
@@ -98,7 +95,7 @@ module _ {decls row lm body marks : List ℕ} {t : Table} (ds : List Decl) (x : 
 
   -- a head and what follows it are the words of the form
   put-by : (hd : List ℕ) (from : ℕ) → hd ++ rest_of from ≡ encode (filled_body ds ps g) → (z : Bool) → (z ≡ false → 8192 < length hd)
-      → pick z (placed_row false hd t 0 row lm (drop from (encode g)) (drop from marks) room) (refusal 7) ≡ finish pred room (filled_body ds ps g)
+      → pick z (placed_row false hd t 0 row lm (drop from (encode g)) (drop from marks) room) (stop OutOfLimits) ≡ finish pred room (filled_body ds ps g)
   unfolding placed_row replaced
   put-by hd from w true h = rw (ready-is t row lm 0 (ready row lm n t ps y.table y.most y.long), w) (emit-form pred room (filled_body ds ps g))
   put-by hd from w false h =

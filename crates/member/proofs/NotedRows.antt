@@ -21,7 +21,7 @@ use Rattle.member.specs.declared.member.Comprehension.{Comprehension}
 use Rattle.member.specs.Internal.Member.{set_of, SetIn, Filling}
 use Rattle.member.specs.Internal.Noted.{FlaggedIn}
 use Rattle.member.proofs.SetLaws.{set-good, head-tag}
-use Rattle.member.proofs.BodyLaws.{set_words, names-all, names-count, places}
+use Rattle.member.proofs.BodyLaws.{set_words, names-all, names-count, positions}
 
 -- declarations that stand in a row, with flags
 flagged-in : (row rest : List ℕ) (ds : List Decl) → GoodDecls ds → drop 2 row ≡ encode_decls (unlisted ds) ++ rest → length row ≤ 8192 → FlaggedIn row ds
@@ -72,7 +72,7 @@ module _ {row : List ℕ} {c : Comprehension} (x : SetIn row c) where
       ns = take (c.guard - (c.at + 3)) (drop (c.at + 3) row)
 
       few : length ns ≤ 32
-      few = let e = names-count x tag in let p = places x in let m = p.5 in omega arith
+      few = let e = names-count x tag in let p = positions x in omega arith
 
       fit : (room : ℕ) → room ≡ 66 → names_fit (length ns) room ≡ true
       fit room e = names-fit (length ns) room few (let f = few in omega arith)

@@ -5,7 +5,7 @@ use mathlib.Core.List.{List, [], ◌++◌, append-nil}
 use mathlib.Core.Option.{Option, none as absent, some}
 use Prim.Native.Nat.{ℕ, suc, ◌+◌, ◌-◌, ◌≤◌, ◌<◌}
 use native.Mathlib.Omega.{arith}
-use borrow.Author.Tests.{ltb-true, lt-ltb, le-ltb, eqb-true, eqb-false}
+use borrow.Author.Tests.{ltb-true, eqb-true, eqb-false}
 use lib.Dec.{leb, ltb, eqb}
 use lib.ListN.{length, get_or, take, drop, set, replicate, get_or-replicate, length-append, length-set, length-drop, length-replicate}
 use lib.Seq.{get_or-set_same, get_or-set_other, length-take-le}
@@ -13,7 +13,7 @@ use Rattle.tree.specs.Form.{Form, pick, encode, encode_all}
 use Rattle.tree.specs.Tag.{expr}
 use Rattle.form.specs.Lists.{Place, kept, filled}
 use Rattle.reader.specs.declared.lists.Table.{Table}
-use Rattle.form.proofs.DecodeLaws.{Ok, decode-encode}
+use Rattle.form.proofs.DecodeLaws.{Ok, clash, decode-encode}
 use Rattle.rules.specs.Walk.{lift}
 use Rattle.shift.specs.Internal.Items.{items, rewritten, moved_words, store}
 use Rattle.rules.proofs.LimitLaws.{ok-small}
@@ -28,13 +28,14 @@ use Rattle.rules.specs.Partial.{no_places}
 use Rattle.rules.specs.Member.{is_free}
 use Rattle.places.specs.Internal.Sides.{index_words}
 use Rattle.places.specs.Internal.Wrote.{Wrote}
-use Rattle.places.specs.Internal.Positions.{parts_at, part_words, Within, form_marks}
+use Rattle.places.specs.Internal.Positions.{Beside, MarkedAt, both_pairs, parts_at, part_words, Within, form_marks}
+use Rattle.std.specs.Prelude.{Option as Maybe, Some, None}
 use Rattle.member.specs.Internal.Member.{Shares, shares, keep_part, spot_at, share, equalities, PlacedAt, PlaceIs, TableIs, no_table, with_place, spot_in, shifted_words, Shared}
 use Rattle.places.specs.declared.sides.Sides.{Sides}
 use Rattle.places.proofs.SidesLaws.{as_index, index_is, part-words}
 use Rattle.places.proofs.WroteLaws.{wrote-end, wrote_on, wrote-equal, nothing_written, put-wrote, part-long}
-use Rattle.places.proofs.PartsLaws.{PartIs}
-use Rattle.places.proofs.StepLaws.{left_is, middle-is, right_is, end_is, rest-is}
+use Rattle.places.proofs.PartsLaws.{PartIs, part_of, beside-in, marked-part}
+use Rattle.places.proofs.StepLaws.{left_is, middle-is, right_is, end_is, rest-is, part_in}
 
 -- an empty table
 pub no-table : (row lm : List ℕ) (n : ℕ) (t : Table) → n ≤ 32 → t ≡ no_table n → TableIs row lm n t (no_places n)
@@ -97,18 +98,36 @@ word-free row lm w s e kept h = rw h
 word-free row lm w s e (filled f) h = rw h.0
 
 spot-by : {row lm : List ℕ} {n : ℕ} {t : Table} {ps : List Place} → TableIs row lm n t ps → (x : Option ℕ) → spot_in t (as_index x) ≡ spot_at n ps x
-spot-by is absent = is.number
+spot-by is absent = refl
 spot-by {row} {lm} {n} {t} {ps} is (some i) = rw is.number (go (ltb i n) refl)
   where
-    go : (b : Bool) → ltb i n ≡ b → pick b (pick (eqb (get_or t.words (n - 1 - i) 0) 0) (n - 1 - i) n) n ≡ pick b (pick (is_free (get_or ps (n - 1 - i) kept)) (n - 1 - i) n) n
+    go : (b : Bool) → ltb i n ≡ b → pick b (pick (eqb (get_or t.words (n - 1 - i) 0) 0) (Some (n - 1 - i)) None) None ≡ pick b (pick (is_free (get_or ps (n - 1 - i) kept)) (Some (n - 1 - i)) None) None
     go true h =
         let l : i < n = ltb-true i n h in
         rw (word-free row lm (get_or t.words (n - 1 - i) 0) (get_or t.starts (n - 1 - i) 0) (get_or t.ends (n - 1 - i) 0) (get_or ps (n - 1 - i) kept) (is.at (n - 1 - i) (omega arith)))
     go false h = refl
 
-pub spot_is : {row lm : List ℕ} {n : ℕ} {t : Table} {ps : List Place} → TableIs row lm n t ps → {d : ℕ} (l : Form) → Ok d expr l → (p : ℕ) (x : List ℕ) → drop p row ≡ encode l ++ x → (j : ℕ) → j ≡ spot_in t (index_words (drop p row))
+pub spot_is : {row lm : List ℕ} {n : ℕ} {t : Table} {ps : List Place} → TableIs row lm n t ps → {d : ℕ} (l : Form) → Ok d expr l → (p : ℕ) (x : List ℕ) → drop p row ≡ encode l ++ x → (j : Maybe ℕ) → j ≡ spot_in t (index_words (drop p row))
     → j ≡ spot_at n ps (index_of l)
 spot_is is l ok p x w j e = e ∙ rw (w, index_is ok x) (spot-by is (index_of l))
+
+pub spot-low : (n : ℕ) (ps : List Place) (x : Option ℕ) (j : ℕ) → spot_at n ps x ≡ Some j → j < n
+spot-low n ps absent j e = absurd (clash cc)
+spot-low n ps (some i) j e = go (ltb i n) refl (is_free (get_or ps (n - 1 - i) kept)) e
+  where
+    go : (b : Bool) → ltb i n ≡ b → (f : Bool) → pick b (pick f (Some (n - 1 - i)) None) None ≡ Some j → j < n
+    go true h true e = let l = ltb-true i n h in let q : n - 1 - i ≡ j = cc in omega arith
+    go true h false e = absurd (clash cc)
+    go false h f e = absurd (clash cc)
+
+pub spot_low : (t : Table) (x : Maybe ℕ) (j : ℕ) → spot_in t x ≡ Some j → j < t.n
+spot_low t None j e = absurd (clash cc)
+spot_low t (Some i) j e = go (ltb i t.n) refl (eqb (get_or t.words (t.n - 1 - i) 0) 0) e
+  where
+    go : (b : Bool) → ltb i t.n ≡ b → (f : Bool) → pick b (pick f (Some (t.n - 1 - i)) None) None ≡ Some j → j < t.n
+    go true h true e = let l = ltb-true i t.n h in let q : t.n - 1 - i ≡ j = cc in omega arith
+    go true h false e = absurd (clash cc)
+    go false h f e = absurd (clash cc)
 
 -- a shifted part written
 module _ (row lm : List ℕ) (u : ℕ) (s : Sides) (within : Within row s) (marked : length row ≤ length lm) where
@@ -160,23 +179,23 @@ module _ (lm : List ℕ) {row : List ℕ} {p q m w k words : ℕ} (x : PartIs ro
         rw (a, b, append-nil)
 
     -- parts shared out
-    module _ (n u : ℕ) (up : u ≤ 32) (ps : List Place) (j : ℕ) (spot : j ≡ spot_at n ps (index_of x.l)) where
+    module _ (n u : ℕ) (up : u ≤ 32) (ps : List Place) (spot : Maybe ℕ) (at : spot ≡ spot_at n ps (index_of x.l)) where
       abbrev Rest : List (Form × Form)
       Rest = parts_at row s.middle s.end (m - 1)
 
-      pub share-fill : j < n → (out : List ℕ) (t : Table) (e c : ℕ) (o : List ℕ) → Shared row lm n u w out k (share n Rest (set ps j (filled x.r))) t e c o → Shared row lm n u w out k (share n (parts_at row p q m) ps) t e c o
+      pub share-fill : (j : ℕ) → spot ≡ Some j → (out : List ℕ) (t : Table) (e c : ℕ) (o : List ℕ) → Shared row lm n u w out k (share n Rest (set ps j (filled x.r))) t e c o → Shared row lm n u w out k (share n (parts_at row p q m) ps) t e c o
       unfolding share
-      share-fill h out t e c o z = rw (rest-is x s is, ← spot, lt-ltb j n h) z
+      share-fill j h out t e c o z = rw (rest-is x s is, ← at, h) z
 
       share-kept : (out out₁ : List ℕ) (w₁ : ℕ) → Wrote w out (encode (equal x.l (lift u x.r))) w₁ out₁ → (z : Shares) (t : Table) (e c : ℕ) (o : List ℕ) → Shared row lm n u w₁ out₁ (k + 1) z t e c o
           → Shared row lm n u w out k (keep_part (x.l, x.r) z) t e c o
       unfolding Shared encode
       share-kept out out₁ w₁ h (shares qs rs) t e c o (a, b, d) = (a, wrote_on w w₁ e out (encode (equal x.l (lift u x.r))) out₁ (encode_all (equalities u rs)) o h b, omega (arith, d))
 
-      pub share-pass : n ≤ j → (out out₁ : List ℕ) (w₁ : ℕ) → Wrote w out (shifted_words row lm u s) w₁ out₁ → (t : Table) (e c : ℕ) (o : List ℕ) → Shared row lm n u w₁ out₁ (k + 1) (share n Rest ps) t e c o
+      pub share-pass : spot ≡ None → (out out₁ : List ℕ) (w₁ : ℕ) → Wrote w out (shifted_words row lm u s) w₁ out₁ → (t : Table) (e c : ℕ) (o : List ℕ) → Shared row lm n u w₁ out₁ (k + 1) (share n Rest ps) t e c o
           → Shared row lm n u w out k (share n (parts_at row p q m) ps) t e c o
       unfolding share
-      share-pass h out out₁ w₁ wr t e c o z = rw (rest-is x s is, ← spot, le-ltb j n h) (share-kept out out₁ w₁ (rw (shifted-words u up) at wr) (share n Rest ps) t e c o z)
+      share-pass h out out₁ w₁ wr t e c o z = rw (rest-is x s is, ← at, h) (share-kept out out₁ w₁ (rw (shifted-words u up) at wr) (share n Rest ps) t e c o z)
 
   pub shifted-length : (u : ℕ) → length row ≤ length lm → Within row s → (out out₁ : List ℕ) (w₁ : ℕ) → Wrote w out (shifted_words row lm u s) w₁ out₁ → w₁ ≡ w + 1 + (length (encode x.l) + length (encode x.r))
   shifted-length u mk wi out out₁ w₁ h =
@@ -191,6 +210,36 @@ module _ (lm : List ℕ) {row : List ℕ} {p q m w k words : ℕ} (x : PartIs ro
       let v = length-take-le (s.middle - s.left) (drop s.left row) (let z = length-drop s.left row in omega arith) in
       let l : length (shifted_words row lm u s) ≡ suc (length (encode x.l) + length (encode x.r)) = ap suc (length-append (take (s.middle - s.left) (drop s.left row)) (moved_part row lm u s wi mk) ∙ rw (v, a) (omega arith)) in
       omega arith
+
+-- the next part, as the code finds it
+pub record NextPart (row lm : List ℕ) (p q m w k room : ℕ) (s : Sides) : Type 0 where
+  pub part : PartIs row p q m w k room
+  pub low : p < length row
+  pub words : drop s.left row ≡ encode part.l ++ drop (p + length (encode part.l)) row
+  pub left : s.left ≡ p
+  pub middle : s.middle ≡ p + length (encode part.l)
+  pub right : s.right ≡ q
+  pub end : s.end ≡ q + length (encode part.r)
+  pub within : Within row s
+  pub marks : drop q lm ≡ form_marks part.r ++ drop (q + length (encode part.r)) lm
+  pub rest : MarkedAt row lm s.end (m - 1)
+
+pub next_part : (row lm : List ℕ) (p q m w k words : ℕ) → Beside row p q m w k words → 0 < m → both_pairs row p q ≡ false → MarkedAt row lm q m → (s : Sides) → s ≡ part_words row p q → NextPart row lm p q m w k words s
+next_part row lm p q m w k words b left apart marked s is =
+    let x = part_of m b left apart in
+    let rest = marked-part row lm m b left marked x in
+    record {
+      part = x;
+      low = let h = beside-in b left in omega arith;
+      words = rw (left_is x s is) x.words-l;
+      left = left_is x s is;
+      middle = middle-is x s is;
+      right = right_is x s is;
+      end = end_is x s is;
+      within = part_in x s is;
+      marks = rest.0;
+      rest = rw (end_is x s is) rest.1;
+    }
 
 -- no parts
 pub share-none : (row lm : List ℕ) (n u w k : ℕ) (out : List ℕ) (ps : List Place) (t : Table) (qs : List (Form × Form)) → qs ≡ [] → TableIs row lm n t ps → Shared row lm n u w out k (share n qs ps) t w k out

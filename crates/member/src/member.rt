@@ -6,7 +6,6 @@ ghost use Rattle.form.specs.Decode.{got, decode};
 ghost use Rattle.member.specs.Internal.Member.{set_tag, guard_at, SetTold};
 
 use decls::ends::decls_end;
-use form::head::Step;
 use places::positions::{expr_end, skip_pred};
 use tree::tag::Tag;
 
@@ -19,58 +18,53 @@ pub struct Comprehension {
     pub value: usize,
 }
 
+// A membership that was found: its row, the marks of the row's words, and where the comprehension lies.
 #[derive(Clone, Copy)]
-pub enum Membership {
-    In(Comprehension),
-    Not,
+pub(crate) struct Membership<'a> {
+    pub row: &'a [u32],
+    pub marks: &'a [u32],
+    pub set: Comprehension,
 }
 
 // Whether a tag is that of a comprehension with a guard and a value, with or without annotations.
 fn is_set(tag: u32) -> bool
     ensures { result ≡ set_tag tag }
 {
-    if tag == Tag::COMPREHENSION_SET {
-        return true;
-    }
-    if tag == Tag::NOTED_COMPREHENSION_SET {
-        return true;
-    }
-    false
+    matches!(tag, Tag::COMPREHENSION_SET | Tag::NOTED_COMPREHENSION_SET)
 }
 
 // Where the guard of the comprehension at `at` starts, behind its n declarations.
+#[tactic(auto, unfolding(crate::specs::Internal::Member::guard_at))]
 fn guard_at(row: &[u32], at: usize, n: u32) -> usize
     requires { (at + 2 < length row.now) × (n ≤ 32) }
     ensures { result ≡ guard_at row.now at n }
 {
     if row[at] == Tag::COMPREHENSION_SET {
-        return at + (3 + (n as usize));
+        at + 3 + n as usize
+    } else {
+        decls_end(row, at + 3, n)
     }
-    decls_end(row, at + 3, n)
 }
 
 // The comprehension on the right of 107.
-pub(crate) fn membership_of(row: &[u32]) -> Membership
+pub(crate) fn membership_of(row: &[u32]) -> Option<Comprehension>
     requires { (f : Form) × (decode 64 pred row.now ≡ got f []) }
     ensures { SetTold row.now result }
 {
     if row[0] != Tag::IN {
-        return Membership::Not;
+        return None;
     }
     let at = expr_end(row, 1);
     if !is_set(row[at]) {
-        return Membership::Not;
+        return None;
     }
     let n = row[at + 2];
     let guard = guard_at(row, at, n);
-    let Step::End(value) = skip_pred(row, guard, 62) else {
-        return Membership::Not;
-    };
-    let set = Comprehension {
-        at: at,
-        n: n,
-        guard: guard,
-        value: value,
-    };
-    Membership::In(set)
+    let value = skip_pred(row, guard, 62)?;
+    Some(Comprehension {
+        at,
+        n,
+        guard,
+        value,
+    })
 }

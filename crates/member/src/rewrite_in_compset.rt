@@ -5,64 +5,70 @@ ghost use Rattle.form.specs.Answer.{told, written, finish};
 ghost use Rattle.shift.specs.Internal.Items.{Fresh};
 ghost use Rattle.rules.specs.Member.{member_of, member_outcome};
 ghost use Rattle.places.specs.Internal.Positions.{Cleared};
-ghost use Rattle.member.specs.Internal.Member.{Membering, SetIn, Unshifted};
+ghost use Rattle.member.specs.Internal.Member.{SetOf, MemberingOf, Unshifted};
 
 use crate::filling::fill_body;
-use crate::member::{Comprehension, Membership, membership_of};
+use crate::member::{Membership, membership_of};
 use crate::shares::write_body;
-use form::answer::{Answer, Kind, Limit};
-use form::head::Step;
+use form::answer::{Answer, Kind, Refusal};
 use reader::reader::pred_at;
+use replace::pieces::Source;
+use shift::marks::with_marks;
 
 // The membership in the row, whose body with the element not shifted stands at the start of the work row. It is marked so, since the
 // indices of a shifted element may be above the limit.
+#[tactic(auto, using(crate::proofs::BodyLaws::positions))]
 fn rewrite_body(
-    row: &[u32],
-    row_marks: &[u32],
-    set: Comprehension,
+    membership: &Membership,
     end: usize,
     marks: &mut [u32],
     work: &mut [u32],
     out: &mut [u32],
 ) -> Answer
-    requires { Membering row.now row_marks.now set (length work.old) × Unshifted row.now set end work.old × Cleared (take end work.old) marks.old × (end ≤ length work.old) }
-    ensures value { (x : SetIn row.now set) → result ≡ told (finish pred (length out.old) (member_of x.element x.decls x.guard x.value)) }
-    ensures out_after { (x : SetIn row.now set) → out.new ≡ written (finish pred (length out.old) (member_of x.element x.decls x.guard x.value)) out.old }
+    requires { MemberingOf membership.now (length work.old) × Unshifted membership.now.row.now membership.now.set end work.old × Cleared (take end work.old) marks.old × (end ≤ length work.old) }
+    ensures value { (x : SetOf membership.now) → result ≡ told (finish pred (length out.old) (member_of x.element x.decls x.guard x.value)) }
+    ensures out_after { (x : SetOf membership.now) → out.new ≡ written (finish pred (length out.old) (member_of x.element x.decls x.guard x.value)) out.old }
 {
-    let n = set.n;
-    let Step::End(e) = pred_at(&work[..end], marks, 0, 65, n) else {
-        return Answer::No(2, 0);
+    pred_at(&work[..end], marks, 0, 65, membership.set.n).ok_or(Refusal::Broken(0))?;
+    let written = write_body(membership, membership.set.n, work);
+    let source = Source {
+        table: &written.table,
+        list: membership.row,
+        list_marks: membership.marks,
+        row: &work[..written.end],
+        marks,
     };
-    let body = write_body(row, row_marks, set, n, work);
-    let table = body.table;
-    let stop = body.end;
-    fill_body(row, row_marks, set, table, &work[..stop], marks, out)
+    fill_body(membership.set, &source, out)
 }
 
-// The same, with marks for the body.
-fn rewrite_set(
-    row: &[u32],
-    row_marks: &[u32],
-    set: Comprehension,
+// The same, with N marks for the body, which lie in a frame of their own.
+#[inline(never)]
+fn rewrite_sized<const N: usize>(
+    membership: &Membership,
+    end: usize,
     work: &mut [u32],
     out: &mut [u32],
 ) -> Answer
-    requires { Membering row.now row_marks.now set (length work.old) }
-    ensures value { (x : SetIn row.now set) → result ≡ told (finish pred (length out.old) (member_of x.element x.decls x.guard x.value)) }
-    ensures out_after { (x : SetIn row.now set) → out.new ≡ written (finish pred (length out.old) (member_of x.element x.decls x.guard x.value)) out.old }
+    requires { MemberingOf membership.now (length work.old) × Unshifted membership.now.row.now membership.now.set end work.old × (end ≤ length work.old) × (end ≤ N) × (N ≤ 16384) }
+    ensures value { (x : SetOf membership.now) → result ≡ told (finish pred (length out.old) (member_of x.element x.decls x.guard x.value)) }
+    ensures out_after { (x : SetOf membership.now) → out.new ≡ written (finish pred (length out.old) (member_of x.element x.decls x.guard x.value)) out.old }
 {
-    let body = write_body(row, row_marks, set, 0, work);
-    let end = body.end;
-    if end <= 64 {
-        let mut marks = [0u32; 64];
-        return rewrite_body(row, row_marks, set, end, &mut marks, work, out);
+    let mut marks = [0u32; N];
+    rewrite_body(membership, end, &mut marks, work, out)
+}
+
+// The membership in the row, with marks for the body, as many as it needs.
+fn rewrite_set(membership: &Membership, work: &mut [u32], out: &mut [u32]) -> Answer
+    requires { MemberingOf membership.now (length work.old) }
+    ensures value { (x : SetOf membership.now) → result ≡ told (finish pred (length out.old) (member_of x.element x.decls x.guard x.value)) }
+    ensures out_after { (x : SetOf membership.now) → out.new ≡ written (finish pred (length out.old) (member_of x.element x.decls x.guard x.value)) out.old }
+{
+    let end = write_body(membership, 0, work).end;
+    match end {
+        0..=64 => rewrite_sized::<64>(membership, end, work, out),
+        65..=512 => rewrite_sized::<512>(membership, end, work, out),
+        _ => rewrite_sized::<16384>(membership, end, work, out),
     }
-    if end <= 512 {
-        let mut marks = [0u32; 512];
-        return rewrite_body(row, row_marks, set, end, &mut marks, work, out);
-    }
-    let mut marks = [0u32; 16384];
-    rewrite_body(row, row_marks, set, end, &mut marks, work, out)
 }
 
 // The membership in the row, with marks for the row.
@@ -71,14 +77,10 @@ fn rewrite_marked(row: &[u32], marks: &mut [u32], work: &mut [u32], out: &mut [u
     ensures value { result ≡ told (member_outcome row.now (length work.old) (length out.old)) }
     ensures out_after { out.new ≡ written (member_outcome row.now (length work.old) (length out.old)) out.old }
 {
-    let checked = reader::check::mark(row, Kind::Predicate, marks);
-    let Answer::Done(k) = checked else {
-        return checked;
-    };
-    let Membership::In(set) = membership_of(row) else {
-        return Answer::No(9, 0);
-    };
-    rewrite_set(row, marks, set, &mut work[..16384], out)
+    reader::check::mark(row, Kind::Predicate, marks)?;
+    let set = membership_of(row).ok_or(Refusal::NothingToRewrite)?;
+    let membership = Membership { row, marks, set };
+    rewrite_set(&membership, &mut work[..16384], out)
 }
 
 // The membership in the row as an existence.
@@ -87,19 +89,9 @@ pub fn rewrite_in_compset(row: &[u32], work: &mut [u32], out: &mut [u32]) -> Ans
     ensures out_after { out.new ≡ written (member_outcome row.now (length work.old) (length out.old)) out.old }
 {
     if work.len() < 16384 {
-        return Answer::No(15, 0);
+        return Err(Refusal::WorkTooShort);
     }
-    if Limit::WORDS < row.len() {
-        return Answer::No(1, 0);
-    }
-    if row.len() <= 64 {
-        let mut marks = [0u32; 64];
-        return rewrite_marked(row, &mut marks, work, out);
-    }
-    if row.len() <= 512 {
-        let mut marks = [0u32; 512];
-        return rewrite_marked(row, &mut marks, work, out);
-    }
-    let mut marks = [0u32; 8192];
-    rewrite_marked(row, &mut marks, work, out)
+    with_marks(row, out, |marks, out| rewrite_marked(row, marks, work, out)).unwrap_or(Err(
+        Refusal::TooLong,
+    ))
 }

@@ -5,16 +5,16 @@ ghost use Rattle.rules.specs.Partial.{no_places};
 ghost use Rattle.places.specs.Internal.Sides.{index_words};
 ghost use Rattle.places.specs.Internal.Wrote.{Wrote};
 ghost use Rattle.places.specs.Internal.Positions.{Within, parts_at};
-ghost use Rattle.member.specs.Internal.Member.{share, no_table, with_place, spot_in, shifted_words, Shared, Sharing, SetIn, BodyTold, Membering};
+ghost use Rattle.member.specs.Internal.Member.{share, no_table, with_place, spot_in, shifted_words, Shared, Sharing, SetOf, BodyTold, MemberingOf};
 
-use crate::member::Comprehension;
+use crate::member::Membership;
 use places::positions::{both_pairs, part_at};
-use places::sides::{Index, Sides, index_at};
+use places::sides::{Sides, index_at};
 use reader::lists::Table;
 use replace::tables::{put_lifted, put_words};
 use tree::tag::Tag;
 
-// The places, where the written equalities end, and how many there are.
+// The places, where what is written ends, and how many equalities were left.
 #[derive(Clone, Copy)]
 pub struct Offers {
     pub table: Table,
@@ -22,58 +22,39 @@ pub struct Offers {
     pub count: u32,
 }
 
-// The places, and where the body ends.
-#[derive(Clone, Copy)]
-pub struct Body {
-    pub table: Table,
-    pub end: usize,
-}
-
 // Places for n declarations, all free.
+#[tactic(auto, unfolding(reader::specs::Internal::Reads::empty_table))]
 fn no_table(n: usize) -> Table
     ensures { result ≡ no_table n }
 {
-    let words = [0u32; Table::LIMIT];
-    let at = [0usize; Table::LIMIT];
-    Table {
-        words: words,
-        starts: at,
-        ends: at,
-        n: n,
-    }
+    Table { n, ..Table::new() }
 }
 
 // The place filled by the part from `start` to `end`.
-pub(crate) fn with_place(table: Table, place: usize, start: usize, end: usize) -> Table
+pub(crate) fn fill_place(table: &mut Table, place: usize, start: usize, end: usize)
     requires { place < 32 }
-    ensures { result ≡ with_place table place start end }
+    ensures { table.new ≡ with_place table.old place start end }
 {
-    let mut t = table;
-    t.words[place] = 1;
-    t.starts[place] = start;
-    t.ends[place] = end;
-    t
+    table.words[place] = 1;
+    table.starts[place] = start;
+    table.ends[place] = end;
 }
 
-// The free place whose index stands at `at`; the number of places where there is none.
-fn spot_in(row: &[u32], at: usize, table: Table) -> usize
-    requires { table.n ≤ 32 }
-    ensures { result ≡ spot_in table (index_words (drop at row.now)) }
+// The free place whose index stands at `at`.
+fn spot_in(row: &[u32], at: usize, table: &Table) -> Option<usize>
+    requires { table.now.n ≤ 32 }
+    ensures { result ≡ spot_in table.now (index_words (drop at row.now)) }
 {
-    let n = table.n;
-    let Index::Bound(i) = index_at(row, at) else {
-        return n;
-    };
-    let index = i as usize;
-    if n <= index {
-        return n;
+    let index = index_at(row, at)? as usize;
+    if table.n <= index {
+        return None;
     }
-    let place = n - 1 - index;
-    let words = table.words;
-    if words[place] != 0 {
-        return n;
+    let place = table.n - 1 - index;
+    if table.words[place] == 0 {
+        Some(place)
+    } else {
+        None
     }
-    place
 }
 
 // A part written as an equality, its right side shifted up.
@@ -127,52 +108,42 @@ fn offer_parts(
             continue;
         }
         let part = part_at(row, p, q);
-        let place = spot_in(row, part.left, table);
         p = part.middle;
         q = part.end;
         todo -= 1;
-        if place < n {
-            table = with_place(table, place, part.right, part.end);
+        let Some(place) = spot_in(row, part.left, &table) else {
+            w = write_shifted(row, marks, part, up, out, w);
+            count += 1;
             continue;
-        }
-        w = write_shifted(row, marks, part, up, out, w);
-        count += 1;
+        };
+        fill_place(&mut table, place, part.right, part.end);
     }
     Offers {
-        table: table,
+        table,
         end: w,
-        count: count,
+        count,
     }
 }
 
 // The guard and the equalities that are left, the element shifted up, at the start of the output row.
-pub(crate) fn write_body(
-    row: &[u32],
-    marks: &[u32],
-    set: Comprehension,
-    up: u32,
-    out: &mut [u32],
-) -> Body
-    requires { Membering row.now marks.now set (length out.old) × (up ≤ 32) }
-    ensures { (x : SetIn row.now set) → BodyTold row.now marks.now set.n up x.guard out.old (share set.n (parts x.value x.element) (no_places set.n)) result.table result.end out.new }
+#[tactic(auto, using(crate::proofs::BodyLaws::positions))]
+pub(crate) fn write_body(membership: &Membership, up: u32, out: &mut [u32]) -> Offers
+    requires { MemberingOf membership.now (length out.old) × (up ≤ 32) }
+    ensures { (x : SetOf membership.now) → BodyTold membership.now.row.now membership.now.marks.now membership.now.set.n up x.guard out.old (share membership.now.set.n (parts x.value x.element) (no_places membership.now.set.n)) result.table result.end out.new }
 {
-    let guard = set.guard;
-    let value = set.value;
-    let long = value - guard;
-    put_words(&row[guard..value], out, 2);
-    let o = offer_parts(row, marks, value, 1, set.n as usize, up, out, 2 + long);
-    let table = o.table;
-    if o.count == 0 {
-        put_words(&row[guard..value], out, 0);
-        return Body {
-            table: table,
+    let Membership { row, marks, set } = *membership;
+    let guard = &row[set.guard..set.value];
+    let long = set.value - set.guard;
+    put_words(guard, out, 2);
+    let offers = offer_parts(row, marks, set.value, 1, set.n as usize, up, out, 2 + long);
+    if offers.count == 0 {
+        put_words(guard, out, 0);
+        return Offers {
             end: long,
+            ..offers
         };
     }
     out[0] = Tag::AND;
-    out[1] = o.count + 1;
-    Body {
-        table: table,
-        end: o.end,
-    }
+    out[1] = offers.count + 1;
+    offers
 }

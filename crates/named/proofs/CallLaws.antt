@@ -11,11 +11,9 @@ use Rattle.tree.specs.Form.{Form, pick, encode}
 use Rattle.tree.specs.Tag.{Sort}
 use Rattle.form.specs.Decode.{Got, got, no-form, decode, Whole, one, not-one, whole, row_form, found, missing, as_sort, only_names, form_of, index_free}
 use Rattle.form.specs.Break.{break_at}
-use Rattle.form.specs.Answer.{answer, stop, refusal, told, written, finish}
-use Rattle.form.specs.declared.answer.Answer.TheVariants.{Done}
+use Rattle.form.specs.Answer.{answer, stop, told, written, finish}
+use Rattle.std.specs.Prelude.{Ok, Some, None, Option}
 use Rattle.form.specs.declared.answer.Kind.TheVariants.{Named}
-use Rattle.form.specs.declared.head.Step.{Step}
-use Rattle.form.specs.declared.head.Step.TheVariants.{End, Bad}
 use Rattle.rules.specs.Named.{nameless, named_outcome}
 use Rattle.reader.specs.Internal.Reads.{as_expr}
 use Rattle.shift.specs.Internal.Items.{store}
@@ -26,6 +24,7 @@ use Rattle.rules.proofs.NamedLaws.{nameless-length, nameless-limits}
 use Rattle.reader.proofs.CheckLaws.{form-of}
 use Rattle.shift.proofs.ItemLaws.{stored}
 use Rattle.named.proofs.WroteLaws.{wrote-end, wrote-bad}
+use Rattle.form.specs.declared.answer.Refusal.TheVariants.{TooLong, OutputTooShort, Broken}
 
 -- with nothing open, the slots are empty
 zeros-get : (n i : ℕ) → ◌≡◌ {A = ℕ} (get_or (replicate n 0) i 0) 0
@@ -51,11 +50,11 @@ indexless-read (got g y) f x e = go (index_free g) refl e
     go true q e = let z : g ≡ f = cc in (e, rw z at q)
     go false q e = absurd (clash cc)
 
-module _ (row : List ℕ) (room : ℕ) (h : length row ≤ 8192) (b : Bool) (k : b ≡ as_expr Named row) (a made : List ℕ) (r : Step) (t : Wrote 0 [] (read_names 64 (sort_of b) row) a made r) where
+module _ (row : List ℕ) (room : ℕ) (h : length row ≤ 8192) (b : Bool) (k : b ≡ as_expr Named row) (a made : List ℕ) (r : Option ℕ) (t : Wrote 0 [] (read_names 64 (sort_of b) row) a made r) where
   abbrev s : Sort
   s = sort_of b
 
-  no-form-named : form_of Named row ≡ missing → named_outcome row room ≡ stop 2 (break_at Named row)
+  no-form-named : form_of Named row ≡ missing → named_outcome row room ≡ stop (Broken (break_at Named row))
   unfolding named_outcome
   no-form-named e = rw (le-leb (length row) 8192 h, e)
 
@@ -72,11 +71,11 @@ module _ (row : List ℕ) (room : ℕ) (h : length row ≤ 8192) (b : Bool) (k :
       go true e = absurd (clash cc)
       go false e = refl
 
-  pub named-bad : r ≡ Bad → named_outcome row room ≡ stop 2 (break_at Named row)
+  pub named-bad : r ≡ None → named_outcome row room ≡ stop (Broken (break_at Named row))
   unfolding read_names
   named-bad e = no-form-named (by_whole (whole (decode 64 s row)) refl ∙ bad-whole (decode 64 s row) refl (wrote-bad 0 [] (read_names 64 s row) a made r t e))
 
-  module _ (p : ℕ) (e : r ≡ End p) where
+  module _ (p : ℕ) (e : r ≡ Some p) where
     abbrev f : Form
     f = (wrote-end 0 [] (read_names 64 s row) a made r p t e).0
 
@@ -93,7 +92,7 @@ module _ (row : List ℕ) (room : ℕ) (h : length row ≤ 8192) (b : Bool) (k :
     row_is : length row ≡ length (encode f) + length x
     row_is = ap length (decode-sound 64 s row f x was.0).0 ∙ length-append (encode f) x
 
-    pub named-part : (p ≡ length row → ⊥) → named_outcome row room ≡ stop 2 (break_at Named row)
+    pub named-part : (p ≡ length row → ⊥) → named_outcome row room ≡ stop (Broken (break_at Named row))
     named-part ne = no-form-named (go x was.0 (λ z. let q = row_is in let i = end_is in ne (omega arith)))
       where
         go : (y : List ℕ) → decode 64 s row ≡ got f y → (length y ≡ 0 → ⊥) → form_of Named row ≡ missing
@@ -118,12 +117,12 @@ module _ (row : List ℕ) (room : ℕ) (h : length row ≤ 8192) (b : Bool) (k :
     long : length (encode (nameless [] f)) ≡ p
     long = nameless-length [] f ∙ sym end_is
 
-    pub named-short : p ≡ length row → room < p → named_outcome row room ≡ refusal 14
+    pub named-short : p ≡ length row → room < p → named_outcome row room ≡ stop OutputTooShort
     unfolding finish
     named-short q l = there q ∙ rw (nameless-limits s row f (is_one q), long, lt-leb p room l)
 
     pub named-done : p ≡ length row → p ≤ room → length row ≤ length a → (out : List ℕ) → length out ≡ room
-        → (Done p ≡ told (named_outcome row room)) × (store out 0 (take (p - 0) made) ≡ written (named_outcome row room) out)
+        → (Ok p ≡ told (named_outcome row room)) × (store out 0 (take (p - 0) made) ≡ written (named_outcome row room) out)
     unfolding finish
     named-done q l n out o =
         let words = encode (nameless [] f) in
@@ -132,8 +131,8 @@ module _ (row : List ℕ) (room : ℕ) (h : length row ≤ 8192) (b : Bool) (k :
         let m : made ≡ words ++ drop (length words) a = (wrote-end 0 [] (read_names 64 s row) a made r p t e).4 ∙ stored a words (omega arith) in
         let z : length words ≡ p - 0 = omega arith in
         let c : take (p - 0) made ≡ words = ap (λ l. take (p - 0) l) m ∙ take_at words (drop (length words) a) (p - 0) z in
-        (rw is (ap Done (sym long)), rw (is, c) (stored out words (omega arith)))
+        (rw is (ap Ok (sym long)), rw (is, c) (stored out words (omega arith)))
 
-pub named-long : (row : List ℕ) (room : ℕ) → 8192 < length row → named_outcome row room ≡ refusal 1
+pub named-long : (row : List ℕ) (room : ℕ) → 8192 < length row → named_outcome row room ≡ stop TooLong
 unfolding named_outcome
 named-long row room h = rw (lt-leb (length row) 8192 h)

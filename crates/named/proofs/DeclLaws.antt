@@ -10,9 +10,6 @@ use Rattle.tree.specs.Form.{Form, Decls, undeclared, bare, typed, names_of, pick
 use Rattle.tree.specs.Tag.{Sort, expr}
 use Rattle.form.specs.Decode.{Got, got, no-form, Gots, gots, no-forms, GotDecl, got_bare, got_typed, no-decl, GotDecls, declared, no-decls, note_of, by_flag, decl_at, add_bare, add_typed, add_decl, decls, decode, index_free_decls}
 use Rattle.form.specs.Internal.Heads.{word_at}
-use Rattle.form.specs.declared.head.Step.{Step}
-use Rattle.form.specs.declared.head.Step.TheVariants.{End, Bad}
-use Rattle.form.specs.declared.head.Word.TheVariants.{Is, Not}
 use Rattle.rules.specs.Named.{opened, nameless, nameless_decls, nameless_all}
 use Rattle.shift.specs.Internal.Items.{store}
 use Rattle.named.specs.Internal.Reads.{read_names, Wrote, WroteAll, WroteDecl, WroteDecls, WroteUnder, WroteNoted}
@@ -23,12 +20,13 @@ use Rattle.reader.proofs.DeclReads.{no_name, no_flag, decl-words, flag_one, none
 use Rattle.shift.proofs.ItemLaws.{store-append}
 use Rattle.named.proofs.ReadLaws.{indexless_decl, indexless_decls, decl-indexless, flag-indexless, decls-indexless}
 use Rattle.named.proofs.WroteLaws.{names_at}
+use Rattle.std.specs.Prelude.{Some, None, Option}
 
 -- the names of declarations that are kept in a row of their own: with one more in front
 name-front : (c : List ℕ) (i w : ℕ) (ns : List ℕ) → i < length c → get_or c i 0 ≡ w → take (length ns) (drop (i + 1) c) ≡ ns → take (suc (length ns)) (drop i c) ≡ w ∷ ns
 name-front c i w ns h e k = rw (here c i h, e, k) refl
 
-two-words : (row : List ℕ) (p w x : ℕ) → word_at 0 65535 (drop p row) ≡ Is w → word_at 0 1 (drop (p + 1) row) ≡ Is x → take (p + 2 - p) (drop p row) ≡ w ∷ x ∷ []
+two-words : (row : List ℕ) (p w x : ℕ) → word_at 0 65535 (drop p row) ≡ Some w → word_at 0 1 (drop (p + 1) row) ≡ Some x → take (p + 2 - p) (drop p row) ≡ w ∷ x ∷ []
 two-words row p w x e f =
     let (ws, q, k) = word-is 0 65535 (drop p row) w e in
     let (vs, r, j) = word-is 0 1 (drop (p + 1) row) x f in
@@ -51,27 +49,27 @@ module _ (d : ℕ) (row S : List ℕ) where
   N s l = read_names d s l
 
   -- one declaration
-  bad-decl : (p : ℕ) (g : GotDecl) (a b : List ℕ) → g ≡ no-decl → WroteDecl p S g a b Bad
+  bad-decl : (p : ℕ) (g : GotDecl) (a b : List ℕ) → g ≡ no-decl → WroteDecl p S g a b None
   unfolding WroteDecl
   bad-decl p g a b e = rw e refl
 
-  pub decl-no-name : (p : ℕ) (a b : List ℕ) → word_at 0 65535 (drop p row) ≡ Not → WroteDecl p S (decl_at N (drop p row)) a b Bad
+  pub decl-no-name : (p : ℕ) (a b : List ℕ) → word_at 0 65535 (drop p row) ≡ None → WroteDecl p S (decl_at N (drop p row)) a b None
   decl-no-name p a b e = bad-decl p _ a b (decl-indexless d (drop p row) ∙ ap indexless_decl (no_name d row 0 (drop p row) e))
 
-  pub decl-no-flag : (p w : ℕ) (a b : List ℕ) → word_at 0 65535 (drop p row) ≡ Is w → word_at 0 1 (drop (p + 1) row) ≡ Not → WroteDecl p S (decl_at N (drop p row)) a b Bad
+  pub decl-no-flag : (p w : ℕ) (a b : List ℕ) → word_at 0 65535 (drop p row) ≡ Some w → word_at 0 1 (drop (p + 1) row) ≡ None → WroteDecl p S (decl_at N (drop p row)) a b None
   decl-no-flag p w a b e f =
       let (ws, q, k) = word-is 0 65535 (drop p row) w e in
       let none : decl_at (λ s l. decode d s l) (drop p row) ≡ no-decl = rw q (no_flag d row 0 w ws (rw (next-drop row p w ws q) f)) in
       bad-decl p _ a b (decl-indexless d (drop p row) ∙ ap indexless_decl none)
 
-  module _ (p w x : ℕ) (a a₁ : List ℕ) (name : word_at 0 65535 (drop p row) ≡ Is w) (flag : word_at 0 1 (drop (p + 1) row) ≡ Is x) (made : a₁ ≡ store a p (take (p + 2 - p) (drop p row))) where
+  module _ (p w x : ℕ) (a a₁ : List ℕ) (name : word_at 0 65535 (drop p row) ≡ Some w) (flag : word_at 0 1 (drop (p + 1) row) ≡ Some x) (made : a₁ ≡ store a p (take (p + 2 - p) (drop p row))) where
     made-is : a₁ ≡ store a p (w ∷ x ∷ [])
     made-is = rw (two-words row p w x name flag) at made
 
     decl-here : decl_at N (drop p row) ≡ by_flag N w x (drop (p + 2) row)
     decl-here = decl-indexless d (drop p row) ∙ (ap indexless_decl (decl-words d row 0 p w x name flag) ∙ sym (flag-indexless d w x (drop (p + 2) row)))
 
-    pub decl-bare : x ≡ 0 → WroteDecl p S (decl_at N (drop p row)) a a₁ (End (p + 2))
+    pub decl-bare : x ≡ 0 → WroteDecl p S (decl_at N (drop p row)) a a₁ (Some (p + 2))
     unfolding WroteDecl
     decl-bare z = rw (decl-here, z) (refl, made-is ∙ ap (λ j. store a p (w ∷ j ∷ [])) z)
 
@@ -80,12 +78,12 @@ module _ (d : ℕ) (row S : List ℕ) where
         let (vs, q, j) = word-is 0 1 (drop (p + 1) row) x flag in
         flag_one d row 0 w x vs (rw q at flag) ne
 
-    note-wrote : (g : Got) (b : List ℕ) (r : Step) → a₁ ≡ store a p (w ∷ 1 ∷ []) → Wrote (p + 2) S g a₁ b r → WroteDecl p S (note_of w g) a b r
+    note-wrote : (g : Got) (b : List ℕ) (r : Option ℕ) → a₁ ≡ store a p (w ∷ 1 ∷ []) → Wrote (p + 2) S g a₁ b r → WroteDecl p S (note_of w g) a b r
     unfolding WroteDecl Wrote
     note-wrote (got f l) b r u t = (t.0, t.1 ∙ (ap (λ j. store j (p + 2) (encode (nameless S f))) u ∙ sym (store-append a p (w ∷ 1 ∷ []) (encode (nameless S f)))))
     note-wrote no-form b r u t = t
 
-    pub decl-typed : (x ≡ 0 → ⊥) → (b : List ℕ) (r : Step) → Wrote (p + 2) S (N expr (drop (p + 2) row)) a₁ b r → WroteDecl p S (decl_at N (drop p row)) a b r
+    pub decl-typed : (x ≡ 0 → ⊥) → (b : List ℕ) (r : Option ℕ) → Wrote (p + 2) S (N expr (drop (p + 2) row)) a₁ b r → WroteDecl p S (decl_at N (drop p row)) a b r
     decl-typed ne b r t =
         let z = flag_is ne in
         rw (decl-here, z) (note-wrote (N expr (drop (p + 2) row)) b r (made-is ∙ ap (λ j. store a p (w ∷ j ∷ [])) z) t)
@@ -134,7 +132,7 @@ module _ (d : ℕ) (row S : List ℕ) where
       let f = here row p h in
       (i ∙ ap (λ n. drop n row) j, cc, h)
 
-  pub decl-rises : (p q : ℕ) (a b : List ℕ) (r : Step) → WroteDecl p S (decl_at N (drop p row)) a b r → r ≡ End q → (p < length row) × (p + 2 ≤ q)
+  pub decl-rises : (p q : ℕ) (a b : List ℕ) (r : Option ℕ) → WroteDecl p S (decl_at N (drop p row)) a b r → r ≡ Some q → (p < length row) × (p + 2 ≤ q)
   unfolding WroteDecl
   decl-rises p q a b r t e = go (decl_at N (drop p row)) refl t
     where
@@ -147,39 +145,39 @@ module _ (d : ℕ) (row S : List ℕ) where
       go no-decl i t = absurd (clash cc)
 
   -- several
-  bad-decls : (p : ℕ) (g : GotDecls) (a b c : List ℕ) → g ≡ no-decls → WroteDecls p S g a b c Bad
+  bad-decls : (p : ℕ) (g : GotDecls) (a b c : List ℕ) → g ≡ no-decls → WroteDecls p S g a b c None
   unfolding WroteDecls
   bad-decls p g a b c e = rw e refl
 
-  decl-bad : (p : ℕ) (g : GotDecl) (a b : List ℕ) (r : Step) → WroteDecl p S g a b r → r ≡ Bad → g ≡ no-decl
+  decl-bad : (p : ℕ) (g : GotDecl) (a b : List ℕ) (r : Option ℕ) → WroteDecl p S g a b r → r ≡ None → g ≡ no-decl
   unfolding WroteDecl
   decl-bad p (got_bare w x) a b r t e = let z = t.0 in absurd (clash cc)
   decl-bad p (got_typed w f x) a b r t e = let z = t.0 in absurd (clash cc)
   decl-bad p no-decl a b r t e = refl
 
-  pub decls-none : (n p : ℕ) (a c : List ℕ) → n ≤ 0 → WroteDecls p S (decls N n (drop p row)) a a c (End p)
+  pub decls-none : (n p : ℕ) (a c : List ℕ) → n ≤ 0 → WroteDecls p S (decls N n (drop p row)) a a c (Some p)
   unfolding decls WroteDecls encode nameless store
-  decls-none zero p a c h = (ap End (omega arith), refl, nothing c)
+  decls-none zero p a c h = (ap Some (omega arith), refl, nothing c)
     where
       nothing : (c : List ℕ) → take 0 c ≡ []
       nothing [] = refl
       nothing (x ∷ c) = refl
   decls-none (suc n) p a c h = absurd (omega arith)
 
-  pub decls-stop : (n p : ℕ) (a a' b c : List ℕ) (r : Step) → 0 < n → WroteDecl p S (decl_at N (drop p row)) a a' r → r ≡ Bad → WroteDecls p S (decls N n (drop p row)) a b c Bad
+  pub decls-stop : (n p : ℕ) (a a' b c : List ℕ) (r : Option ℕ) → 0 < n → WroteDecl p S (decl_at N (drop p row)) a a' r → r ≡ None → WroteDecls p S (decls N n (drop p row)) a b c None
   unfolding decls
   decls-stop zero p a a' b c r h t e = absurd (omega arith)
   decls-stop (suc n) p a a' b c r h t e = bad-decls p _ a b c (rw (decl-bad p (decl_at N (drop p row)) a a' r t e) refl)
 
   -- one declaration in front of others, whose names stand from i + 1 on
-  put-bare : (p w i : ℕ) (g : GotDecls) (a b c : List ℕ) (r : Step) → i < length c → get_or c i 0 ≡ w → WroteDecls (p + 2) S g (store a p (w ∷ 0 ∷ [])) b (drop (i + 1) c) r
+  put-bare : (p w i : ℕ) (g : GotDecls) (a b c : List ℕ) (r : Option ℕ) → i < length c → get_or c i 0 ≡ w → WroteDecls (p + 2) S g (store a p (w ∷ 0 ∷ [])) b (drop (i + 1) c) r
       → WroteDecls p S (add_bare w g) a b (drop i c) r
   unfolding WroteDecls encode nameless
   put-bare p w i (declared ds y) a b c r h e t =
-      (t.0 ∙ ap End (omega arith), t.1 ∙ sym (store-append a p (w ∷ 0 ∷ []) (encode_decls (nameless_decls S ds))), name-front c i w (names_of ds) h e t.2)
+      (t.0 ∙ ap Some (omega arith), t.1 ∙ sym (store-append a p (w ∷ 0 ∷ []) (encode_decls (nameless_decls S ds))), name-front c i w (names_of ds) h e t.2)
   put-bare p w i no-decls a b c r h e t = t
 
-  put_typed : (p w i : ℕ) (f : Form) (g : GotDecls) (a b c : List ℕ) (r : Step) → i < length c → get_or c i 0 ≡ w
+  put_typed : (p w i : ℕ) (f : Form) (g : GotDecls) (a b c : List ℕ) (r : Option ℕ) → i < length c → get_or c i 0 ≡ w
       → WroteDecls (p + 2 + length (encode f)) S g (store a p (w ∷ 1 ∷ encode (nameless S f))) b (drop (i + 1) c) r → WroteDecls p S (add_typed w f g) a b (drop i c) r
   unfolding WroteDecls encode nameless
   put_typed p w i f (declared ds y) a b c r h e t =
@@ -189,11 +187,11 @@ module _ (d : ℕ) (row S : List ℕ) where
       let z : p + suc (suc (length words)) ≡ p + 2 + length (encode f) = omega arith in
       let both : store a p (w ∷ 1 ∷ (words ++ rest)) ≡ store (store a p (w ∷ 1 ∷ words)) (p + 2 + length (encode f)) rest =
       store-append a p (w ∷ 1 ∷ words) rest ∙ ap (λ n. store (store a p (w ∷ 1 ∷ words)) n rest) z in
-      (t.0 ∙ ap End (rw length-append (omega arith)), t.1 ∙ sym both, name-front c i w (names_of ds) h e t.2)
+      (t.0 ∙ ap Some (rw length-append (omega arith)), t.1 ∙ sym both, name-front c i w (names_of ds) h e t.2)
   put_typed p w i f no-decls a b c r h e t = t
 
-  add-decls : (p q i : ℕ) (g : GotDecl) (k : List ℕ → GotDecls) (a a' : List ℕ) (r : Step) → decl_at N (drop p row) ≡ g → WroteDecl p S g a a' r → r ≡ End q
-      → (b c : List ℕ) (r' : Step) → i < length c → get_or c i 0 ≡ get_or row p 0 → WroteDecls q S (k (drop q row)) a' b (drop (i + 1) c) r' → WroteDecls p S (add_decl g k) a b (drop i c) r'
+  add-decls : (p q i : ℕ) (g : GotDecl) (k : List ℕ → GotDecls) (a a' : List ℕ) (r : Option ℕ) → decl_at N (drop p row) ≡ g → WroteDecl p S g a a' r → r ≡ Some q
+      → (b c : List ℕ) (r' : Option ℕ) → i < length c → get_or c i 0 ≡ get_or row p 0 → WroteDecls q S (k (drop q row)) a' b (drop (i + 1) c) r' → WroteDecls p S (add_decl g k) a b (drop i c) r'
   unfolding WroteDecl
   add-decls p q i (got_bare w x) k a a' r o t e b c r' h n u =
       let z : q ≡ p + 2 = cc t.0 in
@@ -208,8 +206,8 @@ module _ (d : ℕ) (row S : List ℕ) where
       rw s (put_typed p w i f (k (drop (p + 2 + length (encode f)) row)) a b c r' h (n ∙ v) (rw (z, t.1) at u))
   add-decls p q i no-decl k a a' r o t e b c r' h n u = absurd (clash cc)
 
-  pub decls-more : (n p q i : ℕ) (a a' : List ℕ) (r : Step) → 0 < n → WroteDecl p S (decl_at N (drop p row)) a a' r → r ≡ End q
-      → (b c : List ℕ) (r' : Step) → i < length c → get_or c i 0 ≡ get_or row p 0 → WroteDecls q S (decls N (n - 1) (drop q row)) a' b (drop (i + 1) c) r' → WroteDecls p S (decls N n (drop p row)) a b (drop i c) r'
+  pub decls-more : (n p q i : ℕ) (a a' : List ℕ) (r : Option ℕ) → 0 < n → WroteDecl p S (decl_at N (drop p row)) a a' r → r ≡ Some q
+      → (b c : List ℕ) (r' : Option ℕ) → i < length c → get_or c i 0 ≡ get_or row p 0 → WroteDecls q S (decls N (n - 1) (drop q row)) a' b (drop (i + 1) c) r' → WroteDecls p S (decls N n (drop p row)) a b (drop i c) r'
   unfolding decls
   decls-more zero p q i a a' r h t e b c r' l m k = absurd (omega arith)
   decls-more (suc n) p q i a a' r h t e b c r' l m k = add-decls p q i (decl_at N (drop p row)) (λ x. decls N n x) a a' r refl t e b c r' l m (rw sub-one at k)
@@ -223,7 +221,7 @@ module _ (d : ℕ) (row S : List ℕ) where
       go true e = e
       go false e = absurd (clash cc)
 
-  pub decls-rise : (p q n : ℕ) (a b c : List ℕ) (r : Step) → p ≤ length row → WroteDecls p S (decls N n (drop p row)) a b c r → r ≡ End q → (p + 2 * n ≤ q) × (q ≤ length row)
+  pub decls-rise : (p q n : ℕ) (a b c : List ℕ) (r : Option ℕ) → p ≤ length row → WroteDecls p S (decls N n (drop p row)) a b c r → r ≡ Some q → (p + 2 * n ≤ q) × (q ≤ length row)
   unfolding WroteDecls
   decls-rise p q n a b c r h t e = go (decls N n (drop p row)) refl t
     where
@@ -237,35 +235,35 @@ module _ (d : ℕ) (row S : List ℕ) where
           (omega arith, omega arith)
       go no-decls i t = absurd (clash cc)
 
-  module _ (p n : ℕ) (k : List ℕ → Gots) (a a' b c : List ℕ) (r : Step) (t : WroteDecls p S (decls N n (drop p row)) a a' c r) where
-    pub noted-stop : r ≡ Bad → WroteNoted p S (decls N n (drop p row)) k a b Bad
+  module _ (p n : ℕ) (k : List ℕ → Gots) (a a' b c : List ℕ) (r : Option ℕ) (t : WroteDecls p S (decls N n (drop p row)) a a' c r) where
+    pub noted-stop : r ≡ None → WroteNoted p S (decls N n (drop p row)) k a b None
     unfolding WroteNoted WroteDecls
     noted-stop e = go (decls N n (drop p row)) t
       where
-        go : (g : GotDecls) → WroteDecls p S g a a' c r → WroteNoted p S g k a b Bad
+        go : (g : GotDecls) → WroteDecls p S g a a' c r → WroteNoted p S g k a b None
         go (declared ds x) t = let z = t.0 in absurd (clash cc)
         go no-decls t = refl
 
-    pub noted-bare : (q : ℕ) → r ≡ End q → q - p ≡ 2 * n → WroteNoted p S (decls N n (drop p row)) k a b Bad
+    pub noted-bare : (q : ℕ) → r ≡ Some q → q - p ≡ 2 * n → WroteNoted p S (decls N n (drop p row)) k a b None
     unfolding WroteNoted WroteDecls
     noted-bare q e l = go (decls N n (drop p row)) refl t
       where
-        go : (g : GotDecls) → decls N n (drop p row) ≡ g → WroteDecls p S g a a' c r → WroteNoted p S g k a b Bad
+        go : (g : GotDecls) → decls N n (drop p row) ≡ g → WroteDecls p S g a a' c r → WroteNoted p S g k a b None
         go (declared ds x) i t =
             let z : q ≡ p + length (encode_decls ds) = cc t.0 in
             let (u, v, w) = decls-sound d n (drop p row) ds x (indexless-decls (decls (λ s l. decode d s l) n (drop p row)) ds x (sym (decls-indexless d n (drop p row)) ∙ i)) in
             rw (none-typed ds (omega arith)) refl
         go no-decls i t = refl
 
-    under-go : (ds : Decls) (q : ℕ) (g : Gots) (r' : Step) → q ≡ p + length (encode_decls ds) → a' ≡ store a p (encode_decls (nameless_decls S ds)) → WroteAll q (opened (names_of ds) S) g a' b r' → WroteUnder p S ds g a b r'
+    under-go : (ds : Decls) (q : ℕ) (g : Gots) (r' : Option ℕ) → q ≡ p + length (encode_decls ds) → a' ≡ store a p (encode_decls (nameless_decls S ds)) → WroteAll q (opened (names_of ds) S) g a' b r' → WroteUnder p S ds g a b r'
     unfolding WroteUnder WroteAll
     under-go ds q (gots fs x) r' e m h =
         let l = nameless-length_decls S ds in
         let z : p + length (encode_decls (nameless_decls S ds)) ≡ q = omega arith in
-        (h.0 ∙ ap End (omega arith), h.1 ∙ sym (store-append a p (encode_decls (nameless_decls S ds)) (encode_all (nameless_all (opened (names_of ds) S) fs)) ∙ rw (m, z) refl))
+        (h.0 ∙ ap Some (omega arith), h.1 ∙ sym (store-append a p (encode_decls (nameless_decls S ds)) (encode_all (nameless_all (opened (names_of ds) S) fs)) ∙ rw (m, z) refl))
     under-go ds q no-forms r' e m h = h
 
-    pub noted_go : (q : ℕ) (r' : Step) → r ≡ End q → (q - p ≡ 2 * n → ⊥) → WroteAll q (opened (take n c) S) (k (drop q row)) a' b r' → WroteNoted p S (decls N n (drop p row)) k a b r'
+    pub noted_go : (q : ℕ) (r' : Option ℕ) → r ≡ Some q → (q - p ≡ 2 * n → ⊥) → WroteAll q (opened (take n c) S) (k (drop q row)) a' b r' → WroteNoted p S (decls N n (drop p row)) k a b r'
     unfolding WroteNoted WroteDecls
     noted_go q r' e l h = go (decls N n (drop p row)) refl t
       where

@@ -11,10 +11,8 @@ use Rattle.tree.specs.Form.{Decls, names_of, any_typed, pick, encode, encode_dec
 use Rattle.tree.specs.Tag.{Sort, own, sorts}
 use Rattle.form.specs.Decode.{Head, head, flagged, bad, read, Got, no-form, Gots, gots, no-forms, GotDecls, declared, no-decls, decode_all, decls, is_leaf, close, close_noted, with_decls, branch, decode}
 use Rattle.form.specs.Internal.Heads.{head_at}
-use Rattle.form.specs.declared.head.Step.{Step}
-use Rattle.form.specs.declared.head.Step.TheVariants.{End, Bad}
 use Rattle.form.specs.declared.head.Head as code
-use Rattle.form.specs.declared.head.Head.TheVariants.{Kids, Noted, None}
+use Rattle.form.specs.declared.head.Head.TheVariants.{Kids, Noted}
 use Rattle.rules.specs.Named.{opened, nameless, nameless_all, nameless_decls}
 use Rattle.shift.specs.Internal.Items.{store}
 use Rattle.named.specs.Internal.Reads.{indexless, read_names, Wrote, WroteAll, WroteUnder, WroteNoted}
@@ -24,12 +22,13 @@ use Rattle.reader.proofs.ReaderLaws.{no_word, node-here}
 use Rattle.shift.proofs.ItemLaws.{store-append}
 use Rattle.named.proofs.ReadLaws.{branch-indexless}
 use Rattle.named.proofs.WroteLaws.{bad-wrote}
+use Rattle.std.specs.Prelude.{Some, None, Option}
 
-pub too-deep : (s : Sort) (row : List ℕ) (at : ℕ) (S : List ℕ) (d : ℕ) (a b : List ℕ) → d ≡ 0 → Wrote at S (read_names d s (drop at row)) a b Bad
+pub too-deep : (s : Sort) (row : List ℕ) (at : ℕ) (S : List ℕ) (d : ℕ) (a b : List ℕ) → d ≡ 0 → Wrote at S (read_names d s (drop at row)) a b None
 unfolding read_names decode
 too-deep s row at S d a b e = bad-wrote at S _ a b (rw e refl)
 
-pub past_end : (s : Sort) (row : List ℕ) (at : ℕ) (S : List ℕ) (d : ℕ) (a b : List ℕ) → length row ≤ at → Wrote at S (read_names d s (drop at row)) a b Bad
+pub past_end : (s : Sort) (row : List ℕ) (at : ℕ) (S : List ℕ) (d : ℕ) (a b : List ℕ) → length row ≤ at → Wrote at S (read_names d s (drop at row)) a b None
 unfolding read_names
 past_end s row at S d a b h = bad-wrote at S _ a b (rw (gone row at h, no_word d s) refl)
 
@@ -78,16 +77,16 @@ module _ (s : Sort) (row : List ℕ) (at : ℕ) (S : List ℕ) (low : at < lengt
     unfolding read_names
     name-node = ap indexless (node-here d s row at low) ∙ sym (branch-indexless d t (inner-tag t inner) (read (own s t) (drop (at + 1) row)))
 
-    close-wrote : (o ds l : List ℕ) (p : ℕ) (a b : List ℕ) (r : Step) (g : Gots) → p ≡ at + 1 + (length o + length ds)
+    close-wrote : (o ds l : List ℕ) (p : ℕ) (a b : List ℕ) (r : Option ℕ) (g : Gots) → p ≡ at + 1 + (length o + length ds)
         → WroteAll p (opened ds S) g (store a at (t ∷ (o ++ ds))) b r → Wrote at S (close t o ds g) a b r
     unfolding Wrote WroteAll nameless encode
     close-wrote o ds l p a b r (gots ks x) e k =
         let i : at + suc (length o + length ds) ≡ p = omega arith in
         rw (inner-tag t inner)
-        (k.0 ∙ ap End (rw (length-append, length-append) (omega arith)), k.1 ∙ (rw (← i) (node-words a at t o ds (encode_all (nameless_all (opened ds S) ks)))))
+        (k.0 ∙ ap Some (rw (length-append, length-append) (omega arith)), k.1 ∙ (rw (← i) (node-words a at t o ds (encode_all (nameless_all (opened ds S) ks)))))
     close-wrote o ds l p a b r no-forms e k = k
 
-    branch-wrote : (z : Head) (x y w p : ℕ) (a b : List ℕ) (r : Step) → read (own s t) (drop (at + 1) row) ≡ z → head_at (at + 1) z ≡ Kids p x y w
+    branch-wrote : (z : Head) (x y w p : ℕ) (a b : List ℕ) (r : Option ℕ) → read (own s t) (drop (at + 1) row) ≡ z → head_at (at + 1) z ≡ Some (Kids p x y w)
         → WroteAll p (opened (take (p - (p - w)) (drop (p - w) row)) S) (decode_all N (sorts x y) (drop p row)) (store a at (take (p - at) (drop at row))) b r → Wrote at S (branch N t z) a b r
     unfolding head_at
     branch-wrote (head o ds x' y' l) x y w p a b r q e k =
@@ -103,25 +102,25 @@ module _ (s : Sort) (row : List ℕ) (at : ℕ) (S : List ℕ) (low : at < lengt
     branch-wrote bad x y w p a b r q e k = absurd (clash cc)
 
     -- a node whose declarations have flags
-    close-noted : (o : List ℕ) (ds : Decls) (p : ℕ) (a b : List ℕ) (r : Step) (g : Gots) (c : Bool) → any_typed ds ≡ c → p ≡ at + 1 + length o
-        → pick c (WroteUnder p S ds g (store a at (t ∷ o)) b r) (r ≡ Bad) → Wrote at S (close_noted t o ds g) a b r
+    close-noted : (o : List ℕ) (ds : Decls) (p : ℕ) (a b : List ℕ) (r : Option ℕ) (g : Gots) (c : Bool) → any_typed ds ≡ c → p ≡ at + 1 + length o
+        → pick c (WroteUnder p S ds g (store a at (t ∷ o)) b r) (r ≡ None) → Wrote at S (close_noted t o ds g) a b r
     unfolding Wrote WroteUnder nameless encode
     close-noted o ds p a b r (gots ks x) true q e k =
         let i : at + suc (length o) ≡ p = omega arith in
         let words = encode_decls (nameless_decls S ds) ++ encode_all (nameless_all (opened (names_of ds) S) ks) in
         rw q
-        (k.0 ∙ ap End (rw (length-append, length-append) (omega arith)), k.1 ∙ (rw (← i) (sym (store-append a at (t ∷ o) words))))
+        (k.0 ∙ ap Some (rw (length-append, length-append) (omega arith)), k.1 ∙ (rw (← i) (sym (store-append a at (t ∷ o) words))))
     close-noted o ds p a b r no-forms true q e k = k
     close-noted o ds p a b r (gots ks x) false q e k = rw q k
     close-noted o ds p a b r no-forms false q e k = k
 
-    decls-wrote : (o : List ℕ) (g : GotDecls) (x y p : ℕ) (a b : List ℕ) (r : Step) → p ≡ at + 1 + length o
+    decls-wrote : (o : List ℕ) (g : GotDecls) (x y p : ℕ) (a b : List ℕ) (r : Option ℕ) → p ≡ at + 1 + length o
         → WroteNoted p S g (λ l. decode_all N (sorts x y) l) (store a at (t ∷ o)) b r → Wrote at S (with_decls N t o x y g) a b r
     unfolding WroteNoted
     decls-wrote o (declared ds l) x y p a b r e k = close-noted o ds p a b r (decode_all N (sorts x y) l) (any_typed ds) refl e k
     decls-wrote o no-decls x y p a b r e k = rw k (bad-wrote at S no-form a b refl)
 
-    branch-noted : (z : Head) (x y w p : ℕ) (a b : List ℕ) (r : Step) → read (own s t) (drop (at + 1) row) ≡ z → head_at (at + 1) z ≡ Noted p x y w
+    branch-noted : (z : Head) (x y w p : ℕ) (a b : List ℕ) (r : Option ℕ) → read (own s t) (drop (at + 1) row) ≡ z → head_at (at + 1) z ≡ Some (Noted p x y w)
         → WroteNoted p S (decls N w (drop p row)) (λ l. decode_all N (sorts x y) l) (store a at (take (p - at) (drop at row))) b r → Wrote at S (branch N t z) a b r
     unfolding head_at
     branch-noted (head o ds x' y' l) x y w p a b r q e k = absurd (clash cc)
@@ -138,33 +137,33 @@ module _ (s : Sort) (row : List ℕ) (at : ℕ) (S : List ℕ) (low : at < lengt
         rw (ex, ey, ew, el) (decls-wrote o _ x y p a b r ep (rw cut at k))
     branch-noted bad x y w p a b r q e k = absurd (clash cc)
 
-    branch-bad : (z : Head) (a b : List ℕ) → head_at (at + 1) z ≡ None → Wrote at S (branch N t z) a b Bad
+    branch-bad : (z : Head) (a b : List ℕ) → head_at (at + 1) z ≡ None → Wrote at S (branch N t z) a b None
     unfolding head_at
     branch-bad (head o ds x y l) a b e = absurd (clash cc)
     branch-bad (flagged o n x y l) a b e = absurd (clash cc)
     branch-bad bad a b e = bad-wrote at S no-form a b refl
 
-  module _ {h : code.Head} (hd : h ≡ head_at (at + 1) (read (own s t) (drop (at + 1) row))) where
-    pub a-node : (d p x y w : ℕ) (a a₁ b : List ℕ) (r : Step) → (d ≡ 0 → ⊥) → h ≡ Kids p x y w → a₁ ≡ store a at (take (p - at) (drop at row))
+  module _ {h : Option code.Head} (hd : h ≡ head_at (at + 1) (read (own s t) (drop (at + 1) row))) where
+    pub a-node : (d p x y w : ℕ) (a a₁ b : List ℕ) (r : Option ℕ) → (d ≡ 0 → ⊥) → h ≡ Some (Kids p x y w) → a₁ ≡ store a at (take (p - at) (drop at row))
         → WroteAll p (opened (take (p - (p - w)) (drop (p - w) row)) S) (decode_all (λ s l. read_names (d - 1) s l) (sorts x y) (drop p row)) a₁ b r → Wrote at S (read_names d s (drop at row)) a b r
     a-node zero p x y w a a₁ b r ne e m k = absurd (ne refl)
     a-node (suc d) p x y w a a₁ b r ne e m k = rw (name-node d) (branch-wrote d _ x y w p a b r refl (sym hd ∙ e) (rw (sub-one, m) at k))
 
-    pub a-noted : (d p x y w : ℕ) (a a₁ b : List ℕ) (r : Step) → (d ≡ 0 → ⊥) → h ≡ Noted p x y w → a₁ ≡ store a at (take (p - at) (drop at row))
+    pub a-noted : (d p x y w : ℕ) (a a₁ b : List ℕ) (r : Option ℕ) → (d ≡ 0 → ⊥) → h ≡ Some (Noted p x y w) → a₁ ≡ store a at (take (p - at) (drop at row))
         → WroteNoted p S (decls (λ s l. read_names (d - 1) s l) w (drop p row)) (λ l. decode_all (λ s l. read_names (d - 1) s l) (sorts x y) l) a₁ b r → Wrote at S (read_names d s (drop at row)) a b r
     a-noted zero p x y w a a₁ b r ne e m k = absurd (ne refl)
     a-noted (suc d) p x y w a a₁ b r ne e m k = rw (name-node d) (branch-noted d _ x y w p a b r refl (sym hd ∙ e) (rw (sub-one, m) at k))
 
-    pub no_node : (d : ℕ) (a b : List ℕ) → (d ≡ 0 → ⊥) → h ≡ None → Wrote at S (read_names d s (drop at row)) a b Bad
+    pub no_node : (d : ℕ) (a b : List ℕ) → (d ≡ 0 → ⊥) → h ≡ None → Wrote at S (read_names d s (drop at row)) a b None
     no_node zero a b ne e = absurd (ne refl)
     no_node (suc d) a b ne e = rw (name-node d) (branch-bad d _ a b (sym hd ∙ e))
 
     -- the children begin after the node's own words and names, within the row
-    pub kids-after : (p x y w : ℕ) → h ≡ Kids p x y w → (at + 1 + w ≤ p) × (p ≤ length row) × (w ≤ 32) × (length (take (p - (p - w)) (drop (p - w) row)) ≡ w)
+    pub kids-after : (p x y w : ℕ) → h ≡ Some (Kids p x y w) → (at + 1 + w ≤ p) × (p ≤ length row) × (w ≤ 32) × (length (take (p - (p - w)) (drop (p - w) row)) ≡ w)
     unfolding head_at
     kids-after p x y w e = go (read (own s t) (drop (at + 1) row)) refl (sym hd ∙ e)
       where
-        go : (z : Head) → read (own s t) (drop (at + 1) row) ≡ z → head_at (at + 1) z ≡ Kids p x y w → (at + 1 + w ≤ p) × (p ≤ length row) × (w ≤ 32) × (length (take (p - (p - w)) (drop (p - w) row)) ≡ w)
+        go : (z : Head) → read (own s t) (drop (at + 1) row) ≡ z → head_at (at + 1) z ≡ Some (Kids p x y w) → (at + 1 + w ≤ p) × (p ≤ length row) × (w ≤ 32) × (length (take (p - (p - w)) (drop (p - w) row)) ≡ w)
         go (head o ds x' y' l) q e =
             let ep : p ≡ at + 1 + (length o + length ds) = cc in
             let ew : w ≡ length ds = cc in
@@ -176,11 +175,11 @@ module _ (s : Sort) (row : List ℕ) (at : ℕ) (S : List ℕ) (low : at < lengt
         go (flagged o n x' y' l) q e = absurd (clash cc)
         go bad q e = absurd (clash cc)
 
-    pub flags-after : (p x y w : ℕ) → h ≡ Noted p x y w → (at < p) × (p ≤ length row) × (w ≤ 32)
+    pub flags-after : (p x y w : ℕ) → h ≡ Some (Noted p x y w) → (at < p) × (p ≤ length row) × (w ≤ 32)
     unfolding head_at
     flags-after p x y w e = go (read (own s t) (drop (at + 1) row)) refl (sym hd ∙ e)
       where
-        go : (z : Head) → read (own s t) (drop (at + 1) row) ≡ z → head_at (at + 1) z ≡ Noted p x y w → (at < p) × (p ≤ length row) × (w ≤ 32)
+        go : (z : Head) → read (own s t) (drop (at + 1) row) ≡ z → head_at (at + 1) z ≡ Some (Noted p x y w) → (at < p) × (p ≤ length row) × (w ≤ 32)
         go (head o ds x' y' l) q e = absurd (clash cc)
         go (flagged o n x' y' l) q e =
             let ep : p ≡ at + 1 + length o = cc in

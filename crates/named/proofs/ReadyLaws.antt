@@ -6,14 +6,13 @@ use native.Mathlib.Omega.{arith}
 use lib.ListN.{length, get_or, set}
 use lib.Seq.{get_or-set_same, get_or-set_other}
 use Rattle.tree.specs.Tag.{Sort}
-use Rattle.form.specs.declared.head.Step.{Step}
-use Rattle.form.specs.declared.head.Step.TheVariants.{End, Bad}
 use Rattle.rules.specs.Named.{opened}
 use Rattle.named.specs.Internal.Scope.{Sized, scope_of, open_all, closes, Held}
 use Rattle.named.specs.Internal.Reads.{read_names, Ready, Wrote, WroteLeaf, Kept}
 use Rattle.form.proofs.DecodeLaws.{clash}
 use Rattle.named.proofs.SlotLaws.{scope-less, sized-at}
 use Rattle.named.proofs.ScopeLaws.{all-length, all_held, all-scope, all-outer, close-held, close-scope}
+use Rattle.std.specs.Prelude.{Some, None, Option}
 
 -- the next call finds what this one found
 pub ready-next : (row made made' sc sc' : List ℕ) (at p u v : ℕ) → Ready row made sc at u → length made' ≡ length made → length sc' ≡ length sc → v ≤ p → Held sc' v → Ready row made' sc' p v
@@ -21,31 +20,31 @@ ready-next row made made' sc sc' at p u v r m s l h =
     let f = r.fits in
     record { sized = rw s r.sized; fits = omega arith; short = r.short; low = l; held = h }
 
-pub kept-bad : (u : ℕ) (sc sc' : List ℕ) → Kept Bad u sc sc'
+pub kept-bad : (u : ℕ) (sc sc' : List ℕ) → Kept None u sc sc'
 unfolding Kept
 kept-bad u sc sc' = tt
 
-pub kept_same : (r : Step) (u : ℕ) (sc : List ℕ) → Held sc u → Kept r u sc sc
+pub kept_same : (r : Option ℕ) (u : ℕ) (sc : List ℕ) → Held sc u → Kept r u sc sc
 unfolding Kept
-kept_same (End q) u sc h = (h, refl)
-kept_same Bad u sc h = tt
+kept_same (Some q) u sc h = (h, refl)
+kept_same None u sc h = tt
 
-pub kept-end : (r : Step) (q u : ℕ) (sc sc' : List ℕ) → Kept r u sc sc' → r ≡ End q → Held sc' u × (scope_of sc' u ≡ scope_of sc u)
+pub kept-end : (r : Option ℕ) (q u : ℕ) (sc sc' : List ℕ) → Kept r u sc sc' → r ≡ Some q → Held sc' u × (scope_of sc' u ≡ scope_of sc u)
 unfolding Kept
-kept-end (End p) q u sc sc' k e = k
-kept-end Bad q u sc sc' k e = absurd (clash cc)
+kept-end (Some p) q u sc sc' k e = k
+kept-end None q u sc sc' k e = absurd (clash cc)
 
-pub end_kept : (q u : ℕ) (sc sc' : List ℕ) → Held sc' u → scope_of sc' u ≡ scope_of sc u → Kept (End q) u sc sc'
+pub end_kept : (q u : ℕ) (sc sc' : List ℕ) → Held sc' u → scope_of sc' u ≡ scope_of sc u → Kept (Some q) u sc sc'
 unfolding Kept
 end_kept q u sc sc' h e = (h, e)
 
 -- two calls one after the other
-pub kept_then : (r : Step) (u : ℕ) (sc sc' sc'' : List ℕ) → scope_of sc' u ≡ scope_of sc u → Kept r u sc' sc'' → Kept r u sc sc''
+pub kept_then : (r : Option ℕ) (u : ℕ) (sc sc' sc'' : List ℕ) → scope_of sc' u ≡ scope_of sc u → Kept r u sc' sc'' → Kept r u sc sc''
 unfolding Kept
-kept_then (End q) u sc sc' sc'' e k = (k.0, k.1 ∙ e)
-kept_then Bad u sc sc' sc'' e k = tt
+kept_then (Some q) u sc sc' sc'' e k = (k.0, k.1 ∙ e)
+kept_then None u sc sc' sc'' e k = tt
 
-pub leaf-at : (at : ℕ) (S : List ℕ) (s : Sort) (ws a b : List ℕ) (r : Step) (d : ℕ) → (d ≡ 0 → ⊥) → WroteLeaf at S s ws a b r → Wrote at S (read_names d s ws) a b r
+pub leaf-at : (at : ℕ) (S : List ℕ) (s : Sort) (ws a b : List ℕ) (r : Option ℕ) (d : ℕ) → (d ≡ 0 → ⊥) → WroteLeaf at S s ws a b r → Wrote at S (read_names d s ws) a b r
 leaf-at at S s ws a b r zero ne w = absurd (ne refl)
 leaf-at at S s ws a b r (suc d) ne w = w d
 
@@ -60,7 +59,7 @@ module _ (ds : List ℕ) (u : ℕ) (sc sc₁ : List ℕ) (room : Sized (u + leng
   pub open-names : scope_of sc₁ (u + length ds) ≡ opened ds (scope_of sc u)
   open-names = rw begun (all-scope ds u sc room)
 
-  pub close-kept : (q : ℕ) (sc₂ sc₃ : List ℕ) → length sc₂ ≡ length sc → Held sc₂ (u + length ds) → scope_of sc₂ (u + length ds) ≡ scope_of sc₁ (u + length ds) → sc₃ ≡ closes u (length ds) sc₂ → Kept (End q) u sc sc₃
+  pub close-kept : (q : ℕ) (sc₂ sc₃ : List ℕ) → length sc₂ ≡ length sc → Held sc₂ (u + length ds) → scope_of sc₂ (u + length ds) ≡ scope_of sc₁ (u + length ds) → sc₃ ≡ closes u (length ds) sc₂ → Kept (Some q) u sc sc₃
   close-kept q sc₂ sc₃ l h e c =
       let same : scope_of (closes u (length ds) sc₂) u ≡ scope_of sc u =
       close-scope u (length ds) sc₂ (sized-at (u + length ds) (u + length ds) (length sc₂) (length sc) l (omega arith) room) h

@@ -287,12 +287,23 @@ pub opens-is : (m u c : ℕ) (sc : List ℕ) → c ≡ cell_in sc u m
 unfolding opens
 opens-is m u c sc e = rw (add-one u, e)
 
-pub open_more : (declared : List ℕ) (i u : ℕ) (sc sc' : List ℕ) → i < length declared → sc' ≡ opens (get_or declared i 0) u sc → open_all (drop i declared) u sc ≡ open_all (drop (i + 1) declared) (u + 1) sc'
+open_more : (declared : List ℕ) (i u : ℕ) (sc sc' : List ℕ) → i < length declared → sc' ≡ opens (get_or declared i 0) u sc → open_all (drop i declared) u sc ≡ open_all (drop (i + 1) declared) (u + 1) sc'
 unfolding open_all
 open_more declared i u sc sc' h e = rw (here declared i h, e, add-one u)
 
-pub held_next : (m u : ℕ) (sc sc' : List ℕ) → Sized (u + 1) (length sc) → Held sc u → sc' ≡ opens m u sc → Held sc' (u + 1)
+held_next : (m u : ℕ) (sc sc' : List ℕ) → Sized (u + 1) (length sc) → Held sc u → sc' ≡ opens m u sc → Held sc' (u + 1)
 held_next m u sc sc' r h e = rw (e, add-one u) (open-held m u sc (rw (add-one u) at r) h)
+
+-- the declaration at the place i of a quantifier under u others
+module _ (i u : ℕ) (sc sc' : List ℕ) where
+  step : u + (i + 1) ≡ u + i + 1
+  step = omega arith
+
+  pub open-next : (declared : List ℕ) → i < length declared → sc' ≡ opens (get_or declared i 0) (u + i) sc → open_all (drop i declared) (u + i) sc ≡ open_all (drop (i + 1) declared) (u + (i + 1)) sc'
+  open-next declared h e = rw step (open_more declared i (u + i) sc sc' h e)
+
+  pub held-next : (m : ℕ) → Sized (u + i + 1) (length sc) → Held sc (u + i) → sc' ≡ opens m (u + i) sc → Held sc' (u + (i + 1))
+  held-next m r h e = rw step (held_next m (u + i) sc sc' r h e)
 
 pub open_none : (declared : List ℕ) (i u : ℕ) (sc : List ℕ) → length declared ≤ i → open_all (drop i declared) u sc ≡ sc
 unfolding open_all

@@ -1,14 +1,13 @@
 // Named: a form in which each occurrence is a name becomes the form with indices.
-ghost use Rattle.std.specs.Prelude.{◌≡◌, length};
+ghost use Rattle.std.specs.Prelude.{◌≡◌, ◌≤◌, length};
 ghost use Rattle.form.specs.Answer.{told, written};
 ghost use Rattle.rules.specs.Named.{named_outcome};
 ghost use Rattle.named.specs.Internal.Reads.{Blank};
+ghost use Rattle.named.specs.Internal.Scope.{Sized};
 
 use crate::read::name_form;
-use crate::words::copy_words;
 use broken::position::broken_at;
-use form::answer::{Answer, Kind, Limit};
-use form::head::Step;
+use form::answer::{Answer, Kind, Limit, Refusal};
 use reader::check::is_expr;
 
 // Named, with rows of its own for the words that are made and for the open declarations.
@@ -18,41 +17,29 @@ fn named_in(row: &[u32], made: &mut [u32], scope: &mut [u32], out: &mut [u32]) -
     ensures out_after { out.new ≡ written (named_outcome row.now (length out.old)) out.old }
 {
     let expression = is_expr(row, Kind::Named);
-    let Step::End(end) = name_form(row, made, scope, 0, expression, Limit::DEPTH, 0) else {
-        return Answer::No(2, broken_at(row, Kind::Named));
+    let Some(end) = name_form(row, made, scope, 0, expression, Limit::DEPTH, 0) else {
+        return Err(Refusal::Broken(broken_at(row, Kind::Named)));
     };
     if end != row.len() {
-        return Answer::No(2, broken_at(row, Kind::Named));
+        return Err(Refusal::Broken(broken_at(row, Kind::Named)));
     }
     if out.len() < end {
-        return Answer::No(14, 0);
+        return Err(Refusal::OutputTooShort);
     }
-    copy_words(made, out, 0, end);
-    Answer::Done(end)
+    out[..end].copy_from_slice(&made[..end]);
+    Ok(end)
 }
 
-// Named for rows over 512 words, with room for `most` words, 2,048 or 8,192; a longer row is left to a call with room for any. The compiler puts
-// no function that calls itself into its caller, so the frame of short rows does not hold these rows.
-fn named_long(row: &[u32], out: &mut [u32], most: usize) -> Answer
+// Named for rows of at most N words, with M for the open declarations and their slots: both rows lie in a frame of their own.
+#[inline(never)]
+fn named_sized<const N: usize, const M: usize>(row: &[u32], out: &mut [u32]) -> Answer
+    requires row_in_bounds { (length row.now ≤ N) × (N ≤ 8192) }
+    requires sized { Sized (length row.now) M }
     ensures value { result ≡ told (named_outcome row.now (length out.old)) }
     ensures out_after { out.new ≡ written (named_outcome row.now (length out.old)) out.old }
 {
-    if Limit::WORDS < row.len() {
-        return Answer::No(1, 0);
-    }
-    if most < row.len() {
-        return match named_long(row, out, Limit::WORDS) {
-            Answer::Done(n) => Answer::Done(n),
-            Answer::No(k, p) => Answer::No(k, p),
-        };
-    }
-    if most <= 2048 {
-        let mut made = [0u32; 2048];
-        let mut scope = [0u32; 12288];
-        return named_in(row, &mut made, &mut scope, out);
-    }
-    let mut made = [0u32; 8192];
-    let mut scope = [0u32; 36864];
+    let mut made = [0u32; N];
+    let mut scope = [0u32; M];
     named_in(row, &mut made, &mut scope, out)
 }
 
@@ -62,18 +49,11 @@ pub fn to_indices(row: &[u32], out: &mut [u32]) -> Answer
     ensures value { result ≡ told (named_outcome row.now (length out.old)) }
     ensures out_after { out.new ≡ written (named_outcome row.now (length out.old)) out.old }
 {
-    if row.len() <= 64 {
-        let mut made = [0u32; 64];
-        let mut scope = [0u32; 512];
-        return named_in(row, &mut made, &mut scope, out);
+    match row.len() {
+        0..=64 => named_sized::<64, 512>(row, out),
+        65..=512 => named_sized::<512, 4096>(row, out),
+        513..=2048 => named_sized::<2048, 12288>(row, out),
+        2049..=Limit::WORDS => named_sized::<8192, 36864>(row, out),
+        _ => Err(Refusal::TooLong),
     }
-    if row.len() <= 512 {
-        let mut made = [0u32; 512];
-        let mut scope = [0u32; 4096];
-        return named_in(row, &mut made, &mut scope, out);
-    }
-    if row.len() <= 2048 {
-        return named_long(row, out, 2048);
-    }
-    named_long(row, out, Limit::WORDS)
 }

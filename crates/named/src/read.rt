@@ -10,11 +10,11 @@ ghost use Rattle.named.specs.Internal.Reads.{read_names, sort_of, Ready, Wrote, 
 use crate::scope::{close_names, open_names};
 use crate::words::{copy_words, put_name};
 use form::answer::Limit;
-use form::head::{Head, Step, Word, asked, expr_head, pred_head};
+use form::head::{Head, asked, expr_head, pred_head};
 use tree::tag::Tag;
 
 // What stands after the tag of an expression, or of a predicate.
-fn head_of(row: &[u32], at: usize, tag: u32, expression: bool) -> Head
+fn head_of(row: &[u32], at: usize, tag: u32, expression: bool) -> Option<Head>
     ensures { result ≡ head_at at (read (own (sort_of expression) tag) (drop at row.now)) }
 {
     if expression {
@@ -31,26 +31,24 @@ fn name_leaf(
     at: usize,
     expression: bool,
     under: u32,
-) -> Step
+) -> Option<usize>
     requires ready { Ready row.now made.old scope.now at under }
     requires at_in_bounds { (at < length row.now) × (get_or row.now at 0 ≤ 2) }
     ensures { WroteLeaf at (scope_of scope.now under) (sort_of expression) (drop at row.now) made.old made.new result }
 {
     if !expression {
-        return Step::Bad;
+        return None;
     }
     if row[at] != Tag::FREE_IDENT {
-        return Step::Bad;
+        return None;
     }
-    let Word::Is(m) = asked(row, at + 1, 0, Limit::NAME) else {
-        return Step::Bad;
-    };
+    let m = asked(row, at + 1, 0, Limit::NAME)?;
     put_name(made, scope, at, m, under);
-    Step::End(at + 2)
+    Some(at + 2)
 }
 
 // A form at `at`, an expression or a predicate, under so many open declarations.
-#[cycle(name_all_name_decl_name_decls_name_form_name_noted_name_under)]
+#[cycle(namers)]
 pub(crate) fn name_form(
     row: &[u32],
     made: &mut [u32],
@@ -59,22 +57,23 @@ pub(crate) fn name_form(
     expression: bool,
     depth: u32,
     under: u32,
-) -> Step
+) -> Option<usize>
     requires { Ready row.now made.old scope.old at under }
     ensures wrote { Wrote at (scope_of scope.old under) (read_names depth (sort_of expression) (drop at row.now)) made.old made.new result }
     ensures kept { Kept result under scope.old scope.new }
 {
     if depth == 0 {
-        return Step::Bad;
+        return None;
     }
     if row.len() <= at {
-        return Step::Bad;
+        return None;
     }
     let tag = row[at];
     if tag <= Tag::BOUND_IDENT {
         return name_leaf(row, made, scope, at, expression, under);
     }
-    match head_of(row, at + 1, tag, expression) {
+    let head = head_of(row, at + 1, tag, expression)?;
+    match head {
         Head::Kids(p, preds, exprs, binds) => {
             copy_words(row, made, at, p);
             let first = p - (binds as usize);
@@ -94,12 +93,11 @@ pub(crate) fn name_form(
             copy_words(row, made, at, p);
             name_noted(row, made, scope, p, preds, exprs, binds, depth - 1, under)
         }
-        Head::None => Step::Bad,
     }
 }
 
 // The children of a node that declares these names, and its declarations opened and closed round them.
-#[cycle(name_all_name_decl_name_decls_name_form_name_noted_name_under)]
+#[cycle(namers)]
 fn name_under(
     row: &[u32],
     made: &mut [u32],
@@ -110,7 +108,7 @@ fn name_under(
     exprs: u32,
     depth: u32,
     under: u32,
-) -> Step
+) -> Option<usize>
     requires ready { Ready row.now made.old scope.old at under }
     requires declared_bound { (under + length declared.now ≤ at) × (at ≤ length row.now) × (length declared.now ≤ 32) }
     ensures wrote_all { WroteAll at (opened declared.now (scope_of scope.old under)) (decode_all (λ s l. read_names depth s l) (sorts preds exprs) (drop at row.now)) made.old made.new result }
@@ -118,18 +116,14 @@ fn name_under(
 {
     let binds = declared.len() as u32;
     open_names(scope, declared, under);
-    let Step::End(q) = name_all(row, made, scope, at, preds, false, depth, under + binds) else {
-        return Step::Bad;
-    };
-    let Step::End(end) = name_all(row, made, scope, q, exprs, true, depth, under + binds) else {
-        return Step::Bad;
-    };
+    let q = name_all(row, made, scope, at, preds, false, depth, under + binds)?;
+    let end = name_all(row, made, scope, q, exprs, true, depth, under + binds)?;
     close_names(scope, under, binds);
-    Step::End(end)
+    Some(end)
 }
 
 // n expressions or n predicates in a row.
-#[cycle(name_all_name_decl_name_decls_name_form_name_noted_name_under)]
+#[cycle(namers)]
 fn name_all(
     row: &[u32],
     made: &mut [u32],
@@ -139,25 +133,20 @@ fn name_all(
     expression: bool,
     depth: u32,
     under: u32,
-) -> Step
+) -> Option<usize>
     requires { Ready row.now made.old scope.old at under }
     ensures wrote_all { WroteAll at (scope_of scope.old under) (decode_all (λ s l. read_names depth s l) (replicate n (sort_of expression)) (drop at row.now)) made.old made.new result }
     ensures kept { Kept result under scope.old scope.new }
 {
     let mut p = at;
-    let mut left = n;
-    while 0 < left {
-        let Step::End(q) = name_form(row, made, scope, p, expression, depth, under) else {
-            return Step::Bad;
-        };
-        p = q;
-        left -= 1;
+    for _ in 0..n {
+        p = name_form(row, made, scope, p, expression, depth, under)?;
     }
-    Step::End(p)
+    Some(p)
 }
 
 // Declarations with flags, one of which at least has an annotation, and the children under them.
-#[cycle(name_all_name_decl_name_decls_name_form_name_noted_name_under)]
+#[cycle(namers)]
 fn name_noted(
     row: &[u32],
     made: &mut [u32],
@@ -168,25 +157,23 @@ fn name_noted(
     binds: u32,
     depth: u32,
     under: u32,
-) -> Step
+) -> Option<usize>
     requires ready { Ready row.now made.old scope.old at under }
     requires binds_bound { (binds ≤ 32) × (at ≤ length row.now) }
     ensures wrote_noted { WroteNoted at (scope_of scope.old under) (decls (λ s l. read_names depth s l) binds (drop at row.now)) (λ l. decode_all (λ s l. read_names depth s l) (sorts preds exprs) l) made.old made.new result }
     ensures kept { Kept result under scope.old scope.new }
 {
     let mut names = [0u32; 32];
-    let Step::End(p) = name_decls(row, made, scope, &mut names, at, binds, depth, under) else {
-        return Step::Bad;
-    };
+    let p = name_decls(row, made, scope, &mut names, at, binds, depth, under)?;
     let n = binds as usize;
     if p - at == 2 * n {
-        return Step::Bad;
+        return None;
     }
     name_under(row, made, scope, &names[..n], p, preds, exprs, depth, under)
 }
 
 // A declaration with its flag at `at`: a name and 0, or a name, 1 and an annotation, which stands under the declarations that are open round it.
-#[cycle(name_all_name_decl_name_decls_name_form_name_noted_name_under)]
+#[cycle(namers)]
 fn name_decl(
     row: &[u32],
     made: &mut [u32],
@@ -194,26 +181,22 @@ fn name_decl(
     at: usize,
     depth: u32,
     under: u32,
-) -> Step
+) -> Option<usize>
     requires { Ready row.now made.old scope.old at under }
     ensures wrote_decl { WroteDecl at (scope_of scope.old under) (decl_at (λ s l. read_names depth s l) (drop at row.now)) made.old made.new result }
     ensures kept { Kept result under scope.old scope.new }
 {
-    let Word::Is(m) = asked(row, at, 0, Limit::NAME) else {
-        return Step::Bad;
-    };
-    let Word::Is(flag) = asked(row, at + 1, 0, 1) else {
-        return Step::Bad;
-    };
+    let m = asked(row, at, 0, Limit::NAME)?;
+    let flag = asked(row, at + 1, 0, 1)?;
     copy_words(row, made, at, at + 2);
     if flag == 0 {
-        return Step::End(at + 2);
+        return Some(at + 2);
     }
     name_form(row, made, scope, at + 2, true, depth, under)
 }
 
 // n declarations with flags, whose names are kept.
-#[cycle(name_all_name_decl_name_decls_name_form_name_noted_name_under)]
+#[cycle(namers)]
 fn name_decls(
     row: &[u32],
     made: &mut [u32],
@@ -223,21 +206,17 @@ fn name_decls(
     n: u32,
     depth: u32,
     under: u32,
-) -> Step
+) -> Option<usize>
     requires ready { Ready row.now made.old scope.old at under }
     requires n_in_bounds { n ≤ length names.old }
     ensures wrote_decls { WroteDecls at (scope_of scope.old under) (decls (λ s l. read_names depth s l) n (drop at row.now)) made.old made.new names.new result }
     ensures kept { Kept result under scope.old scope.new }
 {
     let mut p = at;
-    let mut i = 0;
-    while i < n {
-        let Step::End(q) = name_decl(row, made, scope, p, depth, under) else {
-            return Step::Bad;
-        };
+    for i in 0..n {
+        let q = name_decl(row, made, scope, p, depth, under)?;
         names[i as usize] = row[p];
         p = q;
-        i += 1;
     }
-    Step::End(p)
+    Some(p)
 }

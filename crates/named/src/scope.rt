@@ -70,12 +70,8 @@ pub(crate) fn open_names(scope: &mut [u32], declared: &[u32], under: u32)
     requires { Sized (under + length declared.now) (length scope.old) × Held scope.old under }
     ensures { scope.new ≡ open_all declared.now under scope.old }
 {
-    let mut i = 0;
-    let mut level = under;
-    while i < declared.len() {
-        open_name(scope, declared[i], level);
-        i += 1;
-        level += 1;
+    for (i, m) in declared.iter().enumerate() {
+        open_name(scope, *m, under + i as u32);
     }
 }
 
@@ -84,10 +80,8 @@ pub(crate) fn close_names(scope: &mut [u32], under: u32, n: u32)
     requires { Sized (under + n) (length scope.old) × Held scope.old (under + n) }
     ensures { scope.new ≡ closes under n scope.old }
 {
-    let mut left = n;
-    while 0 < left {
-        left -= 1;
-        let at = 4 * ((under + left) as usize);
+    for l in (0..n).rev() {
+        let at = 4 * ((under + l) as usize);
         let cell = scope[at + 3] as usize;
         scope[cell] = scope[at + 1];
     }

@@ -8,15 +8,13 @@ ghost use Rattle.shift.specs.Internal.Items.{store};
 use crate::scope::level_of;
 use tree::tag::Tag;
 
-// The words from `at` up to `end`, copied.
+// The words from `at` up to `end`, copied. They are few, and a loop of its own is faster than a call of the library for them.
 pub(crate) fn copy_words(row: &[u32], made: &mut [u32], at: usize, end: usize)
     requires { (end ≤ length row.now) × (end ≤ length made.old) }
     ensures { made.new ≡ store made.old at (take (end - at) (drop at row.now)) }
 {
-    let mut i = at;
-    while i < end {
+    for i in at..end {
         made[i] = row[i];
-        i += 1;
     }
 }
 

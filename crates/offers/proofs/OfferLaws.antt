@@ -1,32 +1,48 @@
--- Two offers in turn, by where the first refusal is.
-use mathlib.Core.Bool.{true, false}
+-- Two offers in turn, by where the first refusal is. Assumes nothing.
+use mathlib.Core.Bool.{false}
 use mathlib.Core.List.{List}
 use mathlib.Core.Path.{◌≡◌, refl, sym}
 use Prim.Native.Nat.{ℕ}
 use lib.Dec.{eqb}
-use Rattle.places.specs.Places.{new_of, offer_answer}
-use Rattle.places.specs.declared.replacements.Offered.{Offered}
+use Rattle.std.specs.Prelude.{Ok, Err}
+use Rattle.form.specs.Refusal.{number_of}
+use Rattle.form.specs.declared.answer.Refusal.{Refusal}
+use Rattle.form.specs.declared.answer.Refusal.TheVariants.{TooLong, NotQuantified, BadNames, TooManyPlaces, Captured, OutOfLimits, NotACommand, NothingToRewrite, NoEquality, NoDeclaration, NotAbove, AlreadyFilled, OutputTooShort, WorkTooShort, Broken}
+use Rattle.places.specs.Places.{empty_for, after, new_result, offer_answer}
+use Rattle.places.specs.declared.replacements.Replacements.{Replacements}
 use Rattle.offers.specs.Offers.{then_offer, offer_two}
 
--- a refused set stays as it is
-pub then-refused : (o : Offered) (row : List ℕ) → eqb o.number 0 ≡ false → then_offer o row ≡ o
-unfolding then_offer
-then-refused o row e = rw e refl
+not_zero : (r : Refusal) → eqb (number_of r) 0 ≡ false
+not_zero TooLong = refl
+not_zero (Broken p) = refl
+not_zero NotQuantified = refl
+not_zero BadNames = refl
+not_zero TooManyPlaces = refl
+not_zero Captured = refl
+not_zero OutOfLimits = refl
+not_zero NotACommand = refl
+not_zero NothingToRewrite = refl
+not_zero NoEquality = refl
+not_zero NoDeclaration = refl
+not_zero NotAbove = refl
+not_zero AlreadyFilled = refl
+not_zero OutputTooShort = refl
+not_zero WorkTooShort = refl
 
-pub then-offered : (o : Offered) (row : List ℕ) → eqb o.number 0 ≡ true → then_offer o row ≡ offer_answer o.places row
+-- a refused set stays as it is, an accepted one is offered the row
+pub then-refused : (q : Replacements) (r : Refusal) (row : List ℕ) → then_offer (after q (Err r)) row ≡ after q (Err r)
 unfolding then_offer
-then-offered o row e = rw e refl
+then-refused q r row = rw (not_zero r)
 
-module _ (n : ℕ) (first second : List ℕ) (o : Offered) (made : o ≡ new_of n) where
-  pub none-offered : eqb o.number 0 ≡ false → o ≡ offer_two n first second
+pub then-offered : (p q : Replacements) (row : List ℕ) → then_offer (after p (Ok q)) row ≡ offer_answer q row
+unfolding then_offer
+then-offered p q row = refl
+
+module _ (n : ℕ) (first second : List ℕ) where
+  pub none-offered : (r : Refusal) → new_result n ≡ Err r → after (empty_for 0) (Err r) ≡ offer_two n first second
   unfolding offer_two
-  none-offered e = rw (← made, then-refused o first e) (sym (then-refused o second e))
+  none-offered r e = rw (e, then-refused (empty_for 0) r first) (sym (then-refused (empty_for 0) r second))
 
-  module _ (accepted : eqb o.number 0 ≡ true) (p : Offered) (once : p ≡ offer_answer o.places first) where
-    pub one-offered : eqb p.number 0 ≡ false → p ≡ offer_two n first second
-    unfolding offer_two
-    one-offered e = rw (← made, then-offered o first accepted, ← once) (sym (then-refused p second e))
-
-    pub both-offered : eqb p.number 0 ≡ true → offer_answer p.places second ≡ offer_two n first second
-    unfolding offer_two
-    both-offered e = rw (← made, then-offered o first accepted, ← once) (sym (then-offered p second e))
+  pub both-offered : (p : Replacements) → new_result n ≡ Ok p → then_offer (offer_answer p first) second ≡ offer_two n first second
+  unfolding offer_two then_offer
+  both-offered p e = rw e refl

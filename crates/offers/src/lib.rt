@@ -2,54 +2,63 @@
 #![tactic(auto)]
 
 ghost use Rattle.std.specs.Prelude.{◌≡◌};
-ghost use Rattle.places.specs.Places.{offer_answer};
-ghost use Rattle.offers.specs.Offers.{offer_two};
+ghost use Rattle.places.specs.Places.{offer_result, offer_answer};
+ghost use Rattle.offers.specs.Offers.{then_offer, offer_two, left_by, told_two};
 
-use places::replacements::{Offered, Replacements};
+use form::answer::Refusal;
+use places::replacements::Replacements;
 
-// Document 01's number of an offer, and the position where that is 2.
+// A set that was refused a row, as it was before, and why.
 #[derive(Clone, Copy)]
-pub struct Verdict {
-    pub number: u32,
-    pub position: u32,
+pub struct Refused {
+    pub places: Replacements,
+    pub refusal: Refusal,
 }
 
-// A predicate row offered to the lent set: its number and its position are answered, and a refusal leaves the set as it is.
-pub fn offer(places: &mut Replacements, row: &[u32]) -> Verdict
-    ensures { (result.number ≡ (offer_answer places.old row.now).number) × (result.position ≡ (offer_answer places.old row.now).position) × (places.new ≡ (offer_answer places.old row.now).places) }
+// A predicate row offered to the lent set; a refusal leaves the set as it is.
+pub fn offer(places: &mut Replacements, row: &[u32]) -> Result<(), Refusal>
+    ensures value { left_by places.new result ≡ offer_answer places.old row.now }
+    ensures places_after { places.new ≡ (offer_answer places.old row.now).places }
 {
-    let offered = Replacements::check(*places, row);
-    *places = offered.places;
-    Verdict {
-        number: offered.number,
-        position: offered.position,
-    }
+    *places = places.check(row)?;
+    Ok(())
 }
 
 // A set by value, lent to one offer.
-pub fn offer_once(places: Replacements, row: &[u32]) -> Offered
-    ensures { result ≡ offer_answer places row.now }
+pub fn offer_once(places: Replacements, row: &[u32]) -> Result<Replacements, Refusal>
+    ensures { result ≡ offer_result places row.now }
 {
     let mut lent = places;
-    let told = offer(&mut lent, row);
-    Offered {
-        places: lent,
-        number: told.number,
-        position: told.position,
-    }
+    offer(&mut lent, row)?;
+    Ok(lent)
 }
 
-// Two rows offered in turn to a new set for n declarations; the number is that of the first refusal.
-pub fn offer_two(n: usize, first: &[u32], second: &[u32]) -> Offered
-    ensures { result ≡ offer_two n first.now second.now }
+// Two rows offered in turn to the lent set, up to the first refusal.
+fn offer_both(places: &mut Replacements, first: &[u32], second: &[u32]) -> Result<(), Refusal>
+    ensures { left_by places.new result ≡ then_offer (offer_answer places.old first.now) second.now }
 {
-    let empty = Replacements::new(n);
-    if empty.number != 0 {
-        return empty;
+    offer(places, first)?;
+    offer(places, second)
+}
+
+// Two rows offered in turn to a new set for n declarations; a refusal is answered with the set that it left.
+pub fn offer_two(n: usize, first: &[u32], second: &[u32]) -> Result<Replacements, Refused>
+    ensures { told_two result ≡ offer_two n first.now second.now }
+{
+    let mut places = match Replacements::new(n) {
+        Ok(places) => places,
+        Err(refusal) => {
+            return Err(Refused {
+                places: Replacements::free(0),
+                refusal: refusal,
+            });
+        }
+    };
+    match offer_both(&mut places, first, second) {
+        Ok(()) => Ok(places),
+        Err(refusal) => Err(Refused {
+            places: places,
+            refusal: refusal,
+        }),
     }
-    let once = offer_once(empty.places, first);
-    if once.number != 0 {
-        return once;
-    }
-    offer_once(once.places, second)
 }

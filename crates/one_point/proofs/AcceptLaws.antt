@@ -10,62 +10,58 @@ use Rattle.tree.specs.Form.{Form, pick, encode}
 use Rattle.tree.specs.Tag.{expr}
 use Rattle.form.proofs.DecodeLaws.{clash, Ok}
 use Rattle.rules.specs.Replacement.{left, right, Offer, offer, no-offer, offered, taken, nothing, above, allowed, of_offer, accept}
-use Rattle.places.specs.Internal.Sides.{index_words, replace_by, replacement_words, above_words}
+use Rattle.places.specs.Internal.Sides.{index_words, left_for, right_for, replace_by, replacement_words, above_words}
 use Rattle.one_point.specs.Internal.Parts.{accept_by, accept_words, TookIs}
 use Rattle.places.specs.Internal.Positions.{Within}
+use Rattle.std.specs.Prelude.{Option, Some, None}
 use Rattle.places.specs.declared.sides.Sides.{Sides}
-use Rattle.places.specs.declared.sides.Index.{Index}
-use Rattle.places.specs.declared.sides.Index.TheVariants.{Bound, Unbound}
 use Rattle.places.specs.declared.sides.Replacement.{Replacement}
-use Rattle.places.specs.declared.sides.Replacement.TheVariants.{Is, Not}
 use Rattle.places.proofs.SidesLaws.{placed, rule-words, above-words, part-words, above-is}
 
 -- the replacement is one of the sides
 module _ (row : List ℕ) (s : Sides) (h : Within row s) where
-  abbrev Inside : Replacement → Type 0
-  Inside r = (i a b : ℕ) → r ≡ Is i a b → (a ≤ b) × (b ≤ length row)
+  abbrev Inside : Option Replacement → Type 0
+  Inside r = (x : Replacement) → r ≡ Some x → (x.start ≤ x.end) × (x.end ≤ length row)
 
-  left-inside : (j : ℕ) → Inside (Is j s.left s.middle)
-  left-inside j i a b e =
-      let x : s.left ≡ a = cc in
-      let y : s.middle ≡ b = cc in
+  left-inside : (j : ℕ) → Inside (Some (left_for s j))
+  left-inside j x e =
+      let q : left_for s j ≡ x = cc in
       let u = h.left_up in
       let v = h.left_in in
-      (omega arith, omega arith)
+      rw (← q) (omega arith, omega arith)
 
-  right-inside : (j : ℕ) → Inside (Is j s.right s.end)
-  right-inside j i a b e =
-      let x : s.right ≡ a = cc in
-      let y : s.end ≡ b = cc in
+  right-inside : (j : ℕ) → Inside (Some (right_for s j))
+  right-inside j x e =
+      let q : right_for s j ≡ x = cc in
       let u = h.right-up in
       let v = h.right-in in
-      (omega arith, omega arith)
+      rw (← q) (omega arith, omega arith)
 
-  either-inside : (b : Bool) (x y : Replacement) → Inside x → Inside y → Inside (pick b x y)
+  either-inside : (b : Bool) (x y : Option Replacement) → Inside x → Inside y → Inside (pick b x y)
   either-inside true x y p q = p
   either-inside false x y p q = q
 
-  by-inside : (x y : Index) → Inside (replace_by s x y)
-  by-inside (Bound i) (Bound j) = either-inside (ltb i j) (Is i s.right s.end) (Is j s.left s.middle) (right-inside i) (left-inside j)
-  by-inside Unbound (Bound j) = left-inside j
-  by-inside (Bound i) Unbound = right-inside i
-  by-inside Unbound Unbound = λ i a b e. absurd (clash cc)
+  by-inside : (x y : Option ℕ) → Inside (replace_by s x y)
+  by-inside (Some i) (Some j) = either-inside (ltb i j) (Some (right_for s i)) (Some (left_for s j)) (right-inside i) (left-inside j)
+  by-inside None (Some j) = left-inside j
+  by-inside (Some i) None = right-inside i
+  by-inside None None = λ x e. absurd (clash cc)
 
-  pub rule-within : (i a b : ℕ) → replacement_words s row ≡ Is i a b → (a ≤ b) × (b ≤ length row)
+  pub rule-within : (x : Replacement) → replacement_words s row ≡ Some x → (x.start ≤ x.end) × (x.end ≤ length row)
   unfolding replacement_words
-  rule-within i a b e = by-inside (index_words (drop s.left row)) (index_words (drop s.right row)) i a b e
+  rule-within x e = by-inside (index_words (drop s.left row)) (index_words (drop s.right row)) x e
 
 -- an accepted part is taken
 module _ (row : List ℕ) (n : ℕ) where
   took-if : (i s t : ℕ) (e : Form) (b c : Bool) → t ≡ s + length (encode e) → drop s row ≡ encode e ++ drop t row
-      → TookIs row (pick b (pick c (taken i e) nothing) nothing) (pick b (pick c (Is i s t) Not) Not)
+      → TookIs row (pick b (pick c (taken i e) nothing) nothing) (pick b (pick c (Some (record { target = i; start = s; end = t })) None) None)
   unfolding TookIs
-  took-if i s t e true true h k = (s, t, refl, h, k)
+  took-if i s t e true true h k = (refl, h, k)
   took-if i s t e true false h k = refl
   took-if i s t e false c h k = refl
 
   took-side : (i s t : ℕ) (e : Form) → Ok 64 expr e → length (encode e) ≤ 8192 → t ≡ s + length (encode e) → drop s row ≡ encode e ++ drop t row
-      → TookIs row (allowed n i e) (accept_by n row (Is i s t))
+      → TookIs row (allowed n i e) (accept_by n row (Some (record { target = i; start = s; end = t })))
   took-side i s t e ok short h k =
       let a : above_words i (take (t - s) (drop s row)) ≡ above i e = ap (above_words i) (part-words row (encode e) (drop t row) s t k h) ∙ above-words i e ok short in
       rw a (took-if i s t e (ltb i n) (above i e) h k)

@@ -9,8 +9,6 @@ use lib.ListN.{length, take, drop, replicate, length-append, length-drop}
 use Rattle.tree.specs.Form.{Form, Forms, none, more, count, encode, encode_all}
 use Rattle.tree.specs.Tag.{pred}
 use Rattle.form.specs.Decode.{got, no-form, Gots, gots, no-forms, add_form, decode, decode_all}
-use Rattle.form.specs.declared.head.Step.{Step}
-use Rattle.form.specs.declared.head.Step.TheVariants.{End, Bad}
 use Rattle.form.proofs.DecodeLaws.{clash, OkAll, ok-none, ok-more, all_sound}
 use Rattle.reader.specs.Internal.Reads.{mark, mark_all}
 use Rattle.places.specs.Internal.Wrote.{Wrote}
@@ -19,6 +17,7 @@ use Rattle.one_point.specs.Internal.Scans.{read_kids, forms_of, kids_at, is_read
 use Rattle.places.proofs.SidesLaws.{part-words}
 use Rattle.places.proofs.PartsLaws.{first-length}
 use Rattle.one_point.proofs.ScanLaws.{pred-neat}
+use Rattle.std.specs.Prelude.{Some, None, Option}
 
 -- one form more in front
 read_more : (f : Form) (g : Gots) → is_read (add_form f g) ≡ is_read g
@@ -31,7 +30,7 @@ forms-more f no-forms e = absurd (clash cc)
 
 end_more : (f : Form) (at : ℕ) (g : Gots) → end_of_all at (add_form f g) ≡ end_of_all (at + length (encode f)) g
 unfolding end_of_all
-end_more f at (gots fs x) = ap End (let l = first-length f fs in omega arith)
+end_more f at (gots fs x) = ap Some (let l = first-length f fs in omega arith)
 end_more f at no-forms = refl
 
 module _ (row : List ℕ) (d : ℕ) where
@@ -80,7 +79,7 @@ module _ (row : List ℕ) (d : ℕ) where
     unfolding are_kids
     kids-no n h = rw (kids-lost n h)
 
-    pub end-bad : (n : ℕ) → 0 < n → Bad ≡ end_of_all q (read_kids row d q n)
+    pub end-bad : (n : ℕ) → 0 < n → None ≡ end_of_all q (read_kids row d q n)
     unfolding end_of_all
     end-bad n h = rw (kids-lost n h)
 
@@ -93,13 +92,13 @@ module _ (row : List ℕ) (d : ℕ) where
   unfolding mark
   marks-none q n w ms h = rw (kids-none q n h) refl
 
-  pub end_none : (q n : ℕ) → n ≤ 0 → End q ≡ end_of_all q (read_kids row d q n)
+  pub end_none : (q n : ℕ) → n ≤ 0 → Some q ≡ end_of_all q (read_kids row d q n)
   unfolding end_of_all decode_all encode
-  end_none q zero h = ap End (omega arith)
+  end_none q zero h = ap Some (omega arith)
   end_none q (suc n) h = absurd (omega arith)
 
   -- where children end that are read
-  pub kids-bad : (q n : ℕ) (r : Step) → r ≡ end_of_all q (read_kids row d q n) → r ≡ Bad → are_kids row d q n ≡ false
+  pub kids-bad : (q n : ℕ) (r : Option ℕ) → r ≡ end_of_all q (read_kids row d q n) → r ≡ None → are_kids row d q n ≡ false
   unfolding end_of_all are_kids
   kids-bad q n r e k = go (read_kids row d q n) e
     where
@@ -107,7 +106,7 @@ module _ (row : List ℕ) (d : ℕ) where
       go (gots fs x) e = absurd (clash cc)
       go no-forms e = refl
 
-  module _ (q n : ℕ) (r : Step) (to : ℕ) (e : r ≡ end_of_all q (read_kids row d q n)) (k : r ≡ End to) where
+  module _ (q n : ℕ) (r : Option ℕ) (to : ℕ) (e : r ≡ end_of_all q (read_kids row d q n)) (k : r ≡ Some to) where
     pub kids-read : (are_kids row d q n ≡ true) × (to ≡ q + length (encode_all (kids_at row d q n)))
     unfolding end_of_all are_kids kids_at
     kids-read = go (read_kids row d q n) e

@@ -6,20 +6,20 @@ use mathlib.Core.List.{List, [], ◌∷◌, ◌++◌, append-nil}
 use Prim.Native.Nat.{ℕ, ◌+◌, ◌-◌, ◌*◌, ◌≤◌}
 use native.Mathlib.Omega.{arith}
 use lib.ListN.{length, take, drop, length-append}
+use Rattle.std.specs.Option.{unwrap_or}
+use Rattle.std.specs.Prelude.{Option as Maybe, Some, None, is_some, is_none}
 use Rattle.tree.specs.Form.{Form, leaf, node, noted, Forms, none, more, pick, count, encode, encode_all}
 use Rattle.rules.specs.Replacement.{Taken, taken, nothing, accept}
 use Rattle.rules.specs.Split.{is_pair, parts, parts_all, equal}
 use Rattle.rules.specs.Scan.{Scans, scans, joined, present, copied, offer_part, offer_parts, with, scan}
 use Rattle.places.specs.Internal.Wrote.{Wrote}
 use Rattle.one_point.specs.Internal.Writes.{left_words, is_gone, Neat, neat-other, Neats, no_more, and-more}
-use Rattle.one_point.specs.Internal.Parts.{accept_words, is_taken, TookIs, PartsTold}
+use Rattle.one_point.specs.Internal.Parts.{accept_words, TookIs, PartsTold}
 use Rattle.one_point.specs.Internal.Scans.{NeatLeft, Left, Became, Sided}
-use Rattle.form.proofs.DecodeLaws.{clash}
 use Rattle.places.specs.Internal.Positions.{both_pairs, parts_at}
 use Rattle.places.specs.declared.sides.Replacement.{Replacement}
-use Rattle.places.specs.declared.sides.Replacement.TheVariants.{Not}
 use Rattle.places.proofs.SidesLaws.{part-words}
-use Rattle.one_point.proofs.PartsStepLaws.{not_taken, took-not}
+use Rattle.one_point.proofs.PartsStepLaws.{not_taken, took-not, took-none}
 use Rattle.one_point.proofs.ScanLaws.{sides-end, parts_are, one-part, part-took}
 use Rattle.places.proofs.WroteLaws.{nothing_written, wrote-end, wrote-in, kept, wrote_self, based}
 use Rattle.places.proofs.PartsLaws.{some_words}
@@ -137,14 +137,14 @@ joined_words t (more f none) = rw append-nil (omega arith)
 joined_words t (more f (more g fs)) = omega arith
 
 -- the equality scanned
-left_by : (row : List ℕ) (pos e m : ℕ) (out out₂ out₃ : List ℕ) (found : Replacement) (gone : Bool) (next end : ℕ) → pos + 2 ≤ length out → (z : Scans) → Neats (present (left_of z)) → PartsTold row (pos + 2) out 0 z found e m out₂
-    → ((fs : Forms) → m ≡ count fs → Wrote (pos + 2) out₂ (encode_all fs) e out₂ → (gone ≡ is_gone (joined 351 fs)) × Wrote pos out₂ (left_words (joined 351 fs)) end out₃)
-    → Left row pos out (with (λ gs. joined 351 (present gs)) z) (record { ok = true; next = next; found = found; gone = gone; end = end }) out₃ × (end ≤ pos + 2 + words (present (left_of z)))
+left_by : (row : List ℕ) (pos e m : ℕ) (out out₂ out₃ : List ℕ) (found : Maybe Replacement) (next : ℕ) (end : Maybe ℕ) → pos + 2 ≤ length out → (z : Scans) → Neats (present (left_of z)) → PartsTold row (pos + 2) out 0 z found e m out₂
+    → ((fs : Forms) → m ≡ count fs → Wrote (pos + 2) out₂ (encode_all fs) e out₂ → (is_none end ≡ is_gone (joined 351 fs)) × Wrote pos out₂ (left_words (joined 351 fs)) (unwrap_or end pos) out₃)
+    → Left row pos out (with (λ gs. joined 351 (present gs)) z) (record { next = next; found = found; end = end }) out₃ × (unwrap_or end pos ≤ pos + 2 + words (present (left_of z)))
 unfolding PartsTold Left
-left_by row pos e m out out₂ out₃ found gone next end low (scans x gs) n t h =
+left_by row pos e m out out₂ out₃ found next end low (scans x gs) n t h =
     let u = h (present gs) (omega (arith, t.2)) (wrote_self (pos + 2) e out (encode_all (present gs)) out₂ low t.1) in
-    let v : Wrote pos out (left_words (joined 351 (present gs))) end out₃ = based pos end out out₂ (left_words (joined 351 (present gs))) out₃ (kept (pos + 2) e out (encode_all (present gs)) out₂ low t.1 pos (omega arith)) u.1 in
-    let a = wrote-end pos end out (left_words (joined 351 (present gs))) out₃ v in
+    let v : Wrote pos out (left_words (joined 351 (present gs))) (unwrap_or end pos) out₃ = based pos (unwrap_or end pos) out out₂ (left_words (joined 351 (present gs))) out₃ (kept (pos + 2) e out (encode_all (present gs)) out₂ low t.1 pos (omega arith)) u.1 in
+    let a = wrote-end pos (unwrap_or end pos) out (left_words (joined 351 (present gs))) out₃ v in
     let b = joined_words 351 (present gs) in
     ((t.0, u.0, v, joined-neat not_eight n), omega arith)
   where
@@ -160,19 +160,19 @@ module _ (row : List ℕ) (at right next n pos : ℕ) (out : List ℕ) (x : Side
   Whole = equal x.left x.other
 
   -- the parts of two pairs
-  pub parts-done : (e m : ℕ) (out₂ out₃ : List ℕ) (found : Replacement) (gone : Bool) (end : ℕ) → pos + 2 ≤ length out → PartsTold row (pos + 2) out 0 (offer_parts n (parts_at row (at + 1) right 1)) found e m out₂
-      → ((fs : Forms) → m ≡ count fs → Wrote (pos + 2) out₂ (encode_all fs) e out₂ → (gone ≡ is_gone (joined 351 fs)) × Wrote pos out₂ (left_words (joined 351 fs)) end out₃)
-      → Became row at Whole pos out (scan n true Whole) (record { ok = true; next = next; found = found; gone = gone; end = end }) out₃
-  parts-done e m out₂ out₃ found gone end low t h =
-      let u = left_by row pos e m out out₂ out₃ found gone next end low (offer_parts n (parts x.left x.other)) (offer-neat n (parts x.left x.other)) (rw (parts_are row at right next x) at t) h in
+  pub parts-done : (e m : ℕ) (out₂ out₃ : List ℕ) (found : Maybe Replacement) (end : Maybe ℕ) → pos + 2 ≤ length out → PartsTold row (pos + 2) out 0 (offer_parts n (parts_at row (at + 1) right 1)) found e m out₂
+      → ((fs : Forms) → m ≡ count fs → Wrote (pos + 2) out₂ (encode_all fs) e out₂ → (is_none end ≡ is_gone (joined 351 fs)) × Wrote pos out₂ (left_words (joined 351 fs)) (unwrap_or end pos) out₃)
+      → Became row at Whole pos out (scan n true Whole) (record { next = next; found = found; end = end }) out₃
+  parts-done e m out₂ out₃ found end low t h =
+      let u = left_by row pos e m out out₂ out₃ found next end low (offer_parts n (parts x.left x.other)) (offer-neat n (parts x.left x.other)) (rw (parts_are row at right next x) at t) h in
       let a = offer-less n (parts x.left x.other) in
       let b = parts-short x.left x.other in
       let c = equal-length x.left x.other in
-      let s : end ≤ pos + 2 * length (encode Whole) = omega (arith, u.1) in
+      let s : unwrap_or end pos ≤ pos + 2 * length (encode Whole) = omega (arith, u.1) in
       record { next = sides-end row at right next x; left = rw (scan-equal n x.left x.other) u.0; short = s }
 
   -- one part: it is taken, or passed
-  module _ (one : both_pairs row (at + 1) right ≡ false) (short : length row ≤ 8192) (r : Replacement) (is : r ≡ accept_words n (record { left = at + 1; middle = right; right = right; end = next }) row) where
+  module _ (one : both_pairs row (at + 1) right ≡ false) (short : length row ≤ 8192) (r : Maybe Replacement) (is : r ≡ accept_words n (record { left = at + 1; middle = right; right = right; end = next }) row) where
     pub part-scan : (t : Taken) → accept n x.left x.other ≡ t → scan n true Whole ≡ with (λ gs. joined 351 (present gs)) (offer_part x.left x.other t [] (scans nothing []))
     unfolding offer_parts
     part-scan t e = scan-equal n x.left x.other ∙ rw (one-part row at right next x one, e)
@@ -180,15 +180,15 @@ module _ (row : List ℕ) (at right next n pos : ℕ) (out : List ℕ) (x : Side
     pub offered : TookIs row (accept n x.left x.other) r
     offered = rw is (part-took row at right next x short n)
 
-    pub part-taken : is_taken r ≡ true → Became row at Whole pos out (scan n true Whole) (record { ok = true; next = next; found = r; gone = true; end = pos }) out
+    pub part-taken : is_some r ≡ true → Became row at Whole pos out (scan n true Whole) (record { next = next; found = r; end = None }) out
     unfolding Left TookIs
     part-taken k = go (accept n x.left x.other) refl offered
       where
-        go : (t : Taken) → accept n x.left x.other ≡ t → TookIs row t r → Became row at Whole pos out (scan n true Whole) (record { ok = true; next = next; found = r; gone = true; end = pos }) out
+        go : (t : Taken) → accept n x.left x.other ≡ t → TookIs row t r → Became row at Whole pos out (scan n true Whole) (record { next = next; found = r; end = None }) out
         go (taken i e) q h = rw (part-scan (taken i e) q) (record { next = sides-end row at right next x; left = (h, refl, nothing_written pos out, tt); short = omega arith })
-        go nothing q h = absurd (clash cc)
+        go nothing q h = absurd (took-none row r h k)
 
-    pub part-passed : is_taken r ≡ false → (end : ℕ) (out' : List ℕ) → Wrote pos out (take (next - at) (drop at row)) end out' → Became row at Whole pos out (scan n true Whole) (record { ok = true; next = next; found = Not; gone = false; end = end }) out'
+    pub part-passed : is_some r ≡ false → (end : ℕ) (out' : List ℕ) → Wrote pos out (take (next - at) (drop at row)) end out' → Became row at Whole pos out (scan n true Whole) (record { next = next; found = None; end = Some end }) out'
     unfolding Left TookIs
     part-passed k end out' w =
         let a = sides-end row at right next x in
@@ -198,7 +198,7 @@ module _ (row : List ℕ) (at right next n pos : ℕ) (out : List ℕ) (x : Side
         rw (part-scan nothing z) (record { next = a; left = (refl, refl, v, equal-neat x.left x.other); short = omega arith })
 
 -- where parts that were written end
-module _ (row out out' : List ℕ) (w k e m : ℕ) (found : Replacement) where
+module _ (row out out' : List ℕ) (w k e m : ℕ) (found : Maybe Replacement) where
   pub parts-written : (z : Scans) → PartsTold row w out k z found e m out' → w ≤ e
   unfolding PartsTold
   parts-written (scans x gs) t = let a = wrote-end w e out (encode_all (present gs)) out' t.1 in omega arith

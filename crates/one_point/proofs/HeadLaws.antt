@@ -15,9 +15,7 @@ use Rattle.tree.specs.Tag.{pred, ask, flags, own, sorts}
 use Rattle.form.specs.Decode.{Head, head, flagged, bad, read, Got, got, no-form, Gots, gots, no-forms, GotDecls, declared, no-decls, decls, close, close_noted, with_decls, decode, decode_all, Whole, one, not-one, whole as whole_of}
 use Rattle.form.specs.Internal.Heads.{head_at}
 use Rattle.form.specs.declared.head.Head as code
-use Rattle.form.specs.declared.head.Head.TheVariants.{Kids, Noted, None as NoHead}
-use Rattle.form.specs.declared.head.Step.{Step}
-use Rattle.form.specs.declared.head.Step.TheVariants.{End, Bad}
+use Rattle.form.specs.declared.head.Head.TheVariants.{Kids, Noted}
 use Rattle.form.proofs.DecodeLaws.{clash, ok-node, ok-none, ok-more, read-exact, read_at, flags-exact, flags-at, decode-encode, decls-encode}
 use Rattle.form.proofs.HeadLaws.{here, few-decls}
 use Rattle.reader.specs.Internal.Reads.{decls_within}
@@ -33,10 +31,9 @@ use Rattle.replace.proofs.OkLaws.{node-names}
 use Rattle.decls.specs.Internal.Noted.{count_in, end_decls}
 use Rattle.decls.proofs.DeclLaws.{GoodDecls, good-decls}
 use Rattle.decls.proofs.EndLaws.{Declared, declared-at}
-use Rattle.one_point.specs.Internal.Reduce.{is_quantifier, body_after, headed, quantifier_in, operator_in, decls_in, AreNotes, Headed}
-use Rattle.one_point.specs.declared.one_point_inference.Quantifier.{Quantifier}
-use Rattle.one_point.specs.declared.one_point_inference.Quantifier.TheVariants.{Of, None}
+use Rattle.one_point.specs.Internal.Reduce.{is_quantifier, headed, quantifier_in, operator_in, decls_in, AreNotes, Headed}
 use Rattle.one_point.proofs.ScanLimits.{rest_ok}
+use Rattle.std.specs.Prelude.{Some, None, Option}
 
 -- declarations put round what was read of a body
 abbrev pub around_whole : ℕ → List Decl → Whole → Whole
@@ -271,7 +268,7 @@ module _ (row : List ℕ) where
       go false false false false true e1 e2 e3 e4 e5 n = (let l = leb-false (length row) 1 e1 in omega arith, annotated (rw (e4, e5) refl))
       go false false false false false e1 e2 e3 e4 e5 n = absurd (n refl)
 
-  head-by : (z : Head) (p : ℕ) → 0 < length row → Tagged → read (own pred (get_or row 0 0)) (drop 1 row) ≡ z → headed row (head_at 1 z) ≡ Of p → HeadRead row p
+  head-by : (z : Head) (p : ℕ) → 0 < length row → Tagged → read (own pred (get_or row 0 0)) (drop 1 row) ≡ z → headed row (head_at 1 z) ≡ Some p → HeadRead row p
   unfolding head_at
   head-by bad p low k q e = absurd (clash cc)
   head-by (head o ds x y r) p low (plain w) q e =
@@ -284,19 +281,19 @@ module _ (row : List ℕ) where
       let two : 1 + length o ≡ 2 = ap (λ z. 1 + length z) g.words in
       go (end_decls 2 (decls_within 63 0 n (drop 2 row))) refl (rw two at e)
     where
-      go : (st : Step) → end_decls 2 (decls_within 63 0 n (drop 2 row)) ≡ st → body_after (end_decls 2 (decls_within 63 0 n (drop 2 row))) ≡ Of p → HeadRead row p
-      go (End e) k z =
+      go : (st : Option ℕ) → end_decls 2 (decls_within 63 0 n (drop 2 row)) ≡ st → end_decls 2 (decls_within 63 0 n (drop 2 row)) ≡ Some p → HeadRead row p
+      go (Some e) k z =
           let i = rw k at z in
           let j : e ≡ p = cc in
           let m = few-decls pred (get_or row 0 0) (drop 1 row) o n x y r q in
-          noted_read row low w o n x y r q p (declared-at row 2 n p (End e) (omega arith) (sym k) (ap End j))
-      go Bad k z = let i = rw k at z in absurd (clash cc)
+          noted_read row low w o n x y r q p (declared-at row 2 n p (Some e) (omega arith) (sym k) (ap Some j))
+      go None k z = let i = rw k at z in absurd (clash cc)
 
-  pub head_read : (q : Quantifier) → q ≡ quantifier_in row → (p : ℕ) → q ≡ Of p → HeadRead row p
+  pub head_read : (q : Option ℕ) → q ≡ quantifier_in row → (p : ℕ) → q ≡ Some p → HeadRead row p
   unfolding quantifier_in
   head_read q e p is = go (eqb (count_in row) 0) refl (sym e ∙ is)
     where
-      go : (b : Bool) → eqb (count_in row) 0 ≡ b → pick b None (headed row (head_at 1 (read (own pred (get_or row 0 0)) (drop 1 row)))) ≡ Of p → HeadRead row p
+      go : (b : Bool) → eqb (count_in row) 0 ≡ b → pick b None (headed row (head_at 1 (read (own pred (get_or row 0 0)) (drop 1 row)))) ≡ Some p → HeadRead row p
       go true k z = absurd (clash cc)
       go false k z = let (low, tagged) = counted-tag (eqb-false (count_in row) 0 k) in head-by (read (own pred (get_or row 0 0)) (drop 1 row)) p low tagged refl z
 
@@ -316,10 +313,10 @@ module _ (row : List ℕ) where
       = within 0 63 0 n (drop (1 + length o) row) [] [] (omega arith) (omega arith) (omega arith) ∙ ap (decls (λ s l. decode 63 s l) n) (sym f) in
       node-here 63 pred row 0 low ∙ rw q (go (decls (λ s l. decode 63 s l) n r) (rw d at e))
     where
-      go : (g : GotDecls) → body_after (end_decls (1 + length o) g) ≡ None → with_decls (λ s l. decode 63 s l) (get_or row 0 0) o x y g ≡ no-form
+      go : (g : GotDecls) → end_decls (1 + length o) g ≡ None → with_decls (λ s l. decode 63 s l) (get_or row 0 0) o x y g ≡ no-form
       go (declared ds z) e = by (any_typed ds) refl e
         where
-          by : (b : Bool) → any_typed ds ≡ b → body_after (pick b (End (1 + length o + length (encode_decls ds))) Bad) ≡ None → with_decls (λ s l. decode 63 s l) (get_or row 0 0) o x y (declared ds z) ≡ no-form
+          by : (b : Bool) → any_typed ds ≡ b → pick b (Some (1 + length o + length (encode_decls ds))) None ≡ None → with_decls (λ s l. decode 63 s l) (get_or row 0 0) o x y (declared ds z) ≡ no-form
           by true h e = absurd (clash cc)
           by false h e = no-close (get_or row 0 0) o ds (decode_all (λ s l. decode 63 s l) (sorts x y) z) h
       go no-decls e = refl
@@ -344,24 +341,16 @@ module _ (row : List ℕ) (n : ℕ) (is : n ≡ count_in row) where
   pub head-word : (n ≡ 0 → ⊥) → 0 < length row
   head-word z = (counted-tag row (λ e. z (is ∙ e))).0
 
-  module _ (z : n ≡ 0 → ⊥) (h : code.Head) (e : h ≡ head_at 1 (read (own pred (get_or row 0 0)) (drop 1 row))) where
+  module _ (z : n ≡ 0 → ⊥) (h : Option code.Head) (e : h ≡ head_at 1 (read (own pred (get_or row 0 0)) (drop 1 row))) where
     head-is : headed row h ≡ quantifier_in row
     unfolding quantifier_in
     head-is = rw (ne_eqb (count_in row) 0 (λ y. z (is ∙ y)), ← e)
 
-    pub head-bad : h ≡ NoHead → None ≡ quantifier_in row
+    pub head-bad : h ≡ None → None ≡ quantifier_in row
     head-bad q = ap (headed row) (sym q) ∙ head-is
 
-    pub head-noted : (p x y w : ℕ) → h ≡ Noted p x y w → (r : Quantifier) → r ≡ body_after (end_decls p (decls_within 63 0 w (drop p row))) → r ≡ quantifier_in row
+    pub head-noted : (p x y w : ℕ) → h ≡ Some (Noted p x y w) → (r : Option ℕ) → r ≡ end_decls p (decls_within 63 0 w (drop p row)) → r ≡ quantifier_in row
     head-noted p x y w q r k = k ∙ (ap (headed row) (sym q) ∙ head-is)
 
-    pub head-of : (p x y w : ℕ) → h ≡ Kids p x y w → Of p ≡ quantifier_in row
+    pub head-of : (p x y w : ℕ) → h ≡ Some (Kids p x y w) → Some p ≡ quantifier_in row
     head-of p x y w q = ap (headed row) (sym q) ∙ head-is
-
--- behind declarations
-module _ (s t : Step) (e : s ≡ t) where
-  pub behind-end : (p : ℕ) → s ≡ End p → Of p ≡ body_after t
-  behind-end p q = ap body_after (sym q ∙ e)
-
-  pub behind-none : s ≡ Bad → None ≡ body_after t
-  behind-none q = ap body_after (sym q ∙ e)

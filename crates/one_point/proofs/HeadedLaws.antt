@@ -6,7 +6,7 @@ use Prim.Native.Nat.{ℕ, zero, suc, ◌+◌, ◌-◌, ◌*◌, ◌≤◌, ◌<�
 use native.Mathlib.Omega.{arith}
 use borrow.Author.Tests.{lt-ltb, le-ltb}
 use lib.Dec.{eqb, ltb}
-use lib.ListN.{length, get_or, take, drop, set, replicate, length-map, length-set, length-replicate}
+use lib.ListN.{length, get_or, take, drop, set, replicate, length-map, length-set}
 use lib.Seq.{length-take-le}
 use Rattle.tree.specs.Form.{pick, encode_decls}
 use Rattle.form.proofs.DecodeLaws.{clash}
@@ -45,15 +45,6 @@ module _ (head : List ℕ) (h : Headed head) where
 
   pub few_words : (p : ℕ) → get_or head 1 0 ≤ length (set (replicate {A = ℕ} 32 0) p 1)
   few_words p = rw (length-set (replicate {A = ℕ} 32 0) p 1) head-most
-
-  pub few-zeros : get_or head 1 0 - 1 ≤ length (replicate {A = ℕ} 32 0)
-  few-zeros = let m = head-most in let l = length-replicate {A = ℕ} 32 0 in omega arith
-
-  pub ones_in : get_or head 1 0 + 1 ≤ length (replicate {A = ℕ} 33 1)
-  ones_in = let m = head-most in let l = length-replicate {A = ℕ} 33 1 in omega arith
-
-  pub last-low : get_or head 1 0 - 1 < get_or head 1 0
-  last-low = let l = head-least in omega arith
 
   ones-front : (k m : ℕ) → k ≤ m → take k (replicate {A = ℕ} m 1) ≡ replicate k 1
   ones-front zero m e = refl
@@ -157,12 +148,6 @@ module _ (head : List ℕ) (h : Headed head) (low : get_or head 0 0 ≤ 860) (l 
 
     made-store : l' ≡ store l 2 (encode_decls (unlisted (map unnoted (drop 2 head))))
     made-store = put ∙ rw (ns-are, long, made-fit)
-
-    pub made-low : end ≤ 66
-    made-low = let e = made-end in let n = ns-few in omega arith
-
-    pub made_in : length l' ≡ length l → end ≤ length l'
-    made_in e = let m = made-low in omega arith
 
     pub flags-made : Flags head (take end l')
     flags-made =

@@ -1,15 +1,16 @@
 -- What stands in the output row once both sides of an implication are scanned. Assumes nothing.
 use mathlib.Core.Path.{◌≡◌, refl, ap, ◌∙◌}
-use mathlib.Core.Bool.{Bool, true, false}
+use mathlib.Core.Bool.{true, false}
 use mathlib.Core.Option.{Option, none as absent, some}
 use mathlib.Core.List.{List, [], ◌∷◌, ◌++◌, append-nil}
 use Prim.Native.Nat.{ℕ, suc, ◌+◌, ◌-◌, ◌≤◌}
 use native.Mathlib.Omega.{arith}
 use lib.ListN.{length, get_or, take, drop, set, length-set}
 use lib.Seq.{take-set-le}
-use Rattle.tree.specs.Form.{Form, pick, encode}
+use Rattle.std.specs.Prelude.{Option as Maybe, Some, None}
+use Rattle.std.specs.Option.{unwrap_or}
+use Rattle.tree.specs.Form.{Form, encode}
 use Rattle.tree.specs.Tag.{pred}
-use Rattle.form.proofs.DecodeLaws.{clash}
 use Rattle.rules.specs.Replacement.{Taken, taken, nothing}
 use Rattle.rules.specs.Scan.{Scan, scanned, negate, implies, scan}
 use Rattle.places.specs.Internal.Wrote.{Wrote}
@@ -18,6 +19,7 @@ use Rattle.one_point.specs.Internal.Parts.{TookIs}
 use Rattle.one_point.specs.Internal.Scans.{Left, Became, ScanTold, Entered, next_scan}
 use Rattle.one_point.specs.declared.scanned.Scanned.{Scanned}
 use Rattle.places.proofs.WroteLaws.{wrote-end, wrote_on, wrote-word, kept, wrote_self, based}
+use Rattle.one_point.proofs.EndLaws.{none-some, some-none}
 use Rattle.one_point.proofs.RebuildLaws.{implies_of, implies-words, scan-left, scan-both}
 use Rattle.one_point.proofs.BecameLaws.{neat-negate, negate-words, Child, child-of, child-room}
 use Rattle.reader.specs.Internal.Reads.{mark}
@@ -53,58 +55,58 @@ module _ (row : List ℕ) (at pos : ℕ) (f l r : Form) (words : length (encode 
   Now y k a b = Became row at f pos out (scanned y k) a b
 
   module _ (x y : Taken) where
-    alone : (g h : Option Form) → s.gone ≡ true → Became row (at + 1) l (pos + 1) (set out pos 251) (scanned x g) s out₁
+    alone : (g h : Option Form) → s.end ≡ None → Became row (at + 1) l (pos + 1) (set out pos 251) (scanned x g) s out₁
         → Became row (at + 1 + length (encode l)) r pos out₁ (scanned y h) t out₂ → Now y (implies g h) t out₂
     unfolding Left
-    alone (some g) h q a b = let z = a.left.1 in absurd (clash cc)
+    alone (some g) h q a b = absurd (some-none s.end a.left.1 q)
     alone absent h q a b =
         let c = b.next in
         let d = b.short in
-        let k : take pos out₁ ≡ take pos out = kept (pos + 1) s.end (set out pos 251) [] out₁ low-set a.left.2 pos (omega arith) ∙ front in
-        record { next = omega arith; left = (b.left.0, b.left.1, based pos t.end out out₁ (left_words h) out₂ k b.left.2, b.left.3); short = omega arith }
+        let k : take pos out₁ ≡ take pos out = kept (pos + 1) (pos + 1) (set out pos 251) [] out₁ low-set (rw q at a.left.2) pos (omega arith) ∙ front in
+        record { next = omega arith; left = (b.left.0, b.left.1, based pos (unwrap_or t.end pos) out out₁ (left_words h) out₂ k b.left.2, b.left.3); short = omega arith }
 
-    module _ (q : s.gone ≡ false) where
-      both : (g h : Option Form) → t.gone ≡ false → Became row (at + 1) l (pos + 1) (set out pos 251) (scanned x g) s out₁
-          → Became row (at + 1 + length (encode l)) r s.end out₁ (scanned y h) t out₂ → Now y (implies g h) t out₂
+    module _ (w : ℕ) (q : s.end ≡ Some w) where
+      both : (g h : Option Form) → (v : ℕ) → t.end ≡ Some v → Became row (at + 1) l (pos + 1) (set out pos 251) (scanned x g) s out₁
+          → Became row (at + 1 + length (encode l)) r w out₁ (scanned y h) t out₂ → Now y (implies g h) t out₂
       unfolding Left encode
-      both absent h p a b = let z = a.left.1 in absurd (clash cc)
-      both (some g) absent p a b = let z = b.left.1 in absurd (clash cc)
-      both (some g) (some h) p a b =
+      both absent h v p a b = absurd (none-some s.end a.left.1 w q)
+      both (some g) absent v p a b = absurd (none-some t.end b.left.1 v p)
+      both (some g) (some h) v p a b =
           let c = b.next in
-          let d = b.short in
-          let d' = a.short in
-          let m : Wrote (pos + 1) (set out pos 251) (encode g ++ encode h) t.end out₂ = wrote_on (pos + 1) s.end t.end (set out pos 251) (encode g) out₁ (encode h) out₂ a.left.2 b.left.2 in
-          let v : Wrote pos out (251 ∷ (encode g ++ encode h)) t.end out₂ = wrote_on pos (pos + 1) t.end out (251 ∷ []) (set out pos 251) (encode g ++ encode h) out₂ (wrote-word pos 251 out (omega arith)) m in
-          record { next = omega arith; left = (b.left.0, b.left.1, rw append-nil v, neat-other not_eight); short = omega arith }
+          let d = rw p at b.short in
+          let d' = rw q at a.short in
+          let m : Wrote (pos + 1) (set out pos 251) (encode g ++ encode h) v out₂ = wrote_on (pos + 1) w v (set out pos 251) (encode g) out₁ (encode h) out₂ (rw q at a.left.2) (rw p at b.left.2) in
+          let u : Wrote pos out (251 ∷ (encode g ++ encode h)) v out₂ = wrote_on pos (pos + 1) v out (251 ∷ []) (set out pos 251) (encode g ++ encode h) out₂ (wrote-word pos 251 out (omega arith)) m in
+          record { next = omega arith; left = (b.left.0, b.left.1, rw (p, append-nil) u, neat-other not_eight); short = rw p (omega arith) }
 
       -- the left side still stands where the right one is gone
-      left-stands : (g : Form) → Became row (at + 1) l (pos + 1) (set out pos 251) (scanned x (some g)) s out₁ → Became row (at + 1 + length (encode l)) r s.end out₁ (scanned y absent) t out₂
-          → Wrote (pos + 1) (set out pos 251) (encode g) s.end out₂
+      left-stands : (g : Form) → Became row (at + 1) l (pos + 1) (set out pos 251) (scanned x (some g)) s out₁ → t.end ≡ None → Became row (at + 1 + length (encode l)) r w out₁ (scanned y absent) t out₂
+          → Wrote (pos + 1) (set out pos 251) (encode g) w out₂
       unfolding Left
-      left-stands g a b =
-          let (i, j) = child-room pos low-set a q in
-          same-words (pos + 1) s.end (set out pos 251) (encode g) out₁ out₂ a.left.2 (kept s.end t.end out₁ [] out₂ j b.left.2 s.end (omega arith))
+      left-stands g a p b =
+          let (i, j) = child-room pos low-set a w q in
+          same-words (pos + 1) w (set out pos 251) (encode g) out₁ out₂ (rw q at a.left.2) (kept w w out₁ [] out₂ j (rw p at b.left.2) w (omega arith))
 
-      pub left_there : (g : Form) → Became row (at + 1) l (pos + 1) (set out pos 251) (scanned x (some g)) s out₁ → Became row (at + 1 + length (encode l)) r s.end out₁ (scanned y absent) t out₂
-          → Wrote (pos + 1) out₂ (encode g) s.end out₂
-      left_there g a b = wrote_self (pos + 1) s.end (set out pos 251) (encode g) out₂ low-set (left-stands g a b)
+      pub left_there : (g : Form) → Became row (at + 1) l (pos + 1) (set out pos 251) (scanned x (some g)) s out₁ → t.end ≡ None → Became row (at + 1 + length (encode l)) r w out₁ (scanned y absent) t out₂
+          → Wrote (pos + 1) out₂ (encode g) w out₂
+      left_there g a p b = wrote_self (pos + 1) w (set out pos 251) (encode g) out₂ low-set (left-stands g a p b)
 
-      left-only : (g h : Option Form) → t.gone ≡ true → Became row (at + 1) l (pos + 1) (set out pos 251) (scanned x g) s out₁
-          → Became row (at + 1 + length (encode l)) r s.end out₁ (scanned y h) t out₂ → (e : ℕ) (out₃ : List ℕ)
-          → ((k : Form) → Neat k → Wrote (pos + 1) out₂ (encode k) s.end out₂ → Wrote pos out₂ (encode (negate k)) e out₃)
-          → Now y (implies g h) (record { ok = true; next = t.next; found = t.found; gone = false; end = e }) out₃
+      left-only : (g h : Option Form) → t.end ≡ None → Became row (at + 1) l (pos + 1) (set out pos 251) (scanned x g) s out₁
+          → Became row (at + 1 + length (encode l)) r w out₁ (scanned y h) t out₂ → (e : ℕ) (out₃ : List ℕ)
+          → ((k : Form) → Neat k → Wrote (pos + 1) out₂ (encode k) w out₂ → Wrote pos out₂ (encode (negate k)) e out₃)
+          → Now y (implies g h) (record { next = t.next; found = t.found; end = Some e }) out₃
       unfolding Left
-      left-only absent h p a b e out₃ fin = let z = a.left.1 in absurd (clash cc)
-      left-only (some g) (some h) p a b e out₃ fin = let z = b.left.1 in absurd (clash cc)
+      left-only absent h p a b e out₃ fin = absurd (none-some s.end a.left.1 w q)
+      left-only (some g) (some h) p a b e out₃ fin = absurd (some-none t.end b.left.1 p)
       left-only (some g) absent p a b e out₃ fin =
           let c = b.next in
-          let d = a.short in
-          let w = a.left.2 in
-          let v = left-stands g a b in
-          let u = fin g a.left.3 (left_there g a b) in
-          let o : Wrote pos out (encode (negate g)) e out₃ = based pos e out out₂ (encode (negate g)) out₃ (kept (pos + 1) s.end (set out pos 251) (encode g) out₂ low-set v pos (omega arith) ∙ front) u in
+          let d = rw q at a.short in
+          let z = rw q at a.left.2 in
+          let v = left-stands g a p b in
+          let u = fin g a.left.3 (left_there g a p b) in
+          let o : Wrote pos out (encode (negate g)) e out₃ = based pos e out out₂ (encode (negate g)) out₃ (kept (pos + 1) w (set out pos 251) (encode g) out₂ low-set v pos (omega arith) ∙ front) u in
           let n = wrote-end pos e out (encode (negate g)) out₃ o in
-          let n' = wrote-end (pos + 1) s.end (set out pos 251) (encode g) out₁ w in
+          let n' = wrote-end (pos + 1) w (set out pos 251) (encode g) out₁ z in
           let n'' = negate-words a.left.3 in
           record { next = omega arith; left = (b.left.0, refl, o, neat-negate a.left.3); short = omega arith }
 
@@ -115,35 +117,35 @@ took_from : (row : List ℕ) (at pos : ℕ) (f : Form) (out out' : List ℕ) (s 
 unfolding Left
 took_from row at pos f out out' s x g b = b.left.0
 
-moved : (z : Form → Scan) (row : List ℕ) (d : ℕ) (out : List ℕ) (r : Scanned) (out' : List ℕ) (at at' pos pos' : ℕ) → at ≡ at' → pos ≡ pos' → ScanTold z row d at pos out r out' → ScanTold z row d at' pos' out r out'
+moved : (z : Form → Scan) (row : List ℕ) (d : ℕ) (out : List ℕ) (r : Maybe Scanned) (out' : List ℕ) (at at' pos pos' : ℕ) → at ≡ at' → pos ≡ pos' → ScanTold z row d at pos out r out' → ScanTold z row d at' pos' out r out'
 moved z row d out r out' at at' pos pos' e h t = rw (← e, ← h) t
 
 -- from what the scans of both sides tell
-module _ (row : List ℕ) (d at n pos : ℕ) (x : Entered row d at) (tag : get_or row at 0 ≡ 251) (out out₁ : List ℕ) (s : Scanned) where
-  pub left-no : ScanTold (scan n true) row (d - 1) (at + 1) (pos + 1) (set out pos 251) s out₁ → s.ok ≡ false → ScanTold (scan n false) row d at pos out s out₁
-  left-no t e =
-      let h = told-no (scan n true) row (d - 1) (at + 1) (pos + 1) (set out pos 251) s out₁ t e in
-      tell_no (scan n false) row d at pos out s out₁ (first-no row at x.inside 251 2 0 implies-tag tag d x.deeper pred (pred ∷ []) refl h) e
+module _ (row : List ℕ) (d at n pos : ℕ) (x : Entered row d at) (tag : get_or row at 0 ≡ 251) (out out₁ : List ℕ) where
+  pub left-no : ScanTold (scan n true) row (d - 1) (at + 1) (pos + 1) (set out pos 251) None out₁ → ScanTold (scan n false) row d at pos out None out₁
+  left-no t =
+      let h = told-no (scan n true) row (d - 1) (at + 1) (pos + 1) (set out pos 251) out₁ t in
+      tell_no (scan n false) row d at pos out out₁ (first-no row at x.inside 251 2 0 implies-tag tag d x.deeper pred (pred ∷ []) refl h)
 
-  module _ (a : ScannedAt (scan n true) row (d - 1) (at + 1) (pos + 1) (set out pos 251) s out₁) (start : ℕ) (out₂ : List ℕ) (t : Scanned)
-      (told : (y : Taken) → TookIs row y s.found → ScanTold (λ f. next_scan y (scan n false f) f) row (d - 1) s.next start out₁ t out₂) where
+  module _ (s : Scanned) (a : ScannedAt (scan n true) row (d - 1) (at + 1) (pos + 1) (set out pos 251) s out₁) (start : ℕ) (out₂ : List ℕ) (r : Maybe Scanned)
+      (told : (y : Taken) → TookIs row y s.found → ScanTold (λ f. next_scan y (scan n false f) f) row (d - 1) s.next start out₁ r out₂) where
     abbrev left : Child row (at + 1) a.form (pos + 1) (set out pos 251) (scan n true a.form) s out₁
     left = child-of a.became
 
-    right-told : (from : ℕ) → start ≡ from → ScanTold (λ f. next_scan left.took (scan n false f) f) row (d - 1) (at + 1 + length (encode a.form)) from out₁ t out₂
+    right-told : (from : ℕ) → start ≡ from → ScanTold (λ f. next_scan left.took (scan n false f) f) row (d - 1) (at + 1 + length (encode a.form)) from out₁ r out₂
     right-told from h =
-        moved (λ f. next_scan left.took (scan n false f) f) row (d - 1) out₁ t out₂ s.next (at + 1 + length (encode a.form)) start from a.became.next h
+        moved (λ f. next_scan left.took (scan n false f) f) row (d - 1) out₁ r out₂ s.next (at + 1 + length (encode a.form)) start from a.became.next h
         (told left.took (took_from row (at + 1) (pos + 1) a.form (set out pos 251) out₁ s left.took left.left left.became))
 
-    pub right-no : t.ok ≡ false → ScanTold (scan n false) row d at pos out t out₂
+    pub right-no : r ≡ None → ScanTold (scan n false) row d at pos out None out₂
     right-no e =
-        let h = told-no _ row (d - 1) (at + 1 + length (encode a.form)) start out₁ t out₂ (right-told start refl) e in
-        tell_no (scan n false) row d at pos out t out₂ (second-no row at x.inside 251 2 0 implies-tag tag d x.deeper pred refl a.form _ a.is h) e
+        let h = told-no (λ f. next_scan left.took (scan n false f) f) row (d - 1) (at + 1 + length (encode a.form)) start out₁ out₂ (rw e at (right-told start refl)) in
+        tell_no (scan n false) row d at pos out out₂ (second-no row at x.inside 251 2 0 implies-tag tag d x.deeper pred refl a.form _ a.is h)
 
-    module _ (low : pos + 1 ≤ length out) (ok : t.ok ≡ true) where
+    module _ (low : pos + 1 ≤ length out) (t : Scanned) (ok : r ≡ Some t) where
       module _ (from : ℕ) (h : start ≡ from) where
         right : ScannedAt (λ f. next_scan left.took (scan n false f) f) row (d - 1) (at + 1 + length (encode a.form)) from out₁ t out₂
-        right = told-ok _ row (d - 1) (at + 1 + length (encode a.form)) from out₁ t out₂ (right-told from h) ok
+        right = told-ok (λ f. next_scan left.took (scan n false f) f) row (d - 1) (at + 1 + length (encode a.form)) from out₁ t out₂ (rw ok at (right-told from h))
 
         abbrev Made : Form
         Made = implies_of a.form right.form
@@ -154,29 +156,29 @@ module _ (row : List ℕ) (d at n pos : ℕ) (x : Entered row d at) (tag : get_o
         made-scan : scan n false Made ≡ scanned after.took (implies left.left after.left)
         made-scan = scan-implies n a.form right.form left.took after.took left.left after.left left.is after.is
 
-        tell-made : (r : Scanned) (out₃ : List ℕ) → r.ok ≡ true → Became row at Made pos out (scanned after.took (implies left.left after.left)) r out₃ → ScanTold (scan n false) row d at pos out r out₃
-        tell-made r out₃ k b =
-            tell (scan n false) row d at pos out r out₃ Made _ (two-got row at x.inside 251 2 0 implies-tag tag d x.deeper pred refl a.form _ a.is right.form _ right.is) k (rw made-scan b)
+        tell-made : (z : Scanned) (out₃ : List ℕ) → Became row at Made pos out (scanned after.took (implies left.left after.left)) z out₃ → ScanTold (scan n false) row d at pos out (Some z) out₃
+        tell-made z out₃ b =
+            tell (scan n false) row d at pos out z out₃ Made _ (two-got row at x.inside 251 2 0 implies-tag tag d x.deeper pred refl a.form _ a.is right.form _ right.is) (rw made-scan b)
 
-      pub right-alone : s.gone ≡ true → start ≡ pos → ScanTold (scan n false) row d at pos out t out₂
+      pub right-alone : s.end ≡ None → start ≡ pos → ScanTold (scan n false) row d at pos out (Some t) out₂
       right-alone q h =
           let y = after pos h in
           let r = (right pos h).form in
-          tell-made pos h t out₂ ok (alone row at pos (Made pos h) a.form r (implies-words a.form r) out out₁ out₂ low s t left.took y.took left.left y.left q left.became y.became)
+          tell-made pos h t out₂ (alone row at pos (Made pos h) a.form r (implies-words a.form r) out out₁ out₂ low s t left.took y.took left.left y.left q left.became y.became)
 
-      pub both_left : s.gone ≡ false → t.gone ≡ false → start ≡ s.end → ScanTold (scan n false) row d at pos out t out₂
-      both_left q p h =
-          let y = after s.end h in
-          let r = (right s.end h).form in
-          tell-made s.end h t out₂ ok (both row at pos (Made s.end h) a.form r (implies-words a.form r) out out₁ out₂ low s t left.took y.took q left.left y.left p left.became y.became)
+      pub both_left : (w : ℕ) → s.end ≡ Some w → (v : ℕ) → t.end ≡ Some v → start ≡ w → ScanTold (scan n false) row d at pos out (Some t) out₂
+      both_left w q v p h =
+          let y = after w h in
+          let z = (right w h).form in
+          tell-made w h t out₂ (both row at pos (Made w h) a.form z (implies-words a.form z) out out₁ out₂ low s t left.took y.took w q left.left y.left v p left.became y.became)
 
-      pub left_alone : s.gone ≡ false → t.gone ≡ true → start ≡ s.end → (e : ℕ) (out₃ : List ℕ)
-          → ((k : Form) → Neat k → Wrote (pos + 1) out₂ (encode k) s.end out₂ → Wrote pos out₂ (encode (negate k)) e out₃)
-          → ScanTold (scan n false) row d at pos out (record { ok = true; next = t.next; found = t.found; gone = false; end = e }) out₃
-      left_alone q p h e out₃ fin =
-          let y = after s.end h in
-          let r = (right s.end h).form in
-          tell-made s.end h _ out₃ refl (left-only row at pos (Made s.end h) a.form r (implies-words a.form r) out out₁ out₂ low s t left.took y.took q left.left y.left p left.became y.became e out₃ fin)
+      pub left_alone : (w : ℕ) → s.end ≡ Some w → t.end ≡ None → start ≡ w → (e : ℕ) (out₃ : List ℕ)
+          → ((k : Form) → Neat k → Wrote (pos + 1) out₂ (encode k) w out₂ → Wrote pos out₂ (encode (negate k)) e out₃)
+          → ScanTold (scan n false) row d at pos out (Some (record { next = t.next; found = t.found; end = Some e })) out₃
+      left_alone w q p h e out₃ fin =
+          let y = after w h in
+          let z = (right w h).form in
+          tell-made w h _ out₃ (left-only row at pos (Made w h) a.form z (implies-words a.form z) out out₁ out₂ low s t left.took y.took w q left.left y.left p left.became y.became e out₃ fin)
 
       -- their marks
       module _ (ms ms₁ ms₂ : List ℕ) (m : ScanMarks (scan n true) row (d - 1) (at + 1) (pos + 1) ms ms₁)
@@ -196,45 +198,34 @@ module _ (row : List ℕ) (d at n pos : ℕ) (x : Entered row d at) (tag : get_o
           tell-marked ms₃ e =
               tell-marks (scan n false) pos ms ms₃ (decode d pred (drop at row)) (Made from h) _ (two-got row at x.inside 251 2 0 implies-tag tag d x.deeper pred refl a.form _ a.is (right from h).form _ (right from h).is) (rw (made-scan from h) e)
 
-        pub alone-marks : s.gone ≡ true → start ≡ pos → ScanMarks (scan n false) row d at pos ms ms₂
+        pub alone-marks : s.end ≡ None → start ≡ pos → ScanMarks (scan n false) row d at pos ms ms₂
         unfolding Left
         alone-marks q h = tell-marked pos h ms₂ (go left.left left.became.left left-marks)
           where
             go : (g : Option Form) → Left row (pos + 1) (set out pos 251) (scanned left.took g) s out₁ → ms₁ ≡ mark_left g (pos + 1) ms → ms₂ ≡ mark_left (implies g (after pos h).left) pos ms
-            go (some g) l e = let z = l.1 in absurd (clash cc)
+            go (some g) l e = absurd (some-none s.end l.1 q)
             go absent l e = right-marks pos h ∙ ap (mark_left (after pos h).left pos) e
 
-        module _ (q : s.gone ≡ false) (h : start ≡ s.end) where
-          pub both-marks : t.gone ≡ false → ScanMarks (scan n false) row d at pos ms ms₂
+        module _ (w : ℕ) (q : s.end ≡ Some w) (h : start ≡ w) where
+          pub both-marks : (v : ℕ) → t.end ≡ Some v → ScanMarks (scan n false) row d at pos ms ms₂
           unfolding Left mark
-          both-marks p = tell-marked s.end h ms₂ (go left.left (after s.end h).left left.became.left (after s.end h).became.left left-marks (right-marks s.end h))
+          both-marks v p = tell-marked w h ms₂ (go left.left (after w h).left left.became.left (after w h).became.left left-marks (right-marks w h))
             where
-              go : (g k : Option Form) → Left row (pos + 1) (set out pos 251) (scanned left.took g) s out₁ → Left row s.end out₁ (scanned (after s.end h).took k) t out₂ → ms₁ ≡ mark_left g (pos + 1) ms → ms₂ ≡ mark_left k s.end ms₁
+              go : (g k : Option Form) → Left row (pos + 1) (set out pos 251) (scanned left.took g) s out₁ → Left row w out₁ (scanned (after w h).took k) t out₂ → ms₁ ≡ mark_left g (pos + 1) ms → ms₂ ≡ mark_left k w ms₁
                   → ms₂ ≡ mark_left (implies g k) pos ms
-              go absent k l r e f = let z = l.1 in absurd (clash cc)
-              go (some g) absent l r e f = let z = r.1 in absurd (clash cc)
-              go (some g) (some k) l r e f = f ∙ rw (wrote-end (pos + 1) s.end (set out pos 251) (encode g) out₁ l.2, e) refl
+              go absent k l r e f = absurd (none-some s.end l.1 w q)
+              go (some g) absent l r e f = absurd (none-some t.end r.1 v p)
+              go (some g) (some k) l r e f = f ∙ rw (wrote-end (pos + 1) w (set out pos 251) (encode g) out₁ (rw q at l.2), e) refl
 
-          pub left-only-marks : t.gone ≡ true → ClearFrom pos ms → (ms₃ : List ℕ)
-              → ((k : Form) (l : List ℕ) → Neat k → Wrote (pos + 1) out₂ (encode k) s.end out₂ → ClearFrom pos l → ms₂ ≡ mark k (pos + 1) 0 l → ms₃ ≡ mark (negate k) pos 0 l) → ScanMarks (scan n false) row d at pos ms ms₃
+          pub left-only-marks : t.end ≡ None → ClearFrom pos ms → (ms₃ : List ℕ)
+              → ((k : Form) (l : List ℕ) → Neat k → Wrote (pos + 1) out₂ (encode k) w out₂ → ClearFrom pos l → ms₂ ≡ mark k (pos + 1) 0 l → ms₃ ≡ mark (negate k) pos 0 l) → ScanMarks (scan n false) row d at pos ms ms₃
           unfolding Left
-          left-only-marks p clear ms₃ fin = tell-marked s.end h ms₃ (go left.left (after s.end h).left left.became (after s.end h).became left-marks (right-marks s.end h))
+          left-only-marks p clear ms₃ fin = tell-marked w h ms₃ (go left.left (after w h).left left.became (after w h).became left-marks (right-marks w h))
             where
-              go : (g k : Option Form) → Became row (at + 1) a.form (pos + 1) (set out pos 251) (scanned left.took g) s out₁ → Became row (at + 1 + length (encode a.form)) (right s.end h).form s.end out₁ (scanned (after s.end h).took k) t out₂
-                  → ms₁ ≡ mark_left g (pos + 1) ms → ms₂ ≡ mark_left k s.end ms₁ → ms₃ ≡ mark_left (implies g k) pos ms
-              go absent k l r e f = let z = l.left.1 in absurd (clash cc)
-              go (some g) (some k) l r e f = let z = r.left.1 in absurd (clash cc)
+              go : (g k : Option Form) → Became row (at + 1) a.form (pos + 1) (set out pos 251) (scanned left.took g) s out₁ → Became row (at + 1 + length (encode a.form)) (right w h).form w out₁ (scanned (after w h).took k) t out₂
+                  → ms₁ ≡ mark_left g (pos + 1) ms → ms₂ ≡ mark_left k w ms₁ → ms₃ ≡ mark_left (implies g k) pos ms
+              go absent k l r e f = absurd (none-some s.end l.left.1 w q)
+              go (some g) (some k) l r e f = absurd (some-none t.end r.left.1 p)
               go (some g) absent l r e f =
-                  let y = (right s.end h).form in
-                  fin g ms l.left.3 (left_there row at pos (Made s.end h) a.form y (implies-words a.form y) out out₁ out₂ low s t left.took (after s.end h).took q g l r) clear (f ∙ e)
-
--- where the right side is written
-pub start-low : (b : Bool) (r p e m : ℕ) → r ≡ pick b p e → p ≤ m → e ≤ m → r ≤ m
-start-low true r p e m q x y = rw q x
-start-low false r p e m q x y = rw q y
-
-pub start-pos : (b : Bool) (r p e : ℕ) → r ≡ pick b p e → b ≡ true → r ≡ p
-start-pos b r p e q h = rw h at q
-
-pub start-end : (b : Bool) (r p e : ℕ) → r ≡ pick b p e → b ≡ false → r ≡ e
-start-end b r p e q h = rw h at q
+                  let y = (right w h).form in
+                  fin g ms l.left.3 (left_there row at pos (Made w h) a.form y (implies-words a.form y) out out₁ out₂ low s t left.took (after w h).took w q g l p r) clear (f ∙ e)

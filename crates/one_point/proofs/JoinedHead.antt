@@ -12,9 +12,9 @@ use Rattle.tree.specs.Form.{Form, pick, encode, encode_decls}
 use Rattle.tree.specs.Tag.{pred}
 use Rattle.form.specs.Decode.{row_form}
 use Rattle.form.specs.Lists.{kept}
-use Rattle.form.specs.Answer.{Outcome, answer, refusal, told, written, needs, finish}
-use Rattle.form.specs.declared.answer.Answer.{Answer}
-use Rattle.form.specs.declared.answer.Answer.TheVariants.{Done, No}
+use Rattle.form.specs.Answer.{Outcome, answer, stop, told, written, needs, finish}
+use Rattle.form.specs.Answer.{Answer}
+use Rattle.std.specs.Prelude.{Ok, Err}
 use Rattle.form.specs.declared.answer.Kind.TheVariants.{Predicate}
 use Rattle.form.proofs.DecodeLaws.{clash}
 use Rattle.rules.specs.Fill.{unlisted}
@@ -22,12 +22,15 @@ use Rattle.shift.specs.Internal.Items.{store}
 use Rattle.shift.proofs.ItemLaws.{store-append}
 use Rattle.replace.specs.Internal.Pieces.{down_plan, InRow, Ready, placed_row, replaced, emitted}
 use Rattle.replace.proofs.ReadyLaws.{ready-is}
+use Rattle.std.specs.Prelude.{Some}
 use Rattle.decls.specs.Internal.Noted.{flagged_parts, flagged_end}
 use Rattle.decls.proofs.HeadLaws.{flagged-parts, flagged-end, head-written}
 use Rattle.one_point.specs.Internal.Reduce.{operator_in, decls_in, Headed}
 use Rattle.one_point.specs.Internal.Noted.{Flags, under_row, full_table, notes_in, front_words, joined_head, WroteJoined, joined_row}
 use Rattle.one_point.proofs.HeadedLaws.{head-count, store_long}
 use Rattle.one_point.proofs.NotedRows.{front_decls, front_at, front-words, front-good, front-zeros, front_kept}
+use Rattle.form.specs.declared.answer.Refusal.{Refusal}
+use Rattle.form.specs.declared.answer.Refusal.TheVariants.{OutOfLimits, OutputTooShort}
 
 -- a full table is ready
 module _ (n : ℕ) (few : n ≤ 32) (list lm : List ℕ) (marked : length list ≤ length lm) where
@@ -50,21 +53,21 @@ module _ (n : ℕ) (few : n ≤ 32) (list lm : List ℕ) (marked : length list �
     abbrev ws : List ℕ
     ws = notes_in n list lm notes raised
 
-    pub notes-answer : (m : ℕ) → a ≡ Done m → (out out' : List ℕ) → out' ≡ written (notes_row notes raised room) out → (take m out' ≡ ws) × (m ≡ length ws)
+    pub notes-answer : (m : ℕ) → a ≡ Ok m → (out out' : List ℕ) → out' ≡ written (notes_row notes raised room) out → (take m out' ≡ ws) × (m ≡ length ws)
     unfolding emitted
     notes-answer m e out out' w =
         go (leb (length ws) 8192) (leb (length ws) room) (sym e ∙ (told_is ∙ ap told (notes-row notes raised room))) (w ∙ ap (λ z. written z out) (notes-row notes raised room))
       where
-        go : (b c : Bool) → Done m ≡ told (needs 7 b (needs 14 c (answer ws))) → out' ≡ written (needs 7 b (needs 14 c (answer ws))) out → (take m out' ≡ ws) × (m ≡ length ws)
+        go : (b c : Bool) → Ok m ≡ told (needs OutOfLimits b (needs OutputTooShort c (answer ws))) → out' ≡ written (needs OutOfLimits b (needs OutputTooShort c (answer ws))) out → (take m out' ≡ ws) × (m ≡ length ws)
         go true true q v = let k : m ≡ length ws = cc in (rw v (take_at ws (drop (length ws) out) m (sym k)), k)
         go true false q v = absurd (clash cc)
         go false c q v = absurd (clash cc)
 
-    pub notes-refused : (k p : ℕ) → a ≡ No k p → 8192 < length ws
+    pub notes-refused : (k : Refusal) → a ≡ Err k → 8192 < length ws
     unfolding emitted
-    notes-refused k p e = go (leb (length ws) 8192) refl (leb (length ws) room) refl (sym e ∙ (told_is ∙ ap told (notes-row notes raised room)))
+    notes-refused k e = go (leb (length ws) 8192) refl (leb (length ws) room) refl (sym e ∙ (told_is ∙ ap told (notes-row notes raised room)))
       where
-        go : (b : Bool) → leb (length ws) 8192 ≡ b → (c : Bool) → leb (length ws) room ≡ c → No k p ≡ told (needs 7 b (needs 14 c (answer ws))) → 8192 < length ws
+        go : (b : Bool) → leb (length ws) 8192 ≡ b → (c : Bool) → leb (length ws) room ≡ c → Err k ≡ told (needs OutOfLimits b (needs OutputTooShort c (answer ws))) → 8192 < length ws
         go true x true y q = absurd (clash cc)
         go true x false y q = let l = leb-false (length ws) room y in omega arith
         go false x c y q = leb-false (length ws) 8192 x
@@ -105,17 +108,15 @@ module _ (head row : List ℕ) (h : Headed head) (f : Flags head row) (l : List 
     start-low l₁ e = let q = flagged-start s is in let b = front_fits in omega arith
 
     -- too long
-    pub joined-long : 8192 < 2 + length (front_words head) + length ws → (l' : List ℕ) → WroteJoined head k ws 0 l'
-    joined-long o l' =
-        let a = length-append (front_words head) ws in
-        record { low = omega arith; none = λ e. omega arith; some = λ n. absurd (n refl) }
+    pub joined-long : 8192 < 2 + length (front_words head) + length ws → 8192 < length (joined_head head k ws)
+    joined-long o = let a = length-append (front_words head) ws in omega arith
 
     module _ (l₁ : List ℕ) (put₁ : l₁ ≡ store l 2 (flagged_parts (take (get_or head 1 0 - 1) (replicate 32 0)) row (length l))) where
       first-length : length l₁ ≡ 8192
       first-length = ap length put₁ ∙ (store_long (flagged_parts (take (get_or head 1 0 - 1) (replicate 32 0)) row (length l)) l 2 ∙ long)
 
-      pub joined-tight : length l₁ - s < length ws → (l' : List ℕ) → WroteJoined head k ws 0 l'
-      joined-tight o l' = let e = flagged-start s is in let m = first-length in let b = front_fits in joined-long (omega arith) l'
+      pub joined-tight : length l₁ - s < length ws → 8192 < length (joined_head head k ws)
+      joined-tight o = let e = flagged-start s is in let m = first-length in let b = front_fits in joined-long (omega arith)
 
       module _ (n : ℕ) (out : List ℕ) (words : (take n out ≡ ws) × (n ≡ length ws)) (fits : n ≤ length l₁ - s) (l₂ : List ℕ)
           (put₂ : l₂ ≡ pick (leb (s + length (take n out)) (length l₁)) (store l₁ s (take n out)) l₁) where
@@ -127,7 +128,7 @@ module _ (head row : List ℕ) (h : Headed head) (f : Flags head row) (l : List 
             let w : length (take n out) ≡ n = ap length words.0 ∙ sym words.1 in
             put₂ ∙ rw (le-leb (s + length (take n out)) (length l₁) (omega arith), words.0, put₁, flagged-words, e) (sym (store-append l 2 (front_words head) ws))
 
-        pub joined-some : (t c : ℕ) → t ≡ operator_in head + 10 → c ≡ get_or head 1 0 - 1 + k → WroteJoined head k ws (s + n) (set (set l₂ 0 t) 1 c)
+        pub joined-some : (t c : ℕ) → t ≡ operator_in head + 10 → c ≡ get_or head 1 0 - 1 + k → WroteJoined head k ws (Some (s + n)) (set (set l₂ 0 t) 1 c)
         joined-some t c x y =
             let e = flagged-start s is in
             let m = first-length in
@@ -135,28 +136,22 @@ module _ (head row : List ℕ) (h : Headed head) (f : Flags head row) (l : List 
             let q = words.1 in
             let a = length-append (front_words head) ws in
             let g : length (set (set l₂ 0 t) 1 c) ≡ 8192 = length-set (set l₂ 0 t) 1 c ∙ (length-set l₂ 0 t ∙ (ap length both ∙ (store_long (front_words head ++ ws) l 2 ∙ long))) in
-            record {
-              low = omega arith;
-              none = λ z. absurd (omega arith);
-              some = λ z. rw (← x, ← y) (head-written t c (s + n) (front_words head ++ ws) l l₂ (omega arith) both (omega arith));
-            }
+            (omega arith, rw (← x, ← y) (head-written t c (s + n) (front_words head ++ ws) l l₂ (omega arith) both (omega arith)))
 
 -- the row under it
-module _ (head : List ℕ) (k : ℕ) (ws part pm body marks : List ℕ) (start room r : ℕ) (l : List ℕ) (w : WroteJoined head k ws r l) where
-  pub row-none : r ≡ 0 → joined_row head k ws part pm body marks start room ≡ refusal 7
+module _ (head : List ℕ) (k : ℕ) (ws part pm body marks : List ℕ) (start room : ℕ) where
+  pub row-none : 8192 < length (joined_head head k ws) → joined_row head k ws part pm body marks start room ≡ stop OutOfLimits
   unfolding joined_row
-  row-none e = rw (lt-leb (length (joined_head head k ws)) 8192 (w.none e))
+  row-none w = rw (lt-leb (length (joined_head head k ws)) 8192 w)
 
-  pub row-some : (r ≡ 0 → ⊥) → length l ≡ 8192 → under_row false (take r l) 1 part pm body marks start room ≡ joined_row head k ws part pm body marks start room
+  pub row-some : (l : List ℕ) (e : ℕ) → WroteJoined head k ws (Some e) l → length l ≡ 8192 → under_row false (take e l) 1 part pm body marks start room ≡ joined_row head k ws part pm body marks start room
   unfolding joined_row
-  row-some n long =
-      let q = w.some n in
-      let m = w.low in
-      let c = length-take-le r l w.low in
-      let d = ap length q in
-      rw (le-leb (length (joined_head head k ws)) 8192 (omega arith), q)
+  row-some l e w long =
+      let c = length-take-le e l w.0 in
+      let d = ap length w.1 in
+      rw (le-leb (length (joined_head head k ws)) 8192 (omega arith), w.1)
 
 -- a form of more words is refused
-pub long-finish : (room : ℕ) (g : Form) → 8192 < length (encode g) → finish pred room g ≡ refusal 7
+pub long-finish : (room : ℕ) (g : Form) → 8192 < length (encode g) → finish pred room g ≡ stop OutOfLimits
 unfolding finish row_form
 long-finish room g h = rw (lt-leb (length (encode g)) 8192 h)

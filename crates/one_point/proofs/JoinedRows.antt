@@ -11,7 +11,7 @@ use lib.Seq.{take_at, drop-length, get_or-drop}
 use Rattle.tree.specs.Form.{free, Form, leaf, pick, encode, encode_decls}
 use Rattle.tree.specs.Tag.{pred}
 use Rattle.form.specs.Lists.{filled}
-use Rattle.form.specs.Answer.{refusal, finish}
+use Rattle.form.specs.Answer.{stop, finish}
 use Rattle.form.proofs.DecodeLaws.{clash, Ok}
 use Rattle.reader.specs.Internal.Reads.{mark}
 use Rattle.rules.specs.Walk.{walk, put, subst, each}
@@ -50,6 +50,7 @@ use Rattle.one_point.proofs.FilledWords.{part-there, under-is, inner-filled, not
 use Rattle.one_point.proofs.KeptRows.{any_append, decls-append}
 use Rattle.one_point.proofs.NotedRows.{front_decls, front_at, head-some, last-outcome, kept-last}
 use Rattle.one_point.proofs.JoinedHead.{long-finish}
+use Rattle.form.specs.declared.answer.Refusal.TheVariants.{OutOfLimits}
 
 -- the body's own quantifier has annotations
 module _ (head row part pm body marks : List ℕ) (x : Inside head row part pm body marks) (same : get_or body 0 0 ≡ operator_in head + 10) where
@@ -252,7 +253,7 @@ module _ (head row part pm body marks : List ℕ) (x : Inside head row part pm b
           where
             go : (b : Bool) → leb (length (joined_head head (get_or body 1 0) ws)) 8192 ≡ b → under_row false (joined_head head (get_or body 1 0) ws) 1 part pm body marks s room ≡ placed_outcome op decls 0 part body room → (made : Form)
                 → length (encode made) ≡ length (joined_head head (get_or body 1 0) ws) + length (encode in_body) → finish pred room made ≡ placed_outcome op decls 0 part body room
-                → pick b (under_row false (joined_head head (get_or body 1 0) ws) 1 part pm body marks s room) (refusal 7) ≡ placed_outcome op decls 0 part body room
+                → pick b (under_row false (joined_head head (get_or body 1 0) ws) 1 part pm body marks s room) (stop OutOfLimits) ≡ placed_outcome op decls 0 part body room
             go true q u made long end = u
             go false q u made long end = let m = leb-false (length (joined_head head (get_or body 1 0) ws)) 8192 q in sym (long-finish room made (omega arith)) ∙ end
 
@@ -314,9 +315,6 @@ filled_in l₀ l out s n e long h k = omega arith
 
 pub set-in : (l₀ l₁ l₂ : List ℕ) (t : ℕ) → length l₁ ≡ length l₀ → length l₂ ≡ length l₁ → length l₀ ≡ 8192 → 1 < length (set l₂ 0 t)
 set-in l₀ l₁ l₂ t a b c = let d = length-set l₂ 0 t in omega arith
-
-pub set_same : (l₀ l₁ l₂ : List ℕ) (t c : ℕ) → length l₁ ≡ length l₀ → length l₂ ≡ length l₁ → length (set (set l₂ 0 t) 1 c) ≡ length l₀
-set_same l₀ l₁ l₂ t c a b = length-set (set l₂ 0 t) 1 c ∙ (length-set l₂ 0 t ∙ (b ∙ a))
 
 -- how the code finds how they join
 module _ (n : ℕ) (part notes raised w w' : List ℕ) (some-n : 0 < n) (is : w ≡ replicate (n + 1) 1) (same : length w' ≡ length w) (cleared : drop 1 w' ≡ cleared_in n notes raised 0 (length notes) w) where

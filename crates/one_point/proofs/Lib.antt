@@ -2,6 +2,7 @@ pub mod MarkLaws
 pub mod RaiseLaws
 pub mod WriteLaws
 pub mod WriteMarks
+pub mod EndLaws
 pub mod AcceptLaws
 pub mod PartsStepLaws
 pub mod ScanLaws

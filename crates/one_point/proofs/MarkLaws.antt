@@ -13,8 +13,6 @@ use lib.Seq.{drop-set-lt, drop-drop, drop_at, take_at, length-take-le, set_at}
 use Rattle.tree.specs.Form.{Form, leaf, node, noted, Decls, undeclared, bare, typed, names_of, Forms, none, more, free, bound, pick, encode, encode_decls, encode_all}
 use Rattle.tree.specs.Tag.{pred}
 use Rattle.form.specs.Decode.{Got, got, no-form, decode}
-use Rattle.form.specs.declared.head.Step.{Step}
-use Rattle.form.specs.declared.head.Step.TheVariants.{End, Bad}
 use Rattle.reader.specs.Internal.Reads.{mark, mark_decls, mark_all, Told, decode_in}
 use Rattle.form.proofs.DecodeLaws.{clash, decode-sound}
 use Rattle.form.proofs.HeadLaws.{here, gone}
@@ -27,6 +25,7 @@ use Rattle.places.specs.Internal.Positions.{end_at}
 use Rattle.places.specs.Internal.Wrote.{Wrote}
 use Rattle.one_point.specs.Internal.Writes.{left_words}
 use Rattle.one_point.specs.Internal.Marks.{left_of, mark_left, ClearFrom, MarksTold}
+use Rattle.std.specs.Prelude.{Some, None, Option as Maybe}
 
 -- marks keep the number of words, and leave those alone that follow
 mutual
@@ -227,7 +226,7 @@ front-marks f n k l h =
     rw (a, mark-front f 0 k (omega arith)) (take_at (marks_of 0 f) (replicate (k - length (encode f)) 0) n (marks-length 0 f ∙ l))
 
 -- a predicate read in a part of the row, with its marks in a part of theirs
-module _ (row : List ℕ) (at d pos : ℕ) (marks ys b : List ℕ) (r : Step) (low : pos ≤ length marks) (over : b ≡ [])
+module _ (row : List ℕ) (at d pos : ℕ) (marks ys b : List ℕ) (r : Maybe ℕ) (low : pos ≤ length marks) (over : b ≡ [])
     (t : Told 0 0 (decode_in d 0 pred (take (length row - at) (drop at row))) (take (length marks - pos) (drop pos marks)) ys r) where
   abbrev there-is : Got
   there-is = decode_in d 0 pred (drop at row)
@@ -235,19 +234,19 @@ module _ (row : List ℕ) (at d pos : ℕ) (marks ys b : List ℕ) (r : Step) (l
   told-there : Told 0 0 there-is (drop pos marks) ys r
   told-there = rw (rest_part row at, rest_part marks pos) at t
 
-  pub slice-end : (q : ℕ) → r ≡ End q → End (at + q) ≡ end_at at there-is
+  pub slice-end : (q : ℕ) → r ≡ Some q → Some (at + q) ≡ end_at at there-is
   unfolding Told end_at
   slice-end q e = go there-is told-there
     where
-      go : (g : Got) → Told 0 0 g (drop pos marks) ys r → End (at + q) ≡ end_at at g
-      go (got f x) u = let z : q ≡ 0 + length (encode f) = cc u.0 in ap End (omega arith)
+      go : (g : Got) → Told 0 0 g (drop pos marks) ys r → Some (at + q) ≡ end_at at g
+      go (got f x) u = let z : q ≡ 0 + length (encode f) = cc u.0 in ap Some (omega arith)
       go no-form u = absurd (clash cc)
 
-  pub slice-bad : r ≡ Bad → Bad ≡ end_at at there-is
+  pub slice-bad : r ≡ None → None ≡ end_at at there-is
   unfolding Told end_at
   slice-bad e = go there-is told-there
     where
-      go : (g : Got) → Told 0 0 g (drop pos marks) ys r → Bad ≡ end_at at g
+      go : (g : Got) → Told 0 0 g (drop pos marks) ys r → None ≡ end_at at g
       go (got f x) u = let z = u.0 in absurd (clash cc)
       go no-form u = refl
 
@@ -259,7 +258,7 @@ module _ (row : List ℕ) (at d pos : ℕ) (marks ys b : List ℕ) (r : Step) (l
       go (got f x) u = rw (over, append-nil, u.1) (mark-part f pos 0 marks low)
       go no-form u = tt
 
-  pub slice_in : at ≤ length row → (q : ℕ) → r ≡ End q → at + q ≤ length row
+  pub slice_in : at ≤ length row → (q : ℕ) → r ≡ Some q → at + q ≤ length row
   unfolding Told decode_in
   slice_in h q e = go (leb d 65535 && leb 0 65535) told-there
     where
@@ -300,7 +299,7 @@ module _ (z : Form → Scan) (pos : ℕ) (a b : List ℕ) where
   pub plain-marks : (d : ℕ) (ws : List ℕ) → d ≤ 65 → MarksTold z pos (decode_in d 0 pred ws) a b → MarksTold z pos (decode d pred ws) a b
   plain-marks d ws h m = rw (in-decode pred ws d 0 (omega arith) (omega arith)) at m
 
-pub bad-end : (at : ℕ) → Bad ≡ end_at at no-form
+pub bad-end : (at : ℕ) → None ≡ end_at at no-form
 unfolding end_at
 bad-end at = refl
 

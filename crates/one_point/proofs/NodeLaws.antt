@@ -8,6 +8,8 @@ use native.Mathlib.Omega.{arith}
 use borrow.Author.Tests.{eqb-true}
 use lib.Dec.{eqb}
 use lib.ListN.{length, get_or, drop, replicate}
+use Rattle.std.specs.Prelude.{Option as Maybe, Some, None, is_some, is_none}
+use Rattle.std.specs.Option.{unwrap_or}
 use Rattle.tree.specs.Form.{Form, node, Forms, pick, count, between, encode, encode_all}
 use Rattle.tree.specs.Tag.{pred, sorts, ask, kids as kids_own, own, own_of, shape_of, pred_tags}
 use Rattle.form.specs.Decode.{head, only, read, Got, got, no-form, is_leaf, decode}
@@ -18,7 +20,7 @@ use Rattle.rules.specs.Scan as S
 use Rattle.rules.specs.Scan.{scanned, Scans, scans, joined, present, Role, role_of, with, scan, scan_all}
 use Rattle.places.specs.Internal.Wrote.{Wrote}
 use Rattle.one_point.specs.Internal.Writes.{left_words, is_gone}
-use Rattle.one_point.specs.Internal.Parts.{is_taken, TookIs}
+use Rattle.one_point.specs.Internal.Parts.{TookIs}
 use Rattle.one_point.specs.Internal.Scans.{Left, Became, Told, ScanTold, next_scan, KidsTold}
 use Rattle.places.specs.declared.sides.Replacement.{Replacement}
 use Rattle.one_point.specs.declared.scanned.Scanned.{Scanned}
@@ -27,7 +29,7 @@ use Rattle.one_point.specs.Internal.Marks.{left_of, lefts_of, mark_left, ClearFr
 use Rattle.one_point.proofs.MarkLaws.{tell-marks}
 use Rattle.places.proofs.WroteLaws.{wrote-end, wrote-in, kept, wrote_self, based}
 use Rattle.places.proofs.PartsLaws.{tag_of, tag_at}
-use Rattle.one_point.proofs.PartsStepLaws.{not_taken, took-not}
+use Rattle.one_point.proofs.PartsStepLaws.{not_taken, took-not, took-none}
 use Rattle.one_point.proofs.EqualityLaws.{words, joined-neat, joined_words}
 use Rattle.one_point.proofs.ReadLaws.{tell}
 use Rattle.one_point.proofs.RebuildLaws.{scan-and, scan-or, scan-other, positive-other, negative-other}
@@ -94,15 +96,15 @@ junction-tag t b r = go (which t b r)
     go (or_is e q) = rw (e, q) (record { node-tag = refl; shape = refl; not_eight = λ z. clash (omega arith); scan-is = scan-or })
 
 -- what is left of it
-module _ (row : List ℕ) (at pos e m t : ℕ) (f : Form) (kids : Forms) (long : length (encode f) ≡ suc (suc (length (encode_all kids)))) (ne : t ≡ 8 → ⊥) (out out₂ out₃ : List ℕ) (low : pos + 2 ≤ length out) (found : Replacement)
-    (gone : Bool) (next end : ℕ) (to : next ≡ at + length (encode f))
-    (fin : (fs : Forms) → m ≡ count fs → Wrote (pos + 2) out₂ (encode_all fs) e out₂ → (gone ≡ is_gone (joined t fs)) × Wrote pos out₂ (left_words (joined t fs)) end out₃) where
-  junction-done : (z : Scans) → KidsTold row kids (pos + 2) out 0 z found e m out₂ → Became row at f pos out (with (λ gs. joined t (present gs)) z) (record { ok = true; next = next; found = found; gone = gone; end = end }) out₃
+module _ (row : List ℕ) (at pos e m t : ℕ) (f : Form) (kids : Forms) (long : length (encode f) ≡ suc (suc (length (encode_all kids)))) (ne : t ≡ 8 → ⊥) (out out₂ out₃ : List ℕ) (low : pos + 2 ≤ length out) (found : Maybe Replacement)
+    (next : ℕ) (end : Maybe ℕ) (to : next ≡ at + length (encode f))
+    (fin : (fs : Forms) → m ≡ count fs → Wrote (pos + 2) out₂ (encode_all fs) e out₂ → (is_none end ≡ is_gone (joined t fs)) × Wrote pos out₂ (left_words (joined t fs)) (unwrap_or end pos) out₃) where
+  junction-done : (z : Scans) → KidsTold row kids (pos + 2) out 0 z found e m out₂ → Became row at f pos out (with (λ gs. joined t (present gs)) z) (record { next = next; found = found; end = end }) out₃
   unfolding KidsTold Left words
   junction-done (scans x gs) h =
       let u = fin (present gs) (omega (arith, h.2)) (wrote_self (pos + 2) e out (encode_all (present gs)) out₂ low h.1) in
-      let v : Wrote pos out (left_words (joined t (present gs))) end out₃ = based pos end out out₂ (left_words (joined t (present gs))) out₃ (kept (pos + 2) e out (encode_all (present gs)) out₂ low h.1 pos (omega arith)) u.1 in
-      let a = wrote-end pos end out (left_words (joined t (present gs))) out₃ v in
+      let v : Wrote pos out (left_words (joined t (present gs))) (unwrap_or end pos) out₃ = based pos (unwrap_or end pos) out out₂ (left_words (joined t (present gs))) out₃ (kept (pos + 2) e out (encode_all (present gs)) out₂ low h.1 pos (omega arith)) u.1 in
+      let a = wrote-end pos (unwrap_or end pos) out (left_words (joined t (present gs))) out₃ v in
       let b = joined_words t (present gs) in
       let c = wrote-end (pos + 2) e out (encode_all (present gs)) out₂ h.1 in
       let d = h.4 in
@@ -113,16 +115,16 @@ unfolding encode
 node-words t c ks = refl
 
 pub junction-told : (row : List ℕ) (d at n pos : ℕ) (b : Bool) (t c : ℕ) (ks : Forms) (x : List ℕ) → decode d pred (drop at row) ≡ got (node t (c ∷ []) [] ks) x → JunctionTag t b → (e m : ℕ) (out out₂ out₃ : List ℕ) → pos + 2 ≤ length out
-    → (found : Replacement) (gone : Bool) (next end : ℕ) → next ≡ at + 2 + length (encode_all ks)
-    → ((fs : Forms) → m ≡ count fs → Wrote (pos + 2) out₂ (encode_all fs) e out₂ → (gone ≡ is_gone (joined t fs)) × Wrote pos out₂ (left_words (joined t fs)) end out₃) → KidsTold row ks (pos + 2) out 0 (scan_all n b b ks) found e m out₂
-    → ScanTold (scan n b) row d at pos out (record { ok = true; next = next; found = found; gone = gone; end = end }) out₃
-junction-told row d at n pos b t c ks x is y e m out out₂ out₃ low found gone next end to fin told =
+    → (found : Maybe Replacement) (next : ℕ) (end : Maybe ℕ) → next ≡ at + 2 + length (encode_all ks)
+    → ((fs : Forms) → m ≡ count fs → Wrote (pos + 2) out₂ (encode_all fs) e out₂ → (is_none end ≡ is_gone (joined t fs)) × Wrote pos out₂ (left_words (joined t fs)) (unwrap_or end pos) out₃) → KidsTold row ks (pos + 2) out 0 (scan_all n b b ks) found e m out₂
+    → ScanTold (scan n b) row d at pos out (Some (record { next = next; found = found; end = end })) out₃
+junction-told row d at n pos b t c ks x is y e m out out₂ out₃ low found next end to fin told =
     let l = node-words t c ks in
-    tell (scan n b) row d at pos out _ out₃ (node t (c ∷ []) [] ks) x is refl
-    (rw (y.scan-is n (c ∷ []) ks) (junction-done row at pos e m t (node t (c ∷ []) [] ks) ks l y.not_eight out out₂ out₃ low found gone next end (omega arith) fin (scan_all n b b ks) told))
+    tell (scan n b) row d at pos out _ out₃ (node t (c ∷ []) [] ks) x is
+    (rw (y.scan-is n (c ∷ []) ks) (junction-done row at pos e m t (node t (c ∷ []) [] ks) ks l y.not_eight out out₂ out₃ low found next end (omega arith) fin (scan_all n b b ks) told))
 
 -- its marks, from those of what is left of its children
-pub junction-marks : (row : List ℕ) (d at n pos : ℕ) (b : Bool) (t c : ℕ) (ks : Forms) (x : List ℕ) → decode d pred (drop at row) ≡ got (node t (c ∷ []) [] ks) x → JunctionTag t b → (e m : ℕ) (out out₂ : List ℕ) (found : Replacement) (ms ms₂ ms₃ : List ℕ)
+pub junction-marks : (row : List ℕ) (d at n pos : ℕ) (b : Bool) (t c : ℕ) (ks : Forms) (x : List ℕ) → decode d pred (drop at row) ≡ got (node t (c ∷ []) [] ks) x → JunctionTag t b → (e m : ℕ) (out out₂ : List ℕ) (found : Maybe Replacement) (ms ms₂ ms₃ : List ℕ)
     → KidsTold row ks (pos + 2) out 0 (scan_all n b b ks) found e m out₂ → ms₂ ≡ mark_all (lefts_of (scan_all n b b ks)) (pos + 2) 0 ms
     → ((t : ℕ) (fs : Forms) (l : List ℕ) → ClearFrom pos l → m ≡ count fs → e ≡ pos + 2 + length (encode_all fs) → ms₂ ≡ mark_all fs (pos + 2) 0 l → ms₃ ≡ mark_left (joined t fs) pos l) → ClearFrom pos ms
     → ScanMarks (scan n b) row d at pos ms ms₃
@@ -133,33 +135,30 @@ junction-marks row d at n pos b t c ks x is y e m out out₂ found ms ms₂ ms�
     go : (z : Scans) → KidsTold row ks (pos + 2) out 0 z found e m out₂ → ms₂ ≡ mark_all (lefts_of z) (pos + 2) 0 ms → ms₃ ≡ mark_left (left_of (with (λ gs. joined t (present gs)) z)) pos ms
     go (scans x gs) k q = fin t (present gs) ms clear (omega (arith, k.2)) (wrote-end (pos + 2) e out (encode_all (present gs)) out₂ k.1) q
 
-pub kids-end : (row : List ℕ) (kids : Forms) (w k e m : ℕ) (out out' : List ℕ) (found : Replacement) (z : Scans) → w ≤ length out → KidsTold row kids w out k z found e m out' → (w ≤ e) × (e ≤ length out')
+pub kids-end : (row : List ℕ) (kids : Forms) (w k e m : ℕ) (out out' : List ℕ) (found : Maybe Replacement) (z : Scans) → w ≤ length out → KidsTold row kids w out k z found e m out' → (w ≤ e) × (e ≤ length out')
 unfolding KidsTold
 kids-end row kids w k e m out out' found (scans x gs) h t =
     let a = wrote-end w e out (encode_all (present gs)) out' t.1 in
     (omega arith, wrote-in w e out (encode_all (present gs)) out' h t.1)
 
 -- what follows a child
-module _ (row : List ℕ) (at pos : ℕ) (found : Replacement) (out out' : List ℕ) where
-  pub next-copied : is_taken found ≡ true → (c : Scanned) (g : Got) → Told (λ f. scanned nothing (some f)) row at pos out g c out' → (n : ℕ) (x : Taken) → TookIs row x found
-      → Told (λ f. next_scan x (scan n false f) f) row at pos out g (record { ok = c.ok; next = c.next; found = found; gone = c.gone; end = c.end }) out'
+module _ (row : List ℕ) (at pos : ℕ) (found : Maybe Replacement) (out out' : List ℕ) where
+  pub next-copied : is_some found ≡ true → (c : Scanned) (g : Got) → Told (λ f. scanned nothing (some f)) row at pos out g (Some c) out' → (n : ℕ) (x : Taken) → TookIs row x found
+      → Told (λ f. next_scan x (scan n false f) f) row at pos out g (Some (record { next = c.next; found = found; end = c.end })) out'
   unfolding Told next_scan TookIs Left
   next-copied p c (got f y) h n (taken i e') t =
-      let b = h.1 in
-      (h.0, record { next = b.next; left = (t, b.left.1, b.left.2, b.left.3); short = b.short })
-  next-copied p c (got f y) h n nothing t = absurd (clash cc)
-  next-copied p c no-form h n x t = h
+      record { next = h.next; left = (t, h.left.1, h.left.2, h.left.3); short = h.short }
+  next-copied p c (got f y) h n nothing t = absurd (took-none row found t p)
+  next-copied p c no-form h n x t = absurd (clash cc)
 
-  pub next-scanned : is_taken found ≡ false → (r : Scanned) (n : ℕ) (g : Got) → Told (scan n false) row at pos out g r out' → (x : Taken) → TookIs row x found → Told (λ f. next_scan x (scan n false f) f) row at pos out g r out'
+  pub next-lost : (g : Got) → Told (λ f. scanned nothing (some f)) row at pos out g None out' → (n : ℕ) (x : Taken) → Told (λ f. next_scan x (scan n false f) f) row at pos out g None out'
+  unfolding Told
+  next-lost (got f y) h n x = absurd h
+  next-lost no-form h n x = refl
+
+  pub next-scanned : is_some found ≡ false → (r : Maybe Scanned) (n : ℕ) (g : Got) → Told (scan n false) row at pos out g r out' → (x : Taken) → TookIs row x found → Told (λ f. next_scan x (scan n false f) f) row at pos out g r out'
   unfolding next_scan
   next-scanned p r n g h x t = rw (took-not row x (rw (not_taken found p) at t)) h
-
--- tests of the tag
-pub role-and : (t : ℕ) (b : Bool) → t ≡ 351 → b ≡ true → role_of t b ≡ S.junction
-role-and t b e q = rw (e, q) refl
-
-pub role-or : (t : ℕ) (b : Bool) → t ≡ 352 → b ≡ false → role_of t b ≡ S.junction
-role-or t b e q = rw (e, q) refl
 
 -- a predicate that is not entered is copied
 pub other-scan : (row : List ℕ) (d at n : ℕ) (b : Bool) → role_of (get_or row at 0) b ≡ S.other → (f : Form) (x : List ℕ) → decode d pred (drop at row) ≡ got f x → scan n b f ≡ scanned nothing (some f)
@@ -172,7 +171,7 @@ other-scan row d at n b o f x e =
     copied (ok-node {t = t} {o = o} {ds = ds} {ks = ks} l h k) r = scan-other n b t o ds ks r
     copied (ok-noted a h v k) r = refl
 
-pub other-told : (row : List ℕ) (d at n pos : ℕ) (b : Bool) (out : List ℕ) (r : Scanned) (out' : List ℕ) → role_of (get_or row at 0) b ≡ S.other → ScanTold (λ f. scanned nothing (some f)) row d at pos out r out' → ScanTold (scan n b) row d at pos out r out'
+pub other-told : (row : List ℕ) (d at n pos : ℕ) (b : Bool) (out : List ℕ) (r : Maybe Scanned) (out' : List ℕ) → role_of (get_or row at 0) b ≡ S.other → ScanTold (λ f. scanned nothing (some f)) row d at pos out r out' → ScanTold (scan n b) row d at pos out r out'
 unfolding Told
 other-told row d at n pos b out r out' o t = go (decode d pred (drop at row)) refl t
   where

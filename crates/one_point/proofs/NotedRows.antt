@@ -5,7 +5,7 @@ use mathlib.Core.Bool.{Bool, true, false, ◌||◌, ◌&&◌, or-false}
 use mathlib.Core.List.{List, [], ◌∷◌, ◌++◌, append_assoc, map, map-append}
 use Prim.Native.Nat.{ℕ, zero, suc, ◌+◌, ◌-◌, ◌*◌, ◌≤◌, ◌<◌}
 use native.Mathlib.Omega.{arith}
-use borrow.Author.Tests.{eq-eqb, ne_eqb, lt-ltb, le-ltb, le-leb}
+use borrow.Author.Tests.{lt-ltb, le-ltb, le-leb}
 use lib.Dec.{eqb, ltb, leb}
 use lib.ListN.{length, get_or, take, drop, set, replicate, length-append, length-map, length-set, length-replicate, length-drop, take-append-drop}
 use lib.Seq.{take_at, length-take-le}
@@ -14,7 +14,6 @@ use Rattle.tree.specs.Tag.{pred}
 use Rattle.form.specs.Lists.{kept}
 use Rattle.form.specs.Answer.{finish}
 use Rattle.form.proofs.DecodeLaws.{clash, Ok}
-use Rattle.form.proofs.HeadLaws.{here, gone}
 use Rattle.rules.specs.Walk.{walk, put, subst, collect}
 use Rattle.rules.specs.Fill.{Decl, unnoted, name_of, unlisted, any_noted, around, quantify, kept_decls, fill_for}
 use Rattle.rules.specs.Prune.{is_not}
@@ -35,7 +34,7 @@ use Rattle.decls.proofs.DeclLaws.{GoodDecls}
 use Rattle.decls.proofs.CountLaws.{op-range}
 use Rattle.decls.proofs.HeadLaws.{quant_head, encode-head, noted-head, flags-length, names-fit}
 use Rattle.one_point.specs.Internal.Reduce.{operator_in, decls_in, Headed, one_table, placed_form, placed_outcome, target_of, Putting}
-use Rattle.one_point.specs.Internal.Noted.{Flags, under_row, kept_row, with_names, names_end, Inside, all_ones}
+use Rattle.one_point.specs.Internal.Noted.{Flags, under_row, kept_row, with_names, names_end, Inside}
 use Rattle.one_point.proofs.HeadedLaws.{head-count, store_long}
 use Rattle.one_point.proofs.PlaceLaws.{whole-pred}
 use Rattle.one_point.proofs.PointTree.{point_places, zero-words, kept-front, joined_is}
@@ -44,18 +43,6 @@ use Rattle.one_point.proofs.KeptRows.{good_of, good-take, decls-append, decls-pa
 
 -- the last declaration is replaced
 module _ (head row : List ℕ) (p : ℕ) (part pm body marks : List ℕ) (h : Putting head p part pm body marks) (z : p ≡ 0 → ⊥) (l : p + 1 ≡ get_or head 1 0) where
-  pub is-inside : Flags head row → Inside head row part pm body marks
-  is-inside f =
-      let e : p ≡ get_or head 1 0 - 1 = omega arith in
-      record { flags = f; putting = moved (get_or head 1 0 - 1) e; several = two p refl }
-    where
-      moved : (q : ℕ) → p ≡ q → Putting head q part pm body marks
-      moved q e = record { index = h.index; place = rw (← e) h.place; placing = h.placing; marking = h.marking; marked = h.marked }
-
-      two : (k : ℕ) → p ≡ k → 2 ≤ get_or head 1 0
-      two zero e = absurd (z e)
-      two (suc k) e = omega arith
-
   pub last-target : (room : ℕ) → placed_outcome (operator_in head) (decls_in head) 0 part body room ≡ placed_outcome (operator_in head) (decls_in head) (target_of head p) part body room
   last-target room = let t : target_of head p ≡ 0 = omega arith in ap (λ i. placed_outcome (operator_in head) (decls_in head) i part body room) (sym t)
 
@@ -363,21 +350,6 @@ module _ (head row part pm body marks : List ℕ) (x : Inside head row part pm b
           let v : take e (set l' 1 c) ≡ head_of (operator_in head) (front_decls head ++ map unnoted names) = w ∙ ap (λ z. head_of (operator_in head) (front_decls head ++ map unnoted z)) ns-are in
           let u : 2 + get_or body 1 0 ≡ 2 + length names = omega arith in
           ap (λ z. under_row false (take e (set l' 1 c)) 1 part pm body marks z room) u ∙ names-row (take e (set l' 1 c)) v room
-
--- the tests of words that are 1
-pub ones-next : (ws : List ℕ) (i : ℕ) → i < length ws → all_ones (drop i ws) ≡ (eqb (get_or ws i 0) 1 && all_ones (drop (i + 1) ws))
-unfolding all_ones
-ones-next ws i h = rw (here ws i h)
-
-pub ones-end : (ws : List ℕ) (i : ℕ) → length ws ≤ i → all_ones (drop i ws) ≡ true
-unfolding all_ones
-ones-end ws i h = rw (gone ws i h)
-
-pub ones-not : (ws : List ℕ) (i : ℕ) → i < length ws → (get_or ws i 0 ≡ 1 → ⊥) → all_ones (drop i ws) ≡ false
-ones-not ws i h n = ones-next ws i h ∙ rw (ne_eqb (get_or ws i 0) 1 n)
-
-pub ones-more : (ws : List ℕ) (i : ℕ) → i < length ws → get_or ws i 0 ≡ 1 → all_ones (drop i ws) ≡ all_ones (drop (i + 1) ws)
-ones-more ws i h e = ones-next ws i h ∙ rw (eq-eqb (get_or ws i 0) 1 e)
 
 -- names put behind a head
 module _ (names head : List ℕ) (h : ℕ) (room : h + 2 * length names ≤ length head) (few : length names ≤ 32) where

@@ -11,15 +11,16 @@ use Rattle.tree.specs.Form.{Form, pick, encode}
 use Rattle.tree.specs.Tag.{Sort, pred}
 use Rattle.form.specs.Break.{break_at}
 use Rattle.form.specs.Decode.{Whole, one, not-one, row_form, Found, found, missing, form_of}
-use Rattle.form.specs.Answer.{Outcome, answer, refusal, told, written, of_found, needs, is_one, finish, stop}
+use Rattle.form.specs.Answer.{Outcome, answer, stop, told, written, of_found, needs, is_one, finish}
 use Rattle.form.specs.declared.answer.Kind.TheVariants.{Predicate}
-use Rattle.form.specs.declared.answer.Answer.TheVariants.{Done}
+use Rattle.std.specs.Prelude.{Ok as Done}
 use Rattle.form.proofs.DecodeLaws.{clash, Ok, decode-encode}
 use Rattle.form.proofs.RowLaws.{row_one, found-row}
 use Rattle.replace.proofs.QuantLaws.{pred-sort}
 use Rattle.rules.specs.Point.{one_point, of_result, point_outcome}
 use Rattle.one_point.proofs.ShapeLaws.{Shaped, shaped-decode}
 use Rattle.one_point.proofs.PointShape.{point-shaped}
+use Rattle.form.specs.declared.answer.Refusal.TheVariants.{TooLong, OutOfLimits, OutputTooShort, WorkTooShort}
 
 -- a row that decodes at all decodes to the form that it was written from
 same-form : (g h : Form) → Shaped pred g → encode g ≡ encode h → Ok 64 pred h → h ≡ g
@@ -41,7 +42,7 @@ module _ (room : ℕ) (g : Form) (ws : List ℕ) where
   unfolding finish
   finish-answer e = go (is_one (row_form pred (encode g))) (leb (length (encode g)) room) e
     where
-      go : (a b : Bool) → needs 7 a (needs 14 b (answer (encode g))) ≡ answer ws → (ws ≡ encode g) × (a ≡ true)
+      go : (a b : Bool) → needs OutOfLimits a (needs OutputTooShort b (answer (encode g))) ≡ answer ws → (ws ≡ encode g) × (a ≡ true)
       go true true e = (cc, refl)
       go true false e = absurd (clash cc)
       go false b e = absurd (clash cc)
@@ -72,7 +73,7 @@ module _ (row : List ℕ) (ws : List ℕ) (room : ℕ) where
   unfolding point_outcome
   pointed work e = go (leb 16384 work) (leb (length row) 8192) e
     where
-      go : (a b : Bool) → pick a (pick b (of_found (break_at Predicate row) (λ s f. of_result room (one_point f)) (form_of Predicate row)) (refusal 1)) (refusal 15) ≡ answer ws → Pointed row ws
+      go : (a b : Bool) → pick a (pick b (of_found (break_at Predicate row) (λ s f. of_result room (one_point f)) (form_of Predicate row)) (stop TooLong)) (stop WorkTooShort) ≡ answer ws → Pointed row ws
       go true true e = found-pointed (form_of Predicate row) refl e
       go true false e = absurd (clash cc)
       go false b e = absurd (clash cc)
@@ -82,4 +83,4 @@ pub told-words : (o : Outcome) (out out' : List ℕ) (n : ℕ) → Done n ≡ to
 told-words (answer ws) out out' n e w =
     let l : length ws ≡ n = cc in
     rw w (ap (λ (z : List ℕ). answer z) (sym (take_at ws (drop (length ws) out) n l)))
-told-words (stop k p) out out' n e w = absurd (clash cc)
+told-words (stop k) out out' n e w = absurd (clash cc)

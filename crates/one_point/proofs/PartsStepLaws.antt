@@ -13,10 +13,10 @@ use Rattle.rules.specs.Split.{equal}
 use Rattle.rules.specs.Scan.{Scans, scans, present, copied, before, offer_part, offer_parts}
 use Rattle.places.specs.Internal.Positions.{parts_at, part_words}
 use Rattle.places.specs.Internal.Wrote.{Wrote}
-use Rattle.one_point.specs.Internal.Parts.{equal_words, accept_words, is_taken, TookIs, PartsTold, PartsCopied}
+use Rattle.one_point.specs.Internal.Parts.{equal_words, accept_words, TookIs, PartsTold, PartsCopied}
+use Rattle.std.specs.Prelude.{Option, Some, None, is_some}
 use Rattle.places.specs.declared.sides.Sides.{Sides}
 use Rattle.places.specs.declared.sides.Replacement.{Replacement}
-use Rattle.places.specs.declared.sides.Replacement.TheVariants.{Is, Not}
 use Rattle.places.proofs.SidesLaws.{part-words}
 use Rattle.one_point.proofs.AcceptLaws.{took}
 use Rattle.places.proofs.WroteLaws.{wrote-end, wrote_on}
@@ -28,27 +28,37 @@ unfolding PartsCopied Wrote encode
 copied_none ps w k out e = rw e ((omega arith, sym (append-nil (take w out))), omega arith)
 
 -- a part that is passed, and one that is taken
-pub not_taken : (r : Replacement) → is_taken r ≡ false → r ≡ Not
-not_taken (Is i s t) e = absurd (clash cc)
-not_taken Not e = refl
+pub not_taken : (r : Option Replacement) → is_some r ≡ false → r ≡ None
+not_taken (Some x) e = absurd (clash cc)
+not_taken None e = refl
 
-pub took-not : (row : List ℕ) (t : Taken) → TookIs row t Not → t ≡ nothing
+pub took-not : (row : List ℕ) (t : Taken) → TookIs row t None → t ≡ nothing
 unfolding TookIs
-took-not row (taken i e) h = let z = h.2 in absurd (clash cc)
+took-not row (taken i e) h = absurd h
 took-not row nothing h = refl
 
-before-told : (row : List ℕ) (g : Form) (w k w₁ : ℕ) (out out₁ : List ℕ) → Wrote w out (encode g) w₁ out₁ → (z : Scans) (f : Replacement) (e m : ℕ) (o : List ℕ)
+pub took-none : (row : List ℕ) (r : Option Replacement) → TookIs row nothing r → is_some r ≡ true → ⊥
+unfolding TookIs
+took-none row (Some x) h e = clash cc
+took-none row None h e = clash cc
+
+pub took-some : (row : List ℕ) (i : ℕ) (e : Form) (r : Option Replacement) → TookIs row (taken i e) r → is_some r ≡ false → ⊥
+unfolding TookIs
+took-some row i e (Some x) h q = clash cc
+took-some row i e None h q = h
+
+before-told : (row : List ℕ) (g : Form) (w k w₁ : ℕ) (out out₁ : List ℕ) → Wrote w out (encode g) w₁ out₁ → (z : Scans) (f : Option Replacement) (e m : ℕ) (o : List ℕ)
     → PartsTold row w₁ out₁ (k + 1) z f e m o → PartsTold row w out k (before (some g) z) f e m o
 unfolding PartsTold encode
 before-told row g w k w₁ out out₁ h (scans x gs) f e m o t = (t.0, wrote_on w w₁ e out (encode g) out₁ (encode_all (present gs)) o h t.1, omega (arith, t.2))
 
-taken-told : (row : List ℕ) (l r : Form) (w k : ℕ) (out : List ℕ) (f : Replacement) → is_taken f ≡ true → (t : Taken) → TookIs row t f → (ps : List (Form × Form)) (z : Scans) (e m : ℕ) (o : List ℕ)
+taken-told : (row : List ℕ) (l r : Form) (w k : ℕ) (out : List ℕ) (f : Option Replacement) → is_some f ≡ true → (t : Taken) → TookIs row t f → (ps : List (Form × Form)) (z : Scans) (e m : ℕ) (o : List ℕ)
     → PartsCopied ps w out k e m o → PartsTold row w out k (offer_part l r t ps z) f e m o
 unfolding PartsTold PartsCopied TookIs
 taken-told row l r w k out f b (taken i e') h ps z e m o t = (h, t.0, t.1)
-taken-told row l r w k out f b nothing h ps z e m o t = absurd (clash cc)
+taken-told row l r w k out f b nothing h ps z e m o t = absurd (took-none row f h b)
 
-pub search-none : (row : List ℕ) (d : ℕ) (ps : List (Form × Form)) (w k : ℕ) (out : List ℕ) (f : Replacement) → f ≡ Not → ps ≡ [] → (e m : ℕ) (o : List ℕ)
+pub search-none : (row : List ℕ) (d : ℕ) (ps : List (Form × Form)) (w k : ℕ) (out : List ℕ) (f : Option Replacement) → f ≡ None → ps ≡ [] → (e m : ℕ) (o : List ℕ)
     → PartsCopied ps w out k e m o → PartsTold row w out k (offer_parts d ps) f e m o
 unfolding PartsTold PartsCopied TookIs offer_parts
 search-none row d ps w k out f n h e m o t = rw h (n, rw h at t.0, rw h at t.1)
@@ -95,15 +105,15 @@ module _ {row : List ℕ} {p q n w k words : ℕ} (x : PartIs row p q n w k word
     abbrev Rest : List (Form × Form)
     Rest = parts_at row s.middle s.end (n - 1)
 
-    pub search-pass : (r : Replacement) → r ≡ accept_words d s row → is_taken r ≡ false → (out out₁ : List ℕ) (w₁ : ℕ) → Wrote w out (equal_words row s) w₁ out₁
-        → (f : Replacement) (e m : ℕ) (o : List ℕ) → PartsTold row w₁ out₁ (k + 1) (offer_parts d Rest) f e m o → PartsTold row w out k (offer_parts d (parts_at row p q n)) f e m o
+    pub search-pass : (r : Option Replacement) → r ≡ accept_words d s row → is_some r ≡ false → (out out₁ : List ℕ) (w₁ : ℕ) → Wrote w out (equal_words row s) w₁ out₁
+        → (f : Option Replacement) (e m : ℕ) (o : List ℕ) → PartsTold row w₁ out₁ (k + 1) (offer_parts d Rest) f e m o → PartsTold row w out k (offer_parts d (parts_at row p q n)) f e m o
     unfolding offer_parts
     search-pass r a b out out₁ w₁ h f e m o t =
-        let c : accept_words d s row ≡ Not = sym a ∙ not_taken r b in
+        let c : accept_words d s row ≡ None = sym a ∙ not_taken r b in
         rw (rest-is x s is, took-not row (accept d x.l x.r) (rw c at took-here))
         (before-told row (equal x.l x.r) w k w₁ out out₁ (rw equal-words at h) (offer_parts d Rest) f e m o t)
 
-    pub search-take : (r : Replacement) → r ≡ accept_words d s row → is_taken r ≡ true → (out : List ℕ)
+    pub search-take : (r : Option Replacement) → r ≡ accept_words d s row → is_some r ≡ true → (out : List ℕ)
         → (e m : ℕ) (o : List ℕ) → PartsCopied Rest w out k e m o → PartsTold row w out k (offer_parts d (parts_at row p q n)) r e m o
     unfolding offer_parts
     search-take r a b out e m o t = rw (rest-is x s is) (taken-told row x.l x.r w k out r b (accept d x.l x.r) (rw (← a) at took-here) Rest (offer_parts d Rest) e m o t)

@@ -7,15 +7,13 @@ use native.Mathlib.Nat.{zero-add}
 use native.Mathlib.Omega.{arith}
 use borrow.Author.Tests.{lt-ltb, le-ltb, ltb-true}
 use lib.Dec.{eqb, ltb}
-use lib.ListN.{length, get_or, take, drop, set, replicate, length-map, length-replicate, get_or-replicate}
+use lib.ListN.{length, get_or, take, drop, set, replicate, length-map, get_or-replicate}
 use lib.Seq.{drop-length}
 use Rattle.tree.specs.Form.{Form, pick, encode}
 use Rattle.tree.specs.Tag.{expr, pred}
 use Rattle.form.specs.Decode.{Got, got, no-form, decode}
 use Rattle.form.specs.Answer.{finish}
 use Rattle.reader.specs.Internal.Reads.{mark, decode_in}
-use Rattle.form.specs.declared.head.Step.{Step}
-use Rattle.form.specs.declared.head.Step.TheVariants.{End, Bad}
 use Rattle.form.proofs.DecodeLaws.{clash, Ok, decode-encode, decode-sound}
 use Rattle.shift.specs.Internal.Items.{items}
 use Rattle.shift.proofs.RowLaws.{items_of, marks_of, mark-front}
@@ -37,6 +35,7 @@ use Rattle.one_point.proofs.PartialLaws.{first-filled, part-items}
 use Rattle.one_point.proofs.InsidePoint.{Fitting, point-row}
 use Rattle.reader.specs.declared.lists.Table.{Table}
 use Rattle.replace.proofs.BuildLaws.{rest_part}
+use Rattle.std.specs.Prelude.{Some, None, Option, is_some}
 
 -- the word of an emptied body
 pub first_word : (l : List ℕ) (w : ℕ) → 1 ≤ length l → take 1 (set l 0 w) ≡ w ∷ []
@@ -76,10 +75,6 @@ marking-of part pm pm' f h is m l = record { enough = let e = h.enough in omega 
     go g e =
         let k : g ≡ f = cc in
         m ∙ (ap (λ (z : List ℕ). mark f 0 0 z) (h.zeros ∙ ap (λ (n : ℕ). replicate n 0) (sym l)) ∙ ap (λ (z : Form). mark z 0 0 (replicate (length pm') 0)) (sym k))
-
--- a new row of marks
-pub fresh-cleared : (row : List ℕ) (n : ℕ) → length row ≤ n → Cleared row (replicate n 0)
-fresh-cleared row n h = record { zeros = ap (λ (k : ℕ). replicate k 0) (sym (length-replicate n 0)); enough = rw length-replicate h }
 
 -- a replacement that leaves the rest so deep
 module _ (part : List ℕ) (f : Form) (is : decode 63 expr part ≡ got f []) (g : Form) where
@@ -140,15 +135,16 @@ module _ (d : ℕ) (part rest : List ℕ) (r : ℕ) (is : r ≡ depth_left part)
     unfolding decode
     sure-none z = sure-by false (rw z refl)
 
-    module _ (s : Step) (e : s ≡ end_at 0 (decode_in (r - 1) 0 pred rest)) where
+    module _ (s : Option ℕ) (e : s ≡ end_at 0 (decode_in (r - 1) 0 pred rest)) where
       most : r - 1 ≤ 64
       most = let x = (leaves part r is).most in omega arith
 
-      pub sure-not : s ≡ Bad → false ≡ is_sure d part rest
-      sure-not q = sure-by false (sym (ap is_got (ends-not rest (r - 1) pred 0 most s e q)))
-
-      pub sure-read : (p : ℕ) → s ≡ End p → true ≡ is_sure d part rest
-      sure-read p q = sure-by true (sym (ap is_got (ends_at rest (r - 1) pred 0 most s e p q).is))
+      pub sure-read : is_some s ≡ is_sure d part rest
+      sure-read = go s refl
+        where
+          go : (o : Option ℕ) → s ≡ o → is_some o ≡ is_sure d part rest
+          go (Some p) q = sure-by true (sym (ap is_got (ends_at rest (r - 1) pred 0 most s e p q).is))
+          go None q = sure-by false (sym (ap is_got (ends-not rest (r - 1) pred 0 most s e q)))
 
 -- the place p of names filled in the rest
 module _ (t : ℕ) (which : is_quantifier t ≡ true) (ns : List ℕ) (names : are_names ns ≡ true) (few : length ns ≤ 32) (i : ℕ) (low : i < length ns) (part rest : List ℕ) (by form : Form) (is-part : decode 63 expr part ≡ got by [])
@@ -193,9 +189,6 @@ module _ (head : List ℕ) (i : ℕ) (part rest : List ℕ) (h : Placing head i 
   outcome-is room = rw (h.is-part, h.is-rest)
 
   -- the place that the code finds
-  pub place-low : i < get_or head 1 0
-  place-low = let q = h.target in rw (head-count head h.heading) q
-
   module _ (p : ℕ) (e : p ≡ get_or head 1 0 - 1 - i) where
     pub place-there : p + suc i ≡ length (decls_in head)
     place-there = let q = h.target in let c = head-count head h.heading in omega arith

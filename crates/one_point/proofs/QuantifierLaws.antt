@@ -12,10 +12,11 @@ use Rattle.tree.specs.Form.{Form, encode}
 use Rattle.tree.specs.Tag.{Sort, pred}
 use Rattle.form.specs.Decode.{got, decode, Whole, one, not-one, whole as whole_of, row_form, as_sort, form_of}
 use Rattle.form.specs.Break.{break_at}
-use Rattle.form.specs.Answer.{Outcome, answer, stop, refusal, told, written, of_found, needs, is_one, finish, check_outcome}
+use Rattle.form.specs.Answer.{Outcome, answer, stop, told, written, number, of_found, needs, is_one, finish, check_outcome}
 use Rattle.form.specs.declared.answer.Kind.TheVariants.{Predicate}
-use Rattle.form.specs.declared.answer.Answer.{Answer}
-use Rattle.form.specs.declared.answer.Answer.TheVariants.{No}
+use Rattle.form.specs.Answer.{Answer}
+use Rattle.std.specs.Prelude.{Option as Maybe, Some, None, Err}
+use Rattle.form.specs.declared.answer.Refusal.{Refusal}
 use Rattle.form.proofs.DecodeLaws.{clash, Ok, decode-encode}
 use Rattle.shift.proofs.CheckedLaws.{check-refuses, too_long, form-there}
 use Rattle.shift.proofs.AroundLaws.{quant-of}
@@ -26,27 +27,28 @@ use Rattle.rules.specs.Scan.{scan}
 use Rattle.rules.specs.Point.{polarity, reduce, one_point, of_result, point_outcome}
 use Rattle.decls.specs.Internal.Noted.{count_in}
 use Rattle.decls.proofs.CountLaws.{quant-count}
-use Rattle.one_point.specs.Internal.Reduce.{is_quantifier, quantifier_in, operator_in, decls_in, reduced_in, body_outcome, is_bad, Reducing}
-use Rattle.one_point.specs.declared.one_point_inference.Quantifier.{Quantifier}
-use Rattle.one_point.specs.declared.one_point_inference.Quantifier.TheVariants.{None}
+use Rattle.one_point.specs.Internal.Reduce.{is_quantifier, quantifier_in, operator_in, decls_in, reduced_in, body_outcome, told_if, written_if, Reducing}
 use Rattle.places.proofs.PlacesLaws.{PredRow}
-use Rattle.one_point.proofs.PointLaws.{bad-refusal}
 use Rattle.one_point.proofs.HeadLaws.{around_whole, HeadRead, no-head}
+use Rattle.form.specs.declared.answer.Refusal.TheVariants.{TooLong, NothingToRewrite, OutOfLimits, OutputTooShort, WorkTooShort, Broken}
 
 -- the whole call
 abbrev point_go : ℕ → Sort → Form → Outcome
 point_go room s f = of_result room (one_point f)
 
--- what a body is reduced to is refused by 9, 7 or 14, never by 2
-never-bad : (room : ℕ) (o : Option Form) → is_bad (told (of_result room o)) ≡ true → ⊥
+-- what a body is reduced to is refused because nothing is to be rewritten, it is outside the limits or it has no room, never as broken
+pub never-bad : (room : ℕ) (o : Option Form) (q : ℕ) → of_result room o ≡ stop (Broken q) → ⊥
 unfolding finish
-never-bad room (some g) e = go (is_one (row_form pred (encode g))) (leb (length (encode g)) room) e
+never-bad room (some g) q e = go (is_one (row_form pred (encode g))) (leb (length (encode g)) room) (ap (λ o. number (told o)) e)
   where
-    go : (a b : Bool) → is_bad (told (needs 7 a (needs 14 b (answer (encode g))))) ≡ true → ⊥
-    go true true e = clash cc
-    go true false e = clash cc
-    go false b e = clash cc
-never-bad room absent e = clash cc
+    go : (a b : Bool) → number (told (needs OutOfLimits a (needs OutputTooShort b (answer (encode g))))) ≡ 2 → ⊥
+    go true true e = omega arith
+    go true false e = omega arith
+    go false b e = omega arith
+never-bad room absent q e = go (ap (λ o. number (told o)) e)
+  where
+    go : ◌≡◌ {A = ℕ} 9 2 → ⊥
+    go e = omega arith
 
 -- a form whose row counts no declarations is not quantified
 uncounted : {f : Form} → Ok 64 pred f → count_in (encode f) ≡ 0 → quantified f ≡ other
@@ -66,21 +68,21 @@ unfolding one_point
 around-point t w ds f = rw (quantified-around t w ds f)
 
 module _ (row : List ℕ) (wl room : ℕ) where
-  pub point-small : wl < 16384 → point_outcome row wl room ≡ refusal 15
+  pub point-small : wl < 16384 → point_outcome row wl room ≡ stop WorkTooShort
   unfolding point_outcome
   point-small h = rw (lt-leb 16384 wl h)
 
   module _ (enough : 16384 ≤ wl) where
-    pub point-long : 8192 < length row → point_outcome row wl room ≡ refusal 1
+    pub point-long : 8192 < length row → point_outcome row wl room ≡ stop TooLong
     unfolding point_outcome
     point-long h = rw (le-leb 16384 wl enough) (too_long Predicate row (point_go room) h)
 
     module _ (short : length row ≤ 8192) where
-      pub point-refused : (a : Answer) (k p : ℕ) → a ≡ told (check_outcome Predicate row) → a ≡ No k p → point_outcome row wl room ≡ stop k p
+      pub point-refused : (a : Answer) (k : Refusal) → a ≡ told (check_outcome Predicate row) → a ≡ Err k → point_outcome row wl room ≡ stop k
       unfolding point_outcome
-      point-refused a k p e n = rw (le-leb 16384 wl enough) (check-refuses Predicate row (point_go room) a k p e n)
+      point-refused a k e n = rw (le-leb 16384 wl enough) (check-refuses Predicate row (point_go room) a k e n)
 
-      pub point-other : PredRow row → (q : Quantifier) → q ≡ quantifier_in row → q ≡ None → point_outcome row wl room ≡ refusal 9
+      pub point-other : PredRow row → (q : Maybe ℕ) → q ≡ quantifier_in row → q ≡ None → point_outcome row wl room ≡ stop NothingToRewrite
       unfolding point_outcome one_point
       point-other x q e n =
           let d : decode 64 pred row ≡ got x.form [] = rw (x.words, ← append-nil (encode x.form)) (decode-encode x.ok []) in
@@ -93,26 +95,40 @@ module _ (row : List ℕ) (wl room : ℕ) where
             let l = length-take (length row - p) (drop p row) in
             record { heading = h.heading short; short = omega arith; enough = enough }
 
-        pub point-body : is_bad (told (body_outcome 63 (operator_in (take p row)) (decls_in (take p row)) (take (length row - p) (drop p row)) room)) ≡ false → body_outcome 63 (operator_in (take p row)) (decls_in (take p row)) (take (length row - p) (drop p row)) room ≡ point_outcome row wl room
+        abbrev body : Maybe Outcome
+        body = body_outcome 63 (operator_in (take p row)) (decls_in (take p row)) (take (length row - p) (drop p row)) room
+
+        point-body : (o : Outcome) → body ≡ Some o → o ≡ point_outcome row wl room
         unfolding body_outcome point_outcome form_of row_form
-        point-body e = rw (h.operator-is, h.decls-are, rest_part row p, le-leb 16384 wl enough, le-leb (length row) 8192 short, h.whole) (go (whole_of (decode 63 pred (drop p row))) (rw (h.operator-is, h.decls-are, rest_part row p) at e))
+        point-body o e = rw (le-leb 16384 wl enough, le-leb (length row) 8192 short, h.whole) (go (whole_of (decode 63 pred (drop p row))) (rw (h.operator-is, h.decls-are, rest_part row p) at e))
           where
-            go : (w : Whole) → is_bad (told (reduced_in h.op h.decls room w)) ≡ false → reduced_in h.op h.decls room w ≡ of_found (break_at Predicate row) (point_go room) (as_sort pred (around_whole h.op h.decls w))
-            go (one f) e = ap (of_result room) (sym (around-point h.op h.which h.decls f))
+            go : (w : Whole) → reduced_in h.op h.decls room w ≡ Some o → o ≡ of_found (break_at Predicate row) (point_go room) (as_sort pred (around_whole h.op h.decls w))
+            go (one f) e =
+                let q : of_result room (reduce h.op h.decls (scan (length h.decls) (polarity h.op) f)) ≡ o = cc in
+                sym q ∙ ap (of_result room) (sym (around-point h.op h.which h.decls f))
             go not-one e = absurd (clash cc)
 
         -- a body that is no predicate: the row breaks
-        pub point-broken : is_bad (told (body_outcome 63 (operator_in (take p row)) (decls_in (take p row)) (take (length row - p) (drop p row)) room)) ≡ true → point_outcome row wl room ≡ stop 2 (break_at Predicate row)
+        point-broken : body ≡ None → point_outcome row wl room ≡ stop (Broken (break_at Predicate row))
         unfolding body_outcome point_outcome form_of row_form
         point-broken e = rw (le-leb 16384 wl enough, le-leb (length row) 8192 short, h.whole) (go (whole_of (decode 63 pred (drop p row))) (rw (h.operator-is, h.decls-are, rest_part row p) at e))
           where
-            go : (w : Whole) → is_bad (told (reduced_in h.op h.decls room w)) ≡ true → of_found (break_at Predicate row) (point_go room) (as_sort pred (around_whole h.op h.decls w)) ≡ stop 2 (break_at Predicate row)
-            go (one f) e = absurd (never-bad room (reduce h.op h.decls (scan (length h.decls) (polarity h.op) f)) e)
+            go : (w : Whole) → reduced_in h.op h.decls room w ≡ None → of_found (break_at Predicate row) (point_go room) (as_sort pred (around_whole h.op h.decls w)) ≡ stop (Broken (break_at Predicate row))
+            go (one f) e = absurd (clash cc)
             go not-one e = refl
 
-        abbrev body : Outcome
-        body = body_outcome 63 (operator_in (take p row)) (decls_in (take p row)) (take (length row - p) (drop p row)) room
+        -- from what is told of the body
+        module _ (r : Maybe Answer) (out out' : List ℕ) (u : (r ≡ told_if body) × (out' ≡ written_if body out)) where
+          pub point-told : (a : Answer) → r ≡ Some a → (a ≡ told (point_outcome row wl room)) × (out' ≡ written (point_outcome row wl room) out)
+          point-told a e = go body refl u.0 u.1
+            where
+              go : (m : Maybe Outcome) → body ≡ m → r ≡ told_if m → out' ≡ written_if m out → (a ≡ told (point_outcome row wl room)) × (out' ≡ written (point_outcome row wl room) out)
+              go (Some o) q v z = let k : a ≡ told o = cc in rw (← point-body o q) (k, z)
+              go None q v z = absurd (clash cc)
 
-        pub point-bad : (r : Answer) (out out' : List ℕ) → (r ≡ told body) × (out' ≡ written body out) → is_bad r ≡ true → (q : ℕ) → q ≡ break_at Predicate row
-            → (No 2 q ≡ told (point_outcome row wl room)) × (out' ≡ written (point_outcome row wl room) out)
-        point-bad r out out' u e q k = rw (point-broken (sym (ap is_bad u.0) ∙ e), k) (refl, u.1 ∙ bad-refusal body r u.0 e out)
+          pub point-bad : r ≡ None → (q : ℕ) → q ≡ break_at Predicate row → (Err (Broken q) ≡ told (point_outcome row wl room)) × (out' ≡ written (point_outcome row wl room) out)
+          point-bad e q k = go body refl u.0 u.1
+            where
+              go : (m : Maybe Outcome) → body ≡ m → r ≡ told_if m → out' ≡ written_if m out → (Err (Broken q) ≡ told (point_outcome row wl room)) × (out' ≡ written (point_outcome row wl room) out)
+              go (Some o) b v z = absurd (clash cc)
+              go None b v z = rw (point-broken b, k) (refl, z)

@@ -7,6 +7,8 @@ use native.Mathlib.Numerals.{sub-one}
 use native.Mathlib.Omega.{arith}
 use borrow.Author.Tests.{lt-leb}
 use lib.ListN.{length, get_or, drop}
+use Rattle.std.specs.Prelude.{Some, None}
+use Rattle.std.specs.Option.{unwrap_or}
 use Rattle.tree.specs.Form.{Form, node, none, more, encode}
 use Rattle.tree.specs.Tag.{Sort, expr, pred, own, own_of, shape_of, pred_tags, sorts}
 use Rattle.form.specs.Decode.{read, Got, got, no-form, Gots, gots, no-forms, is_leaf, close, decode, decode_all}
@@ -28,36 +30,36 @@ pub record ScannedAt (z : Form → Scan) (row : List ℕ) (d at pos : ℕ) (out 
   pub is : decode d pred (drop at row) ≡ got form (drop (at + length (encode form)) row)
   pub became : Became row at form pos out (z form) r out'
 
-module _ (z : Form → Scan) (row : List ℕ) (d at pos : ℕ) (out : List ℕ) (r : Scanned) (out' : List ℕ) where
-  pub told-ok : ScanTold z row d at pos out r out' → r.ok ≡ true → ScannedAt z row d at pos out r out'
+module _ (z : Form → Scan) (row : List ℕ) (d at pos : ℕ) (out : List ℕ) where
+  pub told-ok : (r : Scanned) (out' : List ℕ) → ScanTold z row d at pos out (Some r) out' → ScannedAt z row d at pos out r out'
   unfolding Told
-  told-ok t e = go (decode d pred (drop at row)) refl t
+  told-ok r out' t = go (decode d pred (drop at row)) refl t
     where
-      go : (g : Got) → decode d pred (drop at row) ≡ g → Told z row at pos out g r out' → ScannedAt z row d at pos out r out'
-      go (got f x) q t = record { form = f; is = q ∙ ap (λ (y : List ℕ). got f y) (decode-at d pred row at f x q); became = t.1 }
+      go : (g : Got) → decode d pred (drop at row) ≡ g → Told z row at pos out g (Some r) out' → ScannedAt z row d at pos out r out'
+      go (got f x) q t = record { form = f; is = q ∙ ap (λ (y : List ℕ). got f y) (decode-at d pred row at f x q); became = t }
       go no-form q t = absurd (clash cc)
 
-  pub told-no : ScanTold z row d at pos out r out' → r.ok ≡ false → decode d pred (drop at row) ≡ no-form
+  pub told-no : (out' : List ℕ) → ScanTold z row d at pos out None out' → decode d pred (drop at row) ≡ no-form
   unfolding Told
-  told-no t e = go (decode d pred (drop at row)) t
+  told-no out' t = go (decode d pred (drop at row)) t
     where
-      go : (g : Got) → Told z row at pos out g r out' → g ≡ no-form
-      go (got f x) t = let q = t.0 in absurd (clash cc)
+      go : (g : Got) → Told z row at pos out g None out' → g ≡ no-form
+      go (got f x) t = absurd t
       go no-form t = refl
 
-  pub tell : (f : Form) (x : List ℕ) → decode d pred (drop at row) ≡ got f x → r.ok ≡ true → Became row at f pos out (z f) r out' → ScanTold z row d at pos out r out'
+  pub tell : (r : Scanned) (out' : List ℕ) (f : Form) (x : List ℕ) → decode d pred (drop at row) ≡ got f x → Became row at f pos out (z f) r out' → ScanTold z row d at pos out (Some r) out'
   unfolding Told
-  tell f x e k b = rw e (k, b)
+  tell r out' f x e b = rw e b
 
-  pub tell_no : decode d pred (drop at row) ≡ no-form → r.ok ≡ false → ScanTold z row d at pos out r out'
+  pub tell_no : (out' : List ℕ) → decode d pred (drop at row) ≡ no-form → ScanTold z row d at pos out None out'
   unfolding Told
-  tell_no e k = rw e k
+  tell_no out' e = rw e refl
 
 -- where what was scanned ends, in the row and in the output
 pub record Bounds (row : List ℕ) (at pos : ℕ) (r : Scanned) : Type 0 where
   pub up : at < r.next
   pub inside : r.next ≤ length row
-  pub low : r.end ≤ pos + 2 * (r.next - at)
+  pub low : unwrap_or r.end pos ≤ pos + 2 * (r.next - at)
 
 pub bounds : {z : Form → Scan} {row : List ℕ} {d at pos : ℕ} {out : List ℕ} {r : Scanned} {out' : List ℕ} → ScannedAt z row d at pos out r out' → Bounds row at pos r
 bounds {row = row} {d = d} {at = at} a =

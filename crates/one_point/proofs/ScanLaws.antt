@@ -8,11 +8,10 @@ use native.Mathlib.Omega.{arith}
 use borrow.Author.Tests.{eqb-true, eqb-false}
 use lib.Dec.{eqb}
 use lib.ListN.{length, take, drop}
+use Rattle.std.specs.Prelude.{Some, None, Option}
 use Rattle.tree.specs.Form.{Form, node, noted, Decls, Forms, none, more, encode, encode_all}
 use Rattle.tree.specs.Tag.{Sort, expr, pred, shape_of, pred_tags}
 use Rattle.form.specs.Decode.{Got, got, no-form, gots, decode}
-use Rattle.form.specs.declared.head.Step.{Step}
-use Rattle.form.specs.declared.head.Step.TheVariants.{End, Bad}
 use Rattle.form.proofs.DecodeLaws.{clash, Ok, ok-node, ok-noted, OkAll, ok-none, ok-more, decode_all-encode, decode-sound, decode-at}
 use Rattle.reader.specs.Internal.Reads.{decode_in}
 use Rattle.rules.specs.Replacement.{nothing, accept}
@@ -23,7 +22,6 @@ use Rattle.places.specs.Internal.Wrote.{Wrote}
 use Rattle.one_point.specs.Internal.Writes.{Neat, neat-not, neat-other, neat-noted}
 use Rattle.one_point.specs.Internal.Parts.{accept_words, TookIs}
 use Rattle.one_point.specs.Internal.Scans.{Left, Became, Sided}
-use Rattle.places.specs.declared.sides.Replacement.TheVariants.{Not}
 use Rattle.places.proofs.ViewLaws.{plain-node, plain-noted}
 use Rattle.places.proofs.SidesLaws.{skip_is, part-words}
 use Rattle.places.proofs.WroteLaws.{wrote-end}
@@ -68,7 +66,7 @@ module _ (row : List ℕ) (d at : ℕ) (f : Form) (is : decode d pred (drop at r
   fits = in_row row (encode f) (drop (at + length (encode f)) row) at stands-words (some_words f)
 
   pub copied-form : (n pos end : ℕ) (out out' : List ℕ) → n ≡ at + length (encode f) → Wrote pos out (take (n - at) (drop at row)) end out'
-      → Became row at f pos out (scanned nothing (some f)) (record { ok = true; next = n; found = Not; gone = false; end = end }) out'
+      → Became row at f pos out (scanned nothing (some f)) (record { next = n; found = None; end = Some end }) out'
   unfolding Left TookIs
   copied-form n pos end out out' e w =
       let a : take (n - at) (drop at row) ≡ encode f = part-words row (encode f) (drop (at + length (encode f)) row) at n stands-words e in
@@ -82,8 +80,8 @@ pub record EndsAt (row : List ℕ) (d : ℕ) (s : Sort) (at n : ℕ) : Type 0 wh
   pub is : decode d s (drop at row) ≡ got form (drop (at + length (encode form)) row)
   pub end : n ≡ at + length (encode form)
 
-module _ (row : List ℕ) (d : ℕ) (s : Sort) (at : ℕ) (deep : d ≤ 64) (r : Step) (e : r ≡ end_at at (decode_in d 0 s (drop at row))) where
-  pub ends_at : (n : ℕ) → r ≡ End n → EndsAt row d s at n
+module _ (row : List ℕ) (d : ℕ) (s : Sort) (at : ℕ) (deep : d ≤ 64) (r : Option ℕ) (e : r ≡ end_at at (decode_in d 0 s (drop at row))) where
+  pub ends_at : (n : ℕ) → r ≡ Some n → EndsAt row d s at n
   unfolding end_at
   ends_at n q = go (decode d s (drop at row)) refl (skip_is at d s (drop at row) r deep e)
     where
@@ -91,7 +89,7 @@ module _ (row : List ℕ) (d : ℕ) (s : Sort) (at : ℕ) (deep : d ≤ 64) (r :
       go (got f x) p e = record { form = f; is = p ∙ ap (λ (z : List ℕ). got f z) (decode-at d s row at f x p); end = cc }
       go no-form p e = absurd (clash cc)
 
-  pub ends-not : r ≡ Bad → decode d s (drop at row) ≡ no-form
+  pub ends-not : r ≡ None → decode d s (drop at row) ≡ no-form
   unfolding end_at
   ends-not q = go (decode d s (drop at row)) (skip_is at d s (drop at row) r deep e)
     where

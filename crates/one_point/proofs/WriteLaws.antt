@@ -1,49 +1,37 @@
 -- Words written into the output row, and nodes rebuilt there. Assumes nothing.
 use mathlib.Core.Path.{◌≡◌, refl, ap, sym, ◌∙◌}
-use mathlib.Core.Bool.{Bool, true, false}
 use mathlib.Core.List.{List, [], ◌∷◌, ◌++◌, append_assoc, append-nil}
-use Prim.Native.Nat.{ℕ, suc, ◌+◌, ◌-◌, ◌≤◌, ◌<◌}
-use native.Mathlib.Nat.{add-zero}
+use Prim.Native.Nat.{ℕ, ◌+◌, ◌-◌, ◌≤◌, ◌<◌}
 use native.Mathlib.Numerals.{add-one}
 use native.Mathlib.Omega.{arith}
 use borrow.Author.Tests.{ne_eqb}
 use lib.ListN.{length, get_or, take, drop, set, length-drop}
-use lib.Seq.{take-suc, take-suc-set, take-set-lt, drop-set-lt, drop-drop, take-add, get_or_at, get_or-drop, get_or-take, set_at, length-take-le}
+use lib.Seq.{take-suc, take-set-lt, drop-drop, take-add, get_or_at, get_or-take, set_at, length-take-le}
+use Rattle.std.specs.Prelude.{Option, Some, None, is_none}
+use Rattle.std.specs.Option.{unwrap_or}
+use Rattle.std.specs.List.{copy_within}
+use Rattle.std.proofs.lemmas.List.Edits.{take-paste, drop-paste}
 use Rattle.tree.specs.Form.{Form, node, noted, Forms, none, more, count, encode, encode_decls, encode_all}
 use Rattle.rules.specs.Scan.{negate, joined}
 use Rattle.places.specs.Internal.Wrote.{Wrote}
 use Rattle.one_point.specs.Internal.Writes.{left_words, is_gone, Neat, neat-not, neat-other, neat-noted}
 use Rattle.places.proofs.WroteLaws.{headed, nothing_written}
 
--- a loop that writes the words s from pos on
-pub copy-none : (pos : ℕ) (out s : List ℕ) → take (pos + 0) out ≡ take pos out ++ take 0 s
-copy-none pos out s = rw (add-zero, append-nil)
-
-pub copy_more : (pos i v : ℕ) (out₀ out s : List ℕ) → pos + i < length out → i < length s → v ≡ get_or s i 0 → take (pos + i) out ≡ take pos out₀ ++ take i s
-    → take (pos + (i + 1)) (set out (pos + i) v) ≡ take pos out₀ ++ take (i + 1) s
-copy_more pos i v out₀ out s h k e w =
-    let n : pos + (i + 1) ≡ suc (pos + i) = omega arith in
-    rw (n, add-one, take-suc-set out (pos + i) v h, take-suc s i 0 k, w, e, append_assoc)
-
-pub copy-all : (pos n i : ℕ) (out₀ out s : List ℕ) → i ≤ n → n ≤ i → n ≤ length s → take (pos + i) out ≡ take pos out₀ ++ take i s → Wrote pos out₀ (take n s) (pos + n) out
+-- words moved down to pos, to where they end; those from `end` on stay
+pub words-moved : (pos end : ℕ) (out : List ℕ) → pos + 2 ≤ end → end ≤ length out
+    → Wrote pos out (take (end - (pos + 2)) (drop (pos + 2) out)) (end - 2) (copy_within out (pos + 2) end pos) × (drop end (copy_within out (pos + 2) end pos) ≡ drop end out)
 unfolding Wrote
-copy-all pos n i out₀ out s h k l w =
-    let e : i ≡ n = omega arith in
-    (ap (λ m. pos + m) (sym (length-take-le n s l)), rw e at w)
-
--- the same where the words come from further on in the row itself
-pub move-word : (from i : ℕ) (out₀ out : List ℕ) → drop (from + i) out ≡ drop (from + i) out₀ → get_or out (from + i) 0 ≡ get_or (drop from out₀) i 0
-move-word from i out₀ out e =
-    let a : get_or (drop (from + i) out) 0 0 ≡ get_or out (from + i + 0) 0 = get_or-drop (from + i) out 0 0 in
-    let b : get_or (drop (from + i) out₀) 0 0 ≡ get_or out₀ (from + i + 0) 0 = get_or-drop (from + i) out₀ 0 0 in
-    let c : get_or (drop from out₀) i 0 ≡ get_or out₀ (from + i) 0 = get_or-drop from out₀ i 0 in
-    let z : from + i + 0 ≡ from + i = omega arith in
-    rw c (rw z at (sym a ∙ ap (λ l. get_or l 0 0) e ∙ b))
-
-pub move-rest : (from pos i v : ℕ) (out₀ out : List ℕ) → pos < from → drop (from + i) out ≡ drop (from + i) out₀ → drop (from + (i + 1)) (set out (pos + i) v) ≡ drop (from + (i + 1)) out₀
-move-rest from pos i v out₀ out h e =
-    let n : from + (i + 1) ≡ from + i + 1 = omega arith in
-    rw (drop-set-lt (from + (i + 1)) out (pos + i) v (omega arith), n, ← drop-drop 1 (from + i) out, ← drop-drop 1 (from + i) out₀, e)
+words-moved pos end out h k =
+    let n = end - (pos + 2) in
+    let d = length-drop (pos + 2) out in
+    let m : n ≤ length (drop (pos + 2) out) = omega arith in
+    let to : end - 2 ≡ pos + n = omega arith in
+    let up : end ≡ pos + n + 2 = omega arith in
+    let l = length-take-le n (drop (pos + 2) out) m in (
+      (omega arith, rw to (take-paste out pos (drop (pos + 2) out) n (omega arith) m)),
+      ap (λ z. drop z (copy_within out (pos + 2) end pos)) up
+          ∙ (sym (drop-drop 2 (pos + n) (copy_within out (pos + 2) end pos)) ∙ (ap (drop 2) (drop-paste out pos (drop (pos + 2) out) n (omega arith) m) ∙ (drop-drop 2 (pos + n) out ∙ ap (λ z. drop z out) (sym up)))),
+    )
 
 -- words that stand from a position on
 cancel : (a x y : List ℕ) → a ++ x ≡ a ++ y → x ≡ y
@@ -82,21 +70,21 @@ behind pos end t out ws h w =
 
 -- an associative node of what is left
 module _ (pos end t : ℕ) (out : List ℕ) (room : pos + 2 ≤ length out) where
-  abbrev Joined : Forms → ℕ → Bool → List ℕ → Type 0
-  Joined fs r gone out' = (gone ≡ is_gone (joined t fs)) × Wrote pos out (left_words (joined t fs)) r out'
+  abbrev Joined : Forms → Option ℕ → List ℕ → Type 0
+  Joined fs r out' = (is_none r ≡ is_gone (joined t fs)) × Wrote pos out (left_words (joined t fs)) (unwrap_or r pos) out'
 
-  pub join-none : (k : ℕ) → k ≡ 0 → (fs : Forms) → k ≡ count fs → Joined fs pos true out
+  pub join-none : (k : ℕ) → k ≡ 0 → (fs : Forms) → k ≡ count fs → Joined fs None out
   join-none k z none e = (refl, nothing_written pos out)
   join-none k z (more f fs) e = absurd (omega arith)
 
   pub join_one : (k : ℕ) → k ≡ 1 → (r : ℕ) (out' : List ℕ) → Wrote pos out (take (end - (pos + 2)) (drop (pos + 2) out)) r out'
-      → (fs : Forms) → k ≡ count fs → Wrote (pos + 2) out (encode_all fs) end out → Joined fs r false out'
+      → (fs : Forms) → k ≡ count fs → Wrote (pos + 2) out (encode_all fs) end out → Joined fs (Some r) out'
   unfolding encode
   join_one k z r out' m none e w = absurd (omega arith)
   join_one k z r out' m (more f none) e w = (refl, moved pos end r out (encode f) out' room (rw append-nil at w) m)
   join_one k z r out' m (more f (more g fs)) e w = absurd (omega arith)
 
-  pub join_more : (k : ℕ) → (k ≡ 0 → ⊥) → (k ≡ 1 → ⊥) → (fs : Forms) → k ≡ count fs → Wrote (pos + 2) out (encode_all fs) end out → Joined fs end false (set (set out pos t) (pos + 1) k)
+  pub join_more : (k : ℕ) → (k ≡ 0 → ⊥) → (k ≡ 1 → ⊥) → (fs : Forms) → k ≡ count fs → Wrote (pos + 2) out (encode_all fs) end out → Joined fs (Some end) (set (set out pos t) (pos + 1) k)
   unfolding encode
   join_more k z y none e w = absurd (z e)
   join_more k z y (more f none) e w = absurd (y e)

@@ -4,28 +4,27 @@ ghost use Rattle.one_point.specs.Internal.Scans.{read_kids, end_of_all, one_more
 ghost use Rattle.one_point.specs.Internal.Marks.{KidsMarked};
 
 use crate::marks::mark_pred;
-use form::head::Step;
 use places::sides::Replacement;
 
 // What a search took, where it stopped in the row and how many children are left there, and what was written.
 #[derive(Clone, Copy)]
 pub struct Stopped {
-    pub found: Replacement,
+    pub found: Option<Replacement>,
     pub next: usize,
     pub left: u32,
     pub end: usize,
     pub count: u32,
 }
 
-// The count of written children, one more unless the child is gone.
-pub(crate) fn one_more(k: u32, gone: bool) -> u32
+// The count of written children, one more where something is left of a child.
+pub(crate) fn one_more(k: u32, left: Option<usize>) -> u32
     requires { k < 4294967295 }
-    ensures { result ≡ one_more k gone }
+    ensures { result ≡ one_more k left }
 {
-    if gone {
-        return k;
+    match left {
+        Some(_) => k + 1,
+        None => k,
     }
-    k + 1
 }
 
 // Where n predicates end; their marks are made from `pos` on.
@@ -36,19 +35,15 @@ pub(crate) fn mark_preds(
     depth: u32,
     marks: &mut [u32],
     pos: usize,
-) -> Step
+) -> Option<usize>
     requires { (depth ≤ 64) × (pos + (length row.now - at) ≤ length marks.old) }
     ensures value { result ≡ end_of_all at (read_kids row.now depth at n) }
     ensures kids_marked { KidsMarked row.now depth at n pos marks.old marks.new }
 {
     let mut p = at;
-    let mut left = n;
-    while 0 < left {
-        let Step::End(q) = mark_pred(row, p, depth, marks, pos + (p - at)) else {
-            return Step::Bad;
-        };
+    for _ in 0..n {
+        let q = mark_pred(row, p, depth, marks, pos + (p - at))?;
         p = q;
-        left -= 1;
     }
-    Step::End(p)
+    Some(p)
 }

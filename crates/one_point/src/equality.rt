@@ -6,12 +6,11 @@ ghost use Rattle.one_point.specs.Internal.Marks.{Clean, ScanMarks, SidesMarks, R
 ghost use Rattle.places.specs.Internal.Positions.{both_pairs};
 
 use crate::marks::mark_pred;
-use crate::parts::{accept, copy_parts, is_taken, search_parts};
-use crate::scanned::{Scanned, no_pred};
+use crate::parts::{accept, copy_parts, search_parts};
+use crate::scanned::Scanned;
 use crate::writes::{copy_part, finish_junction};
-use form::head::Step;
 use places::positions::{both_pairs, skip_expr};
-use places::sides::{Replacement, Sides};
+use places::sides::Sides;
 use tree::tag::Tag;
 
 // An equality that is one part: it is gone where it is taken, else copied.
@@ -35,33 +34,29 @@ fn scan_part(
         right: right,
         end: next,
     };
-    let offered = accept(row, sides, n);
-    if is_taken(offered) {
+    let found = accept(row, sides, n);
+    if found.is_some() {
         return Scanned {
-            ok: true,
             next: next,
-            found: offered,
-            gone: true,
-            end: pos,
+            found: found,
+            end: None,
         };
     }
     let end = copy_part(row, at, next, out, pos);
     mark_pred(row, at, 65, marks, pos);
     Scanned {
-        ok: true,
         next: next,
-        found: Replacement::Not,
-        gone: false,
-        end: end,
+        found: None,
+        end: Some(end),
     }
 }
 
-// The marks of what is left of an equality, read where it was written.
-fn mark_rest(out: &[u32], pos: usize, gone: bool, marks: &mut [u32])
+// The marks of what is left of an equality, if anything is, read where it was written.
+fn mark_rest(out: &[u32], pos: usize, left: Option<usize>, marks: &mut [u32])
     requires { (pos ≤ length out.now) × (pos ≤ length marks.old) }
-    ensures { RestMarks out.now pos gone marks.old marks.new }
+    ensures { RestMarks out.now pos left marks.old marks.new }
 {
-    if !gone {
+    if left.is_some() {
         mark_pred(out, pos, 65, marks, pos);
     }
 }
@@ -83,15 +78,12 @@ fn scan_parts(
 {
     let s = search_parts(row, at + 1, right, n, out, pos + 2);
     let c = copy_parts(row, s.left, s.right, s.todo, out, s.end, s.count);
-    let l = finish_junction(out, pos, c.end, Tag::AND, c.count);
-    mark_rest(out, pos, l.gone, marks);
-    let found = s.found;
+    let end = finish_junction(out, pos, c.end, Tag::AND, c.count);
+    mark_rest(out, pos, end, marks);
     Scanned {
-        ok: true,
         next: next,
-        found: found,
-        gone: l.gone,
-        end: l.end,
+        found: s.found,
+        end: end,
     }
 }
 
@@ -104,19 +96,15 @@ pub(crate) fn scan_equality(
     out: &mut [u32],
     marks: &mut [u32],
     pos: usize,
-) -> Scanned
+) -> Option<Scanned>
     requires { Room row.now depth at pos (length out.old) × (n ≤ 32) × Entered row.now depth at × (get_or row.now at 0 ≡ 101) × Clean row.now at pos marks.old }
     ensures scan_told { ScanTold (scan n true) row.now depth at pos out.old result out.new }
     ensures scan_marks { ScanMarks (scan n true) row.now depth at pos marks.old marks.new }
 {
-    let Step::End(right) = skip_expr(row, at + 1, depth - 1) else {
-        return no_pred();
-    };
-    let Step::End(next) = skip_expr(row, right, depth - 1) else {
-        return no_pred();
-    };
+    let right = skip_expr(row, at + 1, depth - 1)?;
+    let next = skip_expr(row, right, depth - 1)?;
     if both_pairs(row, at + 1, right) {
-        return scan_parts(row, at, right, next, n, out, marks, pos);
+        return Some(scan_parts(row, at, right, next, n, out, marks, pos));
     }
-    scan_part(row, at, right, next, n, out, marks, pos)
+    Some(scan_part(row, at, right, next, n, out, marks, pos))
 }

@@ -12,8 +12,10 @@ use crate::marks::raise;
 use decls::ends::body_start;
 use decls::heads::{flag_names, write_flagged, write_noted};
 use decls::used::clear_used;
-use form::answer::Answer;
+use form::answer::{Answer, Refusal};
 use places::sides::is_above;
+use reader::lists::Table;
+use replace::pieces::Source;
 use replace::tables::{fill_places, put_words};
 
 // How the annotations of the body's own quantifier join the declarations in front: not, without the replaced declaration, or with what replaces it.
@@ -86,27 +88,23 @@ fn fill_notes(
     ensures value { result ≡ told (placed_row true [] (full_table n (length list.now)) n list.now list_marks.now notes.now raised.now (length out.old)) }
     ensures out_after { out.new ≡ written (placed_row true [] (full_table n (length list.now)) n list.now list_marks.now notes.now raised.now (length out.old)) out.old }
 {
-    let words = [1u32; 32];
-    let starts = [0usize; 32];
-    let ends = [list.len(); 32];
-    fill_places(
-        &list[..0],
-        n as usize,
-        &words,
-        &starts,
-        &ends,
-        n,
-        true,
-        list,
-        list_marks,
-        notes,
-        raised,
-        0,
-        out,
-    )
+    let table = Table {
+        words: [1; 32],
+        starts: [0; 32],
+        ends: [list.len(); 32],
+        n: n as usize,
+    };
+    let source = Source {
+        table: &table,
+        list: list,
+        list_marks: list_marks,
+        row: notes,
+        marks: raised,
+    };
+    fill_places(&[], source, 0, n, true, out)
 }
 
-// The head of the declarations before the last one and k more, whose annotations are filled and lowered: where it ends, or 0 where it is too long.
+// The head of the declarations before the last one and k more, whose annotations are filled and lowered: where it ends, unless it is too long.
 fn write_joined(
     head: &[u32],
     row: &[u32],
@@ -116,7 +114,7 @@ fn write_joined(
     notes: &[u32],
     raised: &[u32],
     joined: &mut [u32],
-) -> usize
+) -> Option<usize>
     requires { Headed head.now × Flags head.now row.now × (k ≤ 32) × (length list.now ≤ length list_marks.now) × (length joined.old ≡ 8192) }
     ensures { WroteJoined head.now k (notes_in (get_or head.now 1 0) list.now list_marks.now notes.now raised.now) result joined.new }
 {
@@ -124,17 +122,14 @@ fn write_joined(
     let j = (head[1] - 1) as usize;
     let start = write_flagged(&words[..j], row, joined);
     let mut filled = [0u32; 8192];
-    let done = fill_notes(head[1], list, list_marks, notes, raised, &mut filled);
-    let Answer::Done(n) = done else {
-        return 0;
-    };
+    let n = fill_notes(head[1], list, list_marks, notes, raised, &mut filled).ok()?;
     if joined.len() - start < n {
-        return 0;
+        return None;
     }
     put_words(&filled[..n], joined, start);
     joined[0] = operator_of(head) + 10;
     joined[1] = head[1] - 1 + k;
-    start + n
+    Some(start + n)
 }
 
 // The body from `from` on under that head.
@@ -165,10 +160,8 @@ fn put_joined(
         &body[2..from],
         raised,
         &mut joined,
-    );
-    if end == 0 {
-        return Answer::No(7, 0);
-    }
+    )
+    .ok_or(Refusal::OutOfLimits)?;
     put_under(
         false,
         &joined[..end],
@@ -186,14 +179,7 @@ fn put_joined(
 fn are_ones(words: &[u32]) -> bool
     ensures { result ≡ all_ones words.now }
 {
-    let mut i = 0;
-    while i < words.len() {
-        if words[i] != 1 {
-            return false;
-        }
-        i += 1;
-    }
-    true
+    words.iter().all(|w| *w == 1)
 }
 
 // How annotations join declarations in front of the last of n, by the declarations that they use.

@@ -8,22 +8,25 @@ ghost use Rattle.rules.specs.Scan.{scanned};
 ghost use Rattle.places.specs.Internal.Positions.{end_at};
 ghost use Rattle.one_point.specs.Internal.Marks.{MarksTold, raise_mark, CanRaise};
 
-use form::head::Step;
 use reader::reader::pred_at;
 
 // Where the predicate at `at` ends; its marks are made from `pos` on.
-pub(crate) fn mark_pred(row: &[u32], at: usize, depth: u32, marks: &mut [u32], pos: usize) -> Step
+pub(crate) fn mark_pred(
+    row: &[u32],
+    at: usize,
+    depth: u32,
+    marks: &mut [u32],
+    pos: usize,
+) -> Option<usize>
     requires { pos ≤ length marks.old }
     ensures value { result ≡ end_at at (decode_in depth 0 pred (drop at row.now)) }
     ensures marks_told { MarksTold (λ f. scanned nothing (some f)) pos (decode_in depth 0 pred (drop at row.now)) marks.old marks.new }
 {
     if row.len() <= at {
-        return Step::Bad;
+        return None;
     }
-    let Step::End(size) = pred_at(&row[at..], &mut marks[pos..], 0, depth, 0) else {
-        return Step::Bad;
-    };
-    Step::End(at + size)
+    let size = pred_at(&row[at..], &mut marks[pos..], 0, depth, 0)?;
+    Some(at + size)
 }
 
 // A mark under k more declarations.
@@ -42,9 +45,7 @@ pub(crate) fn raise(marks: &mut [u32], k: u32)
     requires { CanRaise k marks.old }
     ensures { marks.new ≡ map (raise_mark k) marks.old }
 {
-    let mut i = 0;
-    while i < marks.len() {
-        marks[i] = raise_mark(marks[i], k);
-        i += 1;
+    for m in marks.iter_mut() {
+        *m = raise_mark(*m, k);
     }
 }

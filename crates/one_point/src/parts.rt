@@ -2,7 +2,7 @@
 ghost use Rattle.std.specs.Prelude.{◌≡◌, ◌+◌, ◌-◌, ◌<◌, ◌≤◌, length};
 ghost use Rattle.places.specs.Internal.Wrote.{Wrote};
 ghost use Rattle.places.specs.Internal.Positions.{Beside, Within, parts_at};
-ghost use Rattle.one_point.specs.Internal.Parts.{accept_words, equal_words, is_taken, PartsCopied, Searched};
+ghost use Rattle.one_point.specs.Internal.Parts.{accept_words, equal_words, PartsCopied, Searched};
 
 use crate::writes::copy_part;
 use places::positions::{both_pairs, part_at};
@@ -19,7 +19,7 @@ pub struct Written {
 // Where the search of the parts stopped: what it took, the positions and the number of the parts that are left, and what was written.
 #[derive(Clone, Copy)]
 pub struct Search {
-    pub found: Replacement,
+    pub found: Option<Replacement>,
     pub left: usize,
     pub right: usize,
     pub todo: u32,
@@ -28,20 +28,18 @@ pub struct Search {
 }
 
 // The rule of Places for n declarations, with all places free.
-pub(crate) fn accept(row: &[u32], sides: Sides, n: usize) -> Replacement
+pub(crate) fn accept(row: &[u32], sides: Sides, n: usize) -> Option<Replacement>
     requires { (n ≤ 32) × (length row.now ≤ 8192) × Within row.now sides }
     ensures { result ≡ accept_words n sides row.now }
 {
-    let Replacement::Is(target, start, end) = match_replacement(row, sides) else {
-        return Replacement::Not;
-    };
-    if n <= target as usize {
-        return Replacement::Not;
+    let part = match_replacement(row, sides)?;
+    if n <= part.target as usize {
+        return None;
     }
-    if !is_above(&row[start..end], target) {
-        return Replacement::Not;
+    if !is_above(&row[part.start..part.end], part.target) {
+        return None;
     }
-    Replacement::Is(target, start, end)
+    Some(part)
 }
 
 // A part written as an equality.
@@ -92,15 +90,6 @@ pub(crate) fn copy_parts(
     }
 }
 
-pub fn is_taken(found: Replacement) -> bool
-    ensures { result ≡ is_taken found }
-{
-    match found {
-        Replacement::Is(target, start, end) => true,
-        Replacement::Not => false,
-    }
-}
-
 // The parts of the equality whose sides stand at `at` and `beside`, offered in order for n declarations; those that are passed are written.
 pub(crate) fn search_parts(
     row: &[u32],
@@ -113,7 +102,7 @@ pub(crate) fn search_parts(
     requires { Beside row.now at beside 1 pos 0 (length out.old) × (length row.now ≤ 8192) × (n ≤ 32) }
     ensures { Searched row.now n at beside pos out.old result out.new }
 {
-    let mut found = Replacement::Not;
+    let mut found = None;
     let mut p = at;
     let mut q = beside;
     let mut todo: u32 = 1;
@@ -131,7 +120,7 @@ pub(crate) fn search_parts(
         p = part.middle;
         q = part.end;
         todo -= 1;
-        if is_taken(offered) {
+        if offered.is_some() {
             found = offered;
             break 'search;
         }

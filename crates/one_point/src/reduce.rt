@@ -1,18 +1,16 @@
 // A body reduced by the equality that its scan takes.
-ghost use Rattle.std.specs.Prelude.{◌≡◌, [], ◌∷◌, ◌≤◌, ◌<◌, length, take};
-ghost use Rattle.tree.specs.Form.{pick};
+ghost use Rattle.std.specs.Prelude.{◌≡◌, ◌*◌, ◌≤◌, ◌<◌, length, take};
+ghost use Rattle.std.specs.Option.{unwrap_or};
 ghost use Rattle.form.specs.Answer.{told, written};
-ghost use Rattle.one_point.specs.Internal.Reduce.{Placing, Shallow, is_sure, RestMarking, operator_in, decls_in, placed_outcome, empty_word, Reducing, Reading, body_outcome, is_bad};
+ghost use Rattle.one_point.specs.Internal.Reduce.{Placing, Shallow, is_sure, RestMarking, operator_in, decls_in, placed_outcome, rest_words, Reducing, Reading, body_outcome, told_if, written_if};
 ghost use Rattle.places.specs.Internal.Positions.{Cleared};
 
 use crate::heads::operator_of;
 use crate::marks::raise;
 use crate::rest::put_rest;
 use crate::scan::scan_pred;
-use form::answer::Answer;
-use form::head::Step;
+use form::answer::{Answer, Refusal};
 use places::positions::skip_pred;
-use places::sides::Replacement;
 use reader::reader::expr_at;
 use replace::small::depth_left;
 use tree::tag::Tag;
@@ -41,10 +39,7 @@ fn is_sure(part: &[u32], rest: &[u32], depth: u32) -> bool
     if left == 0 {
         return false;
     }
-    let Step::End(end) = skip_pred(rest, 0, left - 1) else {
-        return false;
-    };
-    true
+    skip_pred(rest, 0, left - 1).is_some()
 }
 
 // The target's place filled in the rest of a body, with its marks; those of the part have a row. The result is checked as a form where it is not sure
@@ -63,9 +58,7 @@ fn place(
     ensures value { result ≡ told (placed_outcome (operator_in head.now) (decls_in head.now) target part.now rest.now (length out.old)) }
     ensures out_after { out.new ≡ written (placed_outcome (operator_in head.now) (decls_in head.now) target part.now rest.now (length out.old)) out.old }
 {
-    let Step::End(end) = expr_at(part, part_marks, 0, Depth::MOST, 0) else {
-        return Answer::No(2, 0);
-    };
+    expr_at(part, part_marks, 0, Depth::MOST, 0);
     let sure = is_sure(part, rest, depth);
     raise(marks, target + 1);
     let p = (head[1] - 1 - target) as usize;
@@ -73,24 +66,24 @@ fn place(
 }
 
 // Where what is left of a body ends; an emptied body becomes true under 852 and false under 851.
-fn rest_end(tag: u32, gone: bool, end: usize, work: &mut [u32]) -> usize
+fn rest_end(tag: u32, left: Option<usize>, work: &mut [u32]) -> usize
     requires { 1 ≤ length work.old }
-    ensures value { result ≡ pick gone 1 end }
-    ensures work_after { take result work.new ≡ pick gone (empty_word tag ∷ []) (take end work.old) }
+    ensures value { result ≡ unwrap_or left 1 }
+    ensures work_after { take result work.new ≡ rest_words tag left work.old }
 {
-    if !gone {
+    if let Some(end) = left {
         return end;
     }
-    if tag == Tag::EXISTS {
-        work[0] = Tag::TRUE;
-        return 1;
-    }
-    work[0] = Tag::FALSE;
+    work[0] = if tag == Tag::EXISTS {
+        Tag::TRUE
+    } else {
+        Tag::FALSE
+    };
     1
 }
 
-// The body of a quantifier with this head, read so deep and reduced by the first equality that its scan takes. The marks of what is left of it, and
-// those of the replacement, have rows.
+// The body of a quantifier with this head, read so deep and reduced by the first equality that its scan takes; nothing where it is no predicate so
+// deep. The marks of what is left of it, and those of the replacement, have rows.
 fn reduce_in(
     head: &[u32],
     body: &[u32],
@@ -99,129 +92,118 @@ fn reduce_in(
     marks: &mut [u32],
     part_marks: &mut [u32],
     out: &mut [u32],
-) -> Answer
+) -> Option<Answer>
     requires { Reducing head.now body.now (length work.old) × Reading depth body.now marks.old × Cleared body.now part_marks.old }
-    ensures value { result ≡ told (body_outcome depth (operator_in head.now) (decls_in head.now) body.now (length out.old)) }
-    ensures out_after { out.new ≡ written (body_outcome depth (operator_in head.now) (decls_in head.now) body.now (length out.old)) out.old }
+    ensures value { result ≡ told_if (body_outcome depth (operator_in head.now) (decls_in head.now) body.now (length out.old)) }
+    ensures out_after { out.new ≡ written_if (body_outcome depth (operator_in head.now) (decls_in head.now) body.now (length out.old)) out.old }
 {
     let tag = operator_of(head);
-    let s = scan_pred(
-        body,
-        0,
-        depth,
-        head[1] as usize,
-        tag == Tag::EXISTS,
-        work,
-        marks,
-        0,
-    );
-    if !s.ok {
-        return Answer::No(2, 0);
-    }
+    let n = head[1] as usize;
+    let exists = tag == Tag::EXISTS;
+    let s = scan_pred(body, 0, depth, n, exists, work, marks, 0)?;
     if s.next != body.len() {
-        return Answer::No(2, 0);
+        return None;
     }
-    let found = s.found;
-    let Replacement::Is(target, start, end) = found else {
-        return Answer::No(9, 0);
+    let Some(part) = s.found else {
+        return Some(Err(Refusal::NothingToRewrite));
     };
-    let stop = rest_end(tag, s.gone, s.end, work);
-    place(
+    let stop = rest_end(tag, s.end, work);
+    Some(place(
         head,
-        target,
-        &body[start..end],
+        part.target,
+        &body[part.start..part.end],
         part_marks,
         &work[..stop],
         depth,
         &mut marks[..stop],
         out,
-    )
+    ))
 }
 
-// The same, with rows for any body.
-fn reduce_at(head: &[u32], body: &[u32], depth: u32, work: &mut [u32], out: &mut [u32]) -> Answer
-    requires { Reducing head.now body.now (length work.old) × (0 < depth) × (depth ≤ 63) }
-    ensures value { result ≡ told (body_outcome depth (operator_in head.now) (decls_in head.now) body.now (length out.old)) }
-    ensures out_after { out.new ≡ written (body_outcome depth (operator_in head.now) (decls_in head.now) body.now (length out.old)) out.old }
+// The body reduced as `reduce_in` says: a body of P words at most, of which at most M words are left.
+fn reduce_with<const M: usize, const P: usize>(
+    head: &[u32],
+    body: &[u32],
+    depth: u32,
+    work: &mut [u32],
+    out: &mut [u32],
+) -> Option<Answer>
+    requires { Reducing head.now body.now (length work.old) × (0 < depth) × (depth ≤ 63) × (length body.now ≤ P) × (2 * P ≤ M) × (M ≤ 16384) }
+    ensures value { result ≡ told_if (body_outcome depth (operator_in head.now) (decls_in head.now) body.now (length out.old)) }
+    ensures out_after { out.new ≡ written_if (body_outcome depth (operator_in head.now) (decls_in head.now) body.now (length out.old)) out.old }
 {
-    if body.len() <= 1024 {
-        let mut marks = [0u32; 2048];
-        let mut part_marks = [0u32; 1024];
-        return reduce_in(head, body, depth, work, &mut marks, &mut part_marks, out);
-    }
-    if body.len() <= 4096 {
-        let mut marks = [0u32; 8192];
-        let mut part_marks = [0u32; 4096];
-        return reduce_in(head, body, depth, work, &mut marks, &mut part_marks, out);
-    }
-    let mut marks = [0u32; 16384];
-    let mut part_marks = [0u32; 8192];
+    let mut marks = [0u32; M];
+    let mut part_marks = [0u32; P];
     reduce_in(head, body, depth, work, &mut marks, &mut part_marks, out)
 }
 
-// Whether the body was no predicate as deep as it was read.
-pub(crate) fn is_bad(r: Answer) -> bool
-    ensures { result ≡ is_bad r }
+// The body of a quantifier, read so deep and reduced, with rows as long as its length needs.
+fn reduce_at(
+    head: &[u32],
+    body: &[u32],
+    depth: u32,
+    work: &mut [u32],
+    out: &mut [u32],
+) -> Option<Answer>
+    requires { Reducing head.now body.now (length work.old) × (0 < depth) × (depth ≤ 63) }
+    ensures value { result ≡ told_if (body_outcome depth (operator_in head.now) (decls_in head.now) body.now (length out.old)) }
+    ensures out_after { out.new ≡ written_if (body_outcome depth (operator_in head.now) (decls_in head.now) body.now (length out.old)) out.old }
 {
-    match r {
-        Answer::Done(n) => false,
-        Answer::No(k, p) => k == 2,
+    if body.len() <= 1024 {
+        return reduce_with::<2048, 1024>(head, body, depth, work, out);
     }
+    if body.len() <= 4096 {
+        return reduce_with::<8192, 4096>(head, body, depth, work, out);
+    }
+    reduce_with::<16384, 8192>(head, body, depth, work, out)
 }
 
-// The same, read again where it is deeper than the first time.
-fn reduce_long(head: &[u32], body: &[u32], work: &mut [u32], out: &mut [u32]) -> Answer
+// The body of a quantifier, read to a small depth first, and to the full depth where it is deeper than that.
+fn reduce_long(head: &[u32], body: &[u32], work: &mut [u32], out: &mut [u32]) -> Option<Answer>
     requires { Reducing head.now body.now (length work.old) }
-    ensures value { result ≡ told (body_outcome 63 (operator_in head.now) (decls_in head.now) body.now (length out.old)) }
-    ensures out_after { out.new ≡ written (body_outcome 63 (operator_in head.now) (decls_in head.now) body.now (length out.old)) out.old }
+    ensures value { result ≡ told_if (body_outcome 63 (operator_in head.now) (decls_in head.now) body.now (length out.old)) }
+    ensures out_after { out.new ≡ written_if (body_outcome 63 (operator_in head.now) (decls_in head.now) body.now (length out.old)) out.old }
 {
-    let r = reduce_at(head, body, Depth::FIRST, work, out);
-    if is_bad(r) {
-        return reduce_at(head, body, Depth::MOST, work, out);
+    if let Some(answer) = reduce_at(head, body, Depth::FIRST, work, out) {
+        return Some(answer);
     }
-    r
+    reduce_at(head, body, Depth::MOST, work, out)
 }
 
-// The body of a quantifier with this head, reduced by the first equality that its scan takes. Short bodies stand apart, so that their call lays
-// out no row for long ones.
-pub(crate) fn reduce(head: &[u32], body: &[u32], work: &mut [u32], out: &mut [u32]) -> Answer
+// The body of a quantifier, of at most P words, reduced with small rows where it is not deep.
+fn reduce_short<const M: usize, const P: usize>(
+    head: &[u32],
+    body: &[u32],
+    work: &mut [u32],
+    out: &mut [u32],
+) -> Option<Answer>
+    requires { Reducing head.now body.now (length work.old) × (length body.now ≤ P) × (2 * P ≤ M) × (M ≤ 16384) }
+    ensures value { result ≡ told_if (body_outcome 63 (operator_in head.now) (decls_in head.now) body.now (length out.old)) }
+    ensures out_after { out.new ≡ written_if (body_outcome 63 (operator_in head.now) (decls_in head.now) body.now (length out.old)) out.old }
+{
+    if let Some(answer) = reduce_with::<M, P>(head, body, Depth::FIRST, work, out) {
+        return Some(answer);
+    }
+    reduce_long(head, body, work, out)
+}
+
+// The body of a quantifier with this head, reduced by the first equality that its scan takes; nothing where it is no predicate. Short bodies stand
+// apart, so that their call lays out no row for long ones.
+pub(crate) fn reduce(
+    head: &[u32],
+    body: &[u32],
+    work: &mut [u32],
+    out: &mut [u32],
+) -> Option<Answer>
     requires { Reducing head.now body.now (length work.old) }
-    ensures value { result ≡ told (body_outcome 63 (operator_in head.now) (decls_in head.now) body.now (length out.old)) }
-    ensures out_after { out.new ≡ written (body_outcome 63 (operator_in head.now) (decls_in head.now) body.now (length out.old)) out.old }
+    ensures value { result ≡ told_if (body_outcome 63 (operator_in head.now) (decls_in head.now) body.now (length out.old)) }
+    ensures out_after { out.new ≡ written_if (body_outcome 63 (operator_in head.now) (decls_in head.now) body.now (length out.old)) out.old }
 {
     if body.len() <= 64 {
-        let mut marks = [0u32; 128];
-        let mut part_marks = [0u32; 64];
-        let r = reduce_in(
-            head,
-            body,
-            Depth::FIRST,
-            work,
-            &mut marks,
-            &mut part_marks,
-            out,
-        );
-        if is_bad(r) {
-            return reduce_long(head, body, work, out);
-        }
-        return r;
+        return reduce_short::<128, 64>(head, body, work, out);
     }
     if body.len() <= 256 {
-        let mut marks = [0u32; 512];
-        let mut part_marks = [0u32; 256];
-        let r = reduce_in(
-            head,
-            body,
-            Depth::FIRST,
-            work,
-            &mut marks,
-            &mut part_marks,
-            out,
-        );
-        if is_bad(r) {
-            return reduce_long(head, body, work, out);
-        }
-        return r;
+        return reduce_short::<512, 256>(head, body, work, out);
     }
     reduce_long(head, body, work, out)
 }

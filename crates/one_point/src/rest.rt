@@ -4,10 +4,11 @@ ghost use Rattle.form.specs.Answer.{told, written};
 ghost use Rattle.one_point.specs.Internal.Reduce.{Headed, Putting, is_simple, named_row};
 ghost use Rattle.one_point.specs.Internal.Noted.{is_apart, rest_row};
 
-use crate::kept::put_kept;
+use crate::kept::{one_filled, put_kept};
 use crate::noted::put_noted;
 use form::answer::Answer;
 use replace::instantiate_partial::instantiate_partial;
+use replace::pieces::Source;
 
 // The names from place p on: the first replaced by the expression, the others kept. The result is checked as a form where it is not sure to
 // be one.
@@ -27,24 +28,21 @@ fn put_named(
     ensures out_after { out.new ≡ written (named_row sure tag names.now p part.now part_marks.now body.now marks.now (length out.old)) out.old }
 {
     let n = names.len() - p;
-    let mut words = [0u32; 32];
-    words[0] = 1;
-    let starts = [0usize; 32];
-    let ends = [part.len(); 32];
+    let table = one_filled(n, part.len());
+    let source = Source {
+        table: &table,
+        list: part,
+        list_marks: part_marks,
+        row: body,
+        marks: marks,
+    };
     instantiate_partial(
         tag,
         &names[..p],
         &names[p + 1..],
-        n,
-        &words,
-        &starts,
-        &ends,
+        source,
         n as u32,
         sure,
-        part,
-        part_marks,
-        body,
-        marks,
         out,
     )
 }

@@ -1,5 +1,5 @@
 // What the scan answers of a predicate, of one that is none, and of one that it does not enter.
-ghost use Rattle.std.specs.Prelude.{◌≡◌, false, length};
+ghost use Rattle.std.specs.Prelude.{length};
 ghost use Rattle.std.proofs.Math.Option.{some};
 ghost use Rattle.rules.specs.Replacement.{nothing};
 ghost use Rattle.rules.specs.Scan.{scanned};
@@ -8,31 +8,14 @@ ghost use Rattle.one_point.specs.Internal.Marks.{Clean, ScanMarks};
 
 use crate::marks::mark_pred;
 use crate::writes::copy_part;
-use form::head::Step;
 use places::sides::Replacement;
 
-// Whether a predicate was read; where it ends in the row, the equality taken, whether the node is gone, and where what is left of it ends in
-// the output.
+// Of a predicate that was read: where it ends in the row, the equality taken, and where what is left of it ends in the output, if anything is.
 #[derive(Clone, Copy)]
 pub struct Scanned {
-    pub ok: bool,
     pub next: usize,
-    pub found: Replacement,
-    pub gone: bool,
-    pub end: usize,
-}
-
-// No predicate is read.
-pub(crate) fn no_pred() -> Scanned
-    ensures { result.ok ≡ false }
-{
-    Scanned {
-        ok: false,
-        next: 0,
-        found: Replacement::Not,
-        gone: true,
-        end: 0,
-    }
+    pub found: Option<Replacement>,
+    pub end: Option<usize>,
 }
 
 // A predicate that the scan does not enter.
@@ -43,20 +26,16 @@ pub(crate) fn copy_pred(
     out: &mut [u32],
     marks: &mut [u32],
     pos: usize,
-) -> Scanned
+) -> Option<Scanned>
     requires { Room row.now depth at pos (length out.old) × Clean row.now at pos marks.old }
     ensures scan_told { ScanTold (λ f. scanned nothing (some f)) row.now depth at pos out.old result out.new }
     ensures scan_marks { ScanMarks (λ f. scanned nothing (some f)) row.now depth at pos marks.old marks.new }
 {
-    let Step::End(next) = mark_pred(row, at, depth, marks, pos) else {
-        return no_pred();
-    };
+    let next = mark_pred(row, at, depth, marks, pos)?;
     let end = copy_part(row, at, next, out, pos);
-    Scanned {
-        ok: true,
+    Some(Scanned {
         next: next,
-        found: Replacement::Not,
-        gone: false,
-        end: end,
-    }
+        found: None,
+        end: Some(end),
+    })
 }

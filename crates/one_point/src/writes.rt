@@ -1,5 +1,6 @@
 // Words written into the output row: parts copied, and nodes rebuilt from what is left of their children.
 ghost use Rattle.std.specs.Prelude.{◌≡◌, List, ℕ, ◌+◌, ◌-◌, ◌<◌, ◌≤◌, length, get_or, take, drop};
+ghost use Rattle.std.specs.Option.{is_none, unwrap_or};
 ghost use Rattle.tree.specs.Form.{Form, Forms, count, encode, encode_all};
 ghost use Rattle.reader.specs.Internal.Reads.{mark, mark_all};
 ghost use Rattle.rules.specs.Scan.{negate, joined};
@@ -9,13 +10,6 @@ ghost use Rattle.one_point.specs.Internal.Marks.{mark_left, ClearFrom};
 
 use replace::tables::put_words;
 use tree::tag::Tag;
-
-// Where what is left of a node ends, and whether nothing is.
-#[derive(Clone, Copy)]
-pub struct Left {
-    pub end: usize,
-    pub gone: bool,
-}
 
 // Copies a part of the row to `pos`.
 pub(crate) fn copy_part(row: &[u32], from: usize, to: usize, out: &mut [u32], pos: usize) -> usize
@@ -33,14 +27,8 @@ fn move_down(out: &mut [u32], pos: usize, end: usize) -> usize
     ensures wrote { Wrote pos out.old (take (end - (pos + 2)) (drop (pos + 2) out.old)) result out.new }
     ensures out_unchanged { drop end out.new ≡ drop end out.old }
 {
-    let from = pos + 2;
-    let n = end - from;
-    let mut i = 0;
-    while i < n {
-        out[pos + i] = out[from + i];
-        i += 1;
-    }
-    pos + n
+    out.copy_within(pos + 2..end, pos);
+    end - 2
 }
 
 // Moves the marks of the words from two behind `pos` up to `end` down to `pos`.
@@ -53,30 +41,26 @@ fn move_marks_down(marks: &mut [u32], pos: usize, end: usize)
     marks[n + 1] = 0;
 }
 
-// An associative node of k children that stand two words behind `pos`: of none it is gone, of one it is that child.
-pub(crate) fn finish_junction(out: &mut [u32], pos: usize, end: usize, tag: u32, k: u32) -> Left
+// An associative node of k children that stand two words behind `pos`: where what is left of it ends. Of none nothing is, of one that child.
+pub(crate) fn finish_junction(
+    out: &mut [u32],
+    pos: usize,
+    end: usize,
+    tag: u32,
+    k: u32,
+) -> Option<usize>
     requires { (pos + 2 ≤ end) × (end ≤ length out.old) }
-    ensures { (fs : Forms) → k ≡ count fs → Wrote (pos + 2) out.old (encode_all fs) end out.old → (result.gone ≡ is_gone (joined tag fs)) × Wrote pos out.old (left_words (joined tag fs)) result.end out.new }
+    ensures { (fs : Forms) → k ≡ count fs → Wrote (pos + 2) out.old (encode_all fs) end out.old → (is_none result ≡ is_gone (joined tag fs)) × Wrote pos out.old (left_words (joined tag fs)) (unwrap_or result pos) out.new }
 {
     if k == 0 {
-        return Left {
-            end: pos,
-            gone: true,
-        };
+        return None;
     }
     if k == 1 {
-        let down = move_down(out, pos, end);
-        return Left {
-            end: down,
-            gone: false,
-        };
+        return Some(move_down(out, pos, end));
     }
     out[pos] = tag;
     out[pos + 1] = k;
-    Left {
-        end: end,
-        gone: false,
-    }
+    Some(end)
 }
 
 // The marks of an associative node of k children that stand two words behind `pos`.

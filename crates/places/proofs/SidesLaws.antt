@@ -14,7 +14,6 @@ use Rattle.tree.specs.Form.{Form, pick, encode, encode_decls, encode_all}
 use Rattle.tree.specs.Tag.{Sort, expr}
 use Rattle.form.specs.Decode.{Got, got, no-form, is_leaf, decode, Whole, one, not-one, row_form, found, missing, as_sort, form_of}
 use Rattle.reader.specs.Internal.Reads.{mark, Told, decode_in}
-use Rattle.form.specs.declared.head.Step.{Step}
 use Rattle.form.specs.declared.answer.Kind.TheVariants.{Expression}
 use Rattle.form.proofs.DecodeLaws.{clash, Ok, ok-free, ok-bound, ok-node, ok-noted, flags-node}
 use Rattle.form.proofs.RowLaws.{row-encode}
@@ -28,24 +27,20 @@ use Rattle.shift.proofs.ShiftLaws.{in_range, range-leaf, range-word, down-range}
 use Rattle.shift.proofs.CheckedLaws.{Checked}
 use Rattle.rules.specs.Replacement.{left, right, Offer, offer, no-offer, index_of, offer_of, offered, above}
 use Rattle.places.specs.Internal.Positions.{end_at}
-use Rattle.places.specs.Internal.Sides.{sides_from, equality_words, index_words, replace_by, replacement_words, above_whole, above_words}
+use Rattle.places.specs.Internal.Sides.{sides_from, equality_words, index_words, left_for, right_for, replace_by, replacement_words, above_whole, above_words}
+use Rattle.std.specs.Prelude.{Option as Maybe, Some, None}
 use Rattle.places.specs.declared.sides.Sides.{Sides}
-use Rattle.places.specs.declared.sides.Index.{Index}
-use Rattle.places.specs.declared.sides.Index.TheVariants.{Bound, Unbound}
-use Rattle.places.specs.declared.sides.Equality.TheVariants.{None}
 use Rattle.places.specs.declared.sides.Replacement.{Replacement}
-use Rattle.places.specs.declared.sides.Replacement.TheVariants.{Is, Not}
-use Rattle.form.specs.declared.head.Step.TheVariants.{Bad}
 
-pub told-ends : (at u : ℕ) (g : Got) (a b : List ℕ) (r : Step) → Told at u g a b r → r ≡ end_at at g
+pub told-ends : (at u : ℕ) (g : Got) (a b : List ℕ) (r : Maybe ℕ) → Told at u g a b r → r ≡ end_at at g
 unfolding Told end_at
 told-ends at u (got f x) a b r t = t.0
 told-ends at u no-form a b r t = t
 
-pub told-plain : (at d u : ℕ) (s : Sort) (ws a b : List ℕ) (r : Step) → d ≤ 65 → u ≤ 65535 → Told at u (decode_in d u s ws) a b r → Told at u (decode d s ws) a b r
+pub told-plain : (at d u : ℕ) (s : Sort) (ws a b : List ℕ) (r : Maybe ℕ) → d ≤ 65 → u ≤ 65535 → Told at u (decode_in d u s ws) a b r → Told at u (decode d s ws) a b r
 told-plain at d u s ws a b r deep few t = rw (in-decode s ws d u (omega arith) few) at t
 
-pub skip_is : (at d : ℕ) (s : Sort) (ws : List ℕ) (r : Step) → d ≤ 64 → r ≡ end_at at (decode_in d 0 s ws) → r ≡ end_at at (decode d s ws)
+pub skip_is : (at d : ℕ) (s : Sort) (ws : List ℕ) (r : Maybe ℕ) → d ≤ 64 → r ≡ end_at at (decode_in d 0 s ws) → r ≡ end_at at (decode d s ws)
 skip_is at d s ws r h e = rw (in-decode s ws d 0 (omega arith) (omega arith)) at e
 
 -- the equality that is the whole row
@@ -63,7 +58,7 @@ module _ (row : List ℕ) (some_words : length row ≡ 0 → ⊥) where
       go [] s h = absurd (s refl)
       go (t ∷ ws) s h = rw (ne_eqb t 101 h)
 
-  pub equality-is : (r : Step) → get_or row 0 0 ≡ 101 → r ≡ end_at 1 (decode 63 expr (drop 1 row)) → sides_from (length row) r ≡ equality_words row
+  pub equality-is : (r : Maybe ℕ) → get_or row 0 0 ≡ 101 → r ≡ end_at 1 (decode 63 expr (drop 1 row)) → sides_from (length row) r ≡ equality_words row
   unfolding equality_words
   equality-is r h e = go row some_words h e
     where
@@ -72,31 +67,34 @@ module _ (row : List ℕ) (some_words : length row ≡ 0 → ⊥) where
       go (t ∷ ws) s h e = rw (eq-eqb t 101 h, ← e)
 
 -- the index at the front of an expression
-abbrev pub as_index : Option ℕ → Index
-as_index (some i) = Bound i
-as_index absent = Unbound
+abbrev pub as_index : Option ℕ → Maybe ℕ
+as_index (some i) = Some i
+as_index absent = None
 
-not-index : (t : ℕ) (ws : List ℕ) → is_leaf t ≡ false → index_words (t ∷ ws) ≡ Unbound
+pub not-index : (t : ℕ) (ws : List ℕ) → (t ≡ 2 → ⊥) → index_words (t ∷ ws) ≡ None
 unfolding index_words
 not-index t [] h = refl
-not-index t (i ∷ ws) h = rw (ne_eqb t 2 (λ e. let z : is_leaf 2 ≡ false = rw e at h in clash cc))
+not-index t (i ∷ ws) h = rw (ne_eqb t 2 h)
+
+not_leaf : (t : ℕ) → is_leaf t ≡ false → t ≡ 2 → ⊥
+not_leaf t h e = let z : is_leaf 2 ≡ false = rw e at h in clash cc
 
 pub index_is : {d : ℕ} {f : Form} → Ok d expr f → (x : List ℕ) → index_words (encode f ++ x) ≡ as_index (index_of f)
 unfolding index_words encode
 index_is (ok-free e) x = refl
 index_is (ok-bound e) x = refl
-index_is (ok-node {t = t} {o = o} {ds = ds} {ks = ks} l h k) x = not-index t ((o ++ (ds ++ encode_all ks)) ++ x) l
-index_is (ok-noted {t = t} {o = o} {ds = ds} {ks = ks} a h v k) x = not-index t ((o ++ (encode_decls ds ++ encode_all ks)) ++ x) (flags-node expr t (o ++ []) o _ _ _ [] (h []))
+index_is (ok-node {t = t} {o = o} {ds = ds} {ks = ks} l h k) x = not-index t ((o ++ (ds ++ encode_all ks)) ++ x) (not_leaf t l)
+index_is (ok-noted {t = t} {o = o} {ds = ds} {ks = ks} a h v k) x = not-index t ((o ++ (encode_decls ds ++ encode_all ks)) ++ x) (not_leaf t (flags-node expr t (o ++ []) o _ _ _ [] (h [])))
 
-abbrev pub placed : Sides → Offer → Replacement
-placed s (offer i left) = Is i s.left s.middle
-placed s (offer i right) = Is i s.right s.end
-placed s no-offer = Not
+abbrev pub placed : Sides → Offer → Maybe Replacement
+placed s (offer i left) = Some (left_for s i)
+placed s (offer i right) = Some (right_for s i)
+placed s no-offer = None
 
 place-by : (s : Sides) (a b : Option ℕ) → replace_by s (as_index a) (as_index b) ≡ placed s (offer_of a b)
 place-by s (some i) (some j) = go (ltb i j)
   where
-    go : (b : Bool) → pick b (Is i s.right s.end) (Is j s.left s.middle) ≡ placed s (pick b (offer i right) (offer j left))
+    go : (b : Bool) → pick b (Some (right_for s i)) (Some (left_for s j)) ≡ placed s (pick b (offer i right) (offer j left))
     go true = refl
     go false = refl
 place-by s absent (some j) = refl
@@ -147,9 +145,6 @@ unfolding above_words row_form
 above-long i row h = rw (lt-leb (length row) 8192 h)
 
 -- the same of a target that is one of at most 32 declarations
-pub above-high : (i : ℕ) (row : List ℕ) → 32 ≤ i → false ≡ (ltb i 32 && above_words i row)
-above-high i row h = rw (le-ltb i 32 h)
-
 pub above_low : (i : ℕ) (row : List ℕ) (r : Bool) → i < 32 → r ≡ above_words i row → r ≡ (ltb i 32 && above_words i row)
 above_low i row r h e = rw (lt-ltb i 32 h) e
 
@@ -163,11 +158,11 @@ part-words row ws x s e a b =
     rw (n, a) (take-append_seam ws x)
 
 -- what a reader of the whole row tells
-module _ (u : ℕ) (f : Form) (g : Got) (x a b : List ℕ) (r : Step) (e : g ≡ got f x) (h : Told 0 u g a b r) where
+module _ (u : ℕ) (f : Form) (g : Got) (x a b : List ℕ) (r : Maybe ℕ) (e : g ≡ got f x) (h : Told 0 u g a b r) where
   pub told-marks : b ≡ mark f 0 u a
   unfolding Told
   told-marks = (rw e at h).1
 
-  pub told-not-bad : r ≡ Bad → ⊥
+  pub told-not-bad : r ≡ None → ⊥
   unfolding Told
   told-not-bad q = let z = (rw e at h).0 in clash cc

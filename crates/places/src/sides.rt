@@ -1,13 +1,12 @@
 // An equality and its replacement, by the positions of the two sides in a row.
-ghost use Rattle.std.specs.Prelude.{◌≡◌, ◌&&◌, ◌<◌, ltb, drop};
+ghost use Rattle.std.specs.Prelude.{◌≡◌, ◌&&◌, ◌<◌, ◌≤◌, ltb, length, drop};
 ghost use Rattle.shift.specs.Internal.Items.{Fresh};
-ghost use Rattle.places.specs.Internal.Sides.{equality_words, index_words, replacement_words, above_words};
+ghost use Rattle.places.specs.Internal.Sides.{equality_words, index_words, replacement_words, left_for, right_for, above_words};
 
 use crate::positions::skip_expr;
-use crate::replacements::Replacements;
 use form::answer::{Kind, Limit};
-use form::head::Step;
 use shift::items::all_in;
+use tree::tag::Tag;
 
 // The left side stands from `left` to `middle`, the right one from `right` to `end`.
 #[derive(Clone, Copy)]
@@ -18,92 +17,91 @@ pub struct Sides {
     pub end: usize,
 }
 
+// The part of a row from `start` to `end`, which stands for the target.
 #[derive(Clone, Copy)]
-pub enum Equality {
-    Of(Sides),
-    None,
+pub struct Replacement {
+    pub target: u32,
+    pub start: usize,
+    pub end: usize,
 }
 
-// A side that is a bound index, or one that is not.
-#[derive(Clone, Copy)]
-pub enum Index {
-    Bound(u32),
-    Unbound,
-}
+impl Sides {
+    // The left side, for the target.
+    fn left_for(self, target: u32) -> Replacement
+        ensures { result ≡ left_for self target }
+    {
+        Replacement {
+            target: target,
+            start: self.left,
+            end: self.middle,
+        }
+    }
 
-// The target, and where its replacement starts and ends.
-#[derive(Clone, Copy)]
-pub enum Replacement {
-    Is(u32, usize, usize),
-    Not,
+    // The right side, for the target.
+    fn right_for(self, target: u32) -> Replacement
+        ensures { result ≡ right_for self target }
+    {
+        Replacement {
+            target: target,
+            start: self.right,
+            end: self.end,
+        }
+    }
 }
 
 // The sides of the equality that is the whole row.
-pub fn equality_of(row: &[u32]) -> Equality
+pub fn equality_of(row: &[u32]) -> Option<Sides>
     ensures { result ≡ equality_words row.now }
 {
     if row.len() == 0 {
-        return Equality::None;
+        return None;
     }
-    if row[0] != Replacements::EQUAL {
-        return Equality::None;
+    if row[0] != Tag::EQUAL {
+        return None;
     }
-    let Step::End(middle) = skip_expr(row, 1, 63) else {
-        return Equality::None;
-    };
-    let sides = Sides {
+    let middle = skip_expr(row, 1, 63)?;
+    Some(Sides {
         left: 1,
         middle: middle,
         right: middle,
         end: row.len(),
-    };
-    Equality::Of(sides)
+    })
 }
 
 // The index at `at`, if one stands there.
-pub fn index_at(row: &[u32], at: usize) -> Index
+pub fn index_at(row: &[u32], at: usize) -> Option<u32>
     ensures { result ≡ index_words (drop at row.now) }
 {
-    if row.len() <= at {
-        return Index::Unbound;
+    if *row.get(at)? != Tag::BOUND_IDENT {
+        return None;
     }
-    if row.len() <= at + 1 {
-        return Index::Unbound;
-    }
-    if row[at] != Replacements::BOUND {
-        return Index::Unbound;
-    }
-    Index::Bound(row[at + 1])
+    Some(*row.get(at + 1)?)
 }
 
 // Both sides bound: the smaller index is replaced by the other side; else the side that is bound, the right one first.
-pub fn match_replacement(row: &[u32], sides: Sides) -> Replacement
+pub fn match_replacement(row: &[u32], sides: Sides) -> Option<Replacement>
     ensures { result ≡ replacement_words sides row.now }
 {
-    let Index::Bound(i) = index_at(row, sides.left) else {
-        let Index::Bound(j) = index_at(row, sides.right) else {
-            return Replacement::Not;
-        };
-        return Replacement::Is(j, sides.left, sides.middle);
+    let Some(j) = index_at(row, sides.right) else {
+        let i = index_at(row, sides.left)?;
+        return Some(sides.right_for(i));
     };
-    let Index::Bound(j) = index_at(row, sides.right) else {
-        return Replacement::Is(i, sides.right, sides.end);
-    };
-    if i < j {
-        return Replacement::Is(i, sides.right, sides.end);
+    match index_at(row, sides.left) {
+        Some(i) if i < j => Some(sides.right_for(i)),
+        _ => Some(sides.left_for(j)),
     }
-    Replacement::Is(j, sides.left, sides.middle)
 }
 
-// Whether every index that dangles in the expression is above the target.
-fn above_marked(part: &[u32], target: u32, marks: &mut [u32]) -> bool
-    requires { (target < 32) × Fresh part.now marks.old }
+// Whether every index that dangles in the expression is above the target; there are marks for N words.
+fn above_marked<const N: usize>(part: &[u32], target: u32) -> bool
+    requires { (target < 32) × (length part.now ≤ N) × (N ≤ 8192) }
     ensures { result ≡ above_words target part.now }
 {
-    if !reader::check::mark_form(part, Kind::Expression, marks) {
+    let mut marks = [0u32; N];
+    if !reader::check::mark_form(part, Kind::Expression, &mut marks) {
         return false;
     }
-    all_in(part, marks, target + 1, 65536)
+    all_in(part, &marks, target + 1, 65536)
 }
 
 // Whether the target is one of at most 32 declarations, and every index that dangles in the expression is above it.
@@ -117,9 +115,7 @@ pub fn is_above(part: &[u32], target: u32) -> bool
         return false;
     }
     if part.len() <= 64 {
-        let mut marks = [0u32; 64];
-        return above_marked(part, target, &mut marks);
+        return above_marked::<64>(part, target);
     }
-    let mut marks = [0u32; 8192];
-    above_marked(part, target, &mut marks)
+    above_marked::<{ Limit::WORDS }>(part, target)
 }

@@ -12,10 +12,10 @@ use lib.ListN.{length, get_or, take, drop, replicate, length-append, length-drop
 use lib.Seq.{take_at, length-take-le}
 use Rattle.tree.specs.Form.{free, bound, Form, leaf, node, noted, pick, encode}
 use Rattle.tree.specs.Tag.{Sort, pred}
-use Rattle.form.specs.declared.answer.Answer.TheVariants.{No}
-use Rattle.form.specs.declared.answer.Answer.{Answer}
+use Rattle.std.specs.Prelude.{Err}
+use Rattle.form.specs.Answer.{Answer}
 use Rattle.form.specs.Lists.{Place, kept, filled}
-use Rattle.form.specs.Answer.{Outcome, answer, refusal, needs, finish, stop, told, check_outcome}
+use Rattle.form.specs.Answer.{Outcome, answer, stop, needs, finish, told, check_outcome}
 use Rattle.reader.specs.Internal.Reads.{mark}
 use Rattle.form.specs.declared.answer.Kind.TheVariants.{Predicate}
 use Rattle.rules.specs.Walk.{subst}
@@ -41,6 +41,8 @@ use Rattle.replace.proofs.QuantLaws.{form-ok}
 use Rattle.shift.proofs.AroundLaws.{head_of, encode-around, body-items, body-apart, Quant}
 use Rattle.prune.proofs.PruneTree.{used-length, body_is, prune-inside}
 use Rattle.prune.proofs.FallTree.{fall-tree}
+use Rattle.form.specs.declared.answer.Refusal.{Refusal}
+use Rattle.form.specs.declared.answer.Refusal.TheVariants.{TooLong, NotQuantified, NothingToRewrite, OutputTooShort}
 
 word-pick : (b : Bool) (x : Form) → word_for (pick b (filled x) kept) ≡ pick b 1 0
 word-pick true x = refl
@@ -103,26 +105,26 @@ some_words (noted t o ds ks) = omega arith
 
 -- the whole call
 abbrev prune_go : ℕ → Sort → Form → Outcome
-prune_go room s f = of_quantified (λ t ns b. needs 9 (not (eqb (kept_count (used_places ns b)) (length ns))) (finish pred room (prune t ns b))) 3 (quantified f)
+prune_go room s f = of_quantified (λ t ns b. needs NothingToRewrite (not (eqb (kept_count (used_places ns b)) (length ns))) (finish pred room (prune t ns b))) NotQuantified (quantified f)
 
 module _ (row : List ℕ) (room : ℕ) where
-  pub prune-long : 8192 < length row → prune_outcome row room ≡ refusal 1
+  pub prune-long : 8192 < length row → prune_outcome row room ≡ stop TooLong
   unfolding prune_outcome
   prune-long h = too_long Predicate row (prune_go room) h
 
-  pub prune-refused : (r : Answer) (k p : ℕ) → r ≡ told (check_outcome Predicate row) → r ≡ No k p → prune_outcome row room ≡ stop k p
+  pub prune-refused : (r : Answer) (k : Refusal) → r ≡ told (check_outcome Predicate row) → r ≡ Err k → prune_outcome row room ≡ stop k
   unfolding prune_outcome
-  prune-refused r k p q e = check-refuses Predicate row (prune_go room) r k p q e
+  prune-refused r k q e = check-refuses Predicate row (prune_go room) r k q e
 
   module _ (m : List ℕ) (x : Checked Predicate row m (length row)) where
     prune-read : prune_outcome row room ≡ prune_go room x.sort x.form
     unfolding prune_outcome
     prune-read = form-there Predicate row (prune_go room) x.sort x.form x.short x.is_found
 
-    pub prune-other : quantified x.form ≡ other → prune_outcome row room ≡ refusal 3
+    pub prune-other : quantified x.form ≡ other → prune_outcome row room ≡ stop NotQuantified
     prune-other z = prune-read ∙ rw z
 
-    prune-quant : (y : Quant 63 x.form) → prune_outcome row room ≡ needs 9 (not (eqb (kept_count (used_places y.decls y.body)) (length y.decls))) (finish pred room (prune y.op y.decls y.body))
+    prune-quant : (y : Quant 63 x.form) → prune_outcome row room ≡ needs NothingToRewrite (not (eqb (kept_count (used_places y.decls y.body)) (length y.decls))) (finish pred room (prune y.op y.decls y.body))
     prune-quant y = prune-read ∙ rw y.is
 
 -- with the marks at the start of a row w; the body starts behind the head, with or without annotations
@@ -183,7 +185,7 @@ module _ (row w : List ℕ) (room : ℕ) (x : Checked Predicate row (take (lengt
   test-same true h = eq-eqb (kept_count ps) (length y.decls) (kept-all (eqb-true (filled_words (map word_for ps)) 0 h))
   test-same false h = ne_eqb (kept_count ps) (length y.decls) (kept-not (eqb-false (filled_words (map word_for ps)) 0 h))
 
-  row_made : dropped_row (quant_head y.op (kept_decls ps y.decls)) (map word_for ps) row w start ≡ encode (prune y.op y.decls y.body)
+  row_made : dropped_row (quant_head y.op (kept_decls ps y.decls)) (map word_for ps) (drop start row) (drop start w) ≡ encode (prune y.op y.decls y.body)
   unfolding dropped_row prune fill
   row_made =
       let ok = form-ok row (take (length row) w) (length row) x in
@@ -191,15 +193,15 @@ module _ (row w : List ℕ) (room : ℕ) (x : Checked Predicate row (take (lengt
       rw (body-is-items, ← used-length y.decls y.body, fall-tree ps y.body, encode-head y.op (kept_decls ps y.decls) (subst (fill_for ps) y.body), body_is x.form ok short y)
 
   prune-done : finish pred room (prune y.op y.decls y.body)
-      ≡ needs 14 (leb (length (encode (prune y.op y.decls y.body))) room) (answer (encode (prune y.op y.decls y.body)))
+      ≡ needs OutputTooShort (leb (length (encode (prune y.op y.decls y.body))) room) (answer (encode (prune y.op y.decls y.body)))
   unfolding finish
   prune-done = rw (prune-inside x.form (form-ok row (take (length row) w) (length row) x) (rw x.words at x.short) y)
 
-  pub prune-row : (ws hd : List ℕ) → ws ≡ used_words n xs → hd ≡ quant_head y.op (kept_decls ps y.decls) → dropped_outcome hd ws row w start room ≡ prune_outcome row room
+  pub prune-row : (ws hd : List ℕ) → ws ≡ used_words n xs → hd ≡ quant_head y.op (kept_decls ps y.decls) → dropped_outcome hd ws (drop start row) (drop start w) room ≡ prune_outcome row room
   unfolding dropped_outcome
   prune-row ws hd u k =
       let v : ws ≡ map word_for ps = u ∙ place-list in
-      let r : dropped_row hd ws row w start ≡ encode (prune y.op y.decls y.body) = rw (v, k) row_made in
+      let r : dropped_row hd ws (drop start row) (drop start w) ≡ encode (prune y.op y.decls y.body) = rw (v, k) row_made in
       rw (r, v, prune-quant row room (take (length row) w) x y, prune-done, test-same (eqb (filled_words (map word_for ps)) 0) refl)
 
 -- the head of what is left, by the words of the places
@@ -245,8 +247,8 @@ module _ (row w : List ℕ) (x : Checked Predicate row (take (length row) w) (le
             prune-row row w room x y start n behind number ws (left_head ws row) u (rw v (left-head row w x y (used_places y.decls y.body) (used-length y.decls y.body))));
       }
 
-pub same-dropped : (hd hd' ws row marks : List ℕ) (at room : ℕ) → hd ≡ hd' → dropped_outcome hd ws row marks at room ≡ dropped_outcome hd' ws row marks at room
-same-dropped hd hd' ws row marks at room e = rw e
+pub same-dropped : (hd hd' ws body body' marks marks' : List ℕ) (room : ℕ) → hd ≡ hd' → body ≡ body' → marks ≡ marks' → dropped_outcome hd ws body marks room ≡ dropped_outcome hd' ws body' marks' room
+same-dropped hd hd' ws body body' marks marks' room e b m = rw (e, b, m)
 
 pub front-short : (k m : ℕ) (l : List ℕ) → k ≤ m → length (take k l) ≤ m
 front-short zero m l h = omega arith
@@ -281,10 +283,10 @@ module _ (row marks : List ℕ) (n start : ℕ) (p : Pruning row marks n start) 
   pub unused-apart : apart (length us) (drop start row) (drop start marks) ≡ true
   unused-apart = rw unused-length p.is-apart
 
-  pub left-plain : (room : ℕ) → get_or row 0 0 < 860 → dropped_outcome (kept_head us row 34) us row marks start room ≡ prune_outcome row room
+  pub left-plain : (room : ℕ) → get_or row 0 0 < 860 → dropped_outcome (kept_head us row 34) us (drop start row) (drop start marks) room ≡ prune_outcome row room
   unfolding left_head
   left-plain room h = rw (lt-ltb (get_or row 0 0) 860 h) at (p.prunes us room unused-words)
 
-  pub left-noted : (room op : ℕ) → 860 ≤ get_or row 0 0 → op ≡ get_or row 0 0 - 10 → dropped_outcome (noted_head op us row 8192) us row marks start room ≡ prune_outcome row room
+  pub left-noted : (room op : ℕ) → 860 ≤ get_or row 0 0 → op ≡ get_or row 0 0 - 10 → dropped_outcome (noted_head op us row 8192) us (drop start row) (drop start marks) room ≡ prune_outcome row room
   unfolding left_head
   left-noted room op h e = rw (le-ltb (get_or row 0 0) 860 h, ← e) at (p.prunes us room unused-words)

@@ -12,7 +12,7 @@ use Rattle.tree.specs.Tag.{pred}
 use Rattle.form.specs.Break.{break_at}
 use Rattle.form.specs.Decode.{Whole, one, not-one, row_form, as_sort, form_of}
 use Rattle.form.specs.Lists.{Place, kept, filled}
-use Rattle.form.specs.Answer.{Outcome, answer, refusal, of_found, needs, is_one, finish, stop}
+use Rattle.form.specs.Answer.{Outcome, answer, stop, of_found, needs, is_one, finish}
 use Rattle.form.specs.declared.answer.Kind.TheVariants.{Predicate}
 use Rattle.form.proofs.DecodeLaws.{clash, Ok}
 use Rattle.form.proofs.RowLaws.{row-exact, row-encode}
@@ -25,6 +25,8 @@ use Rattle.rules.proofs.OkLaws.{ok-walk}
 use Rattle.replace.proofs.FillTree.{kept-reverse}
 use Rattle.shift.proofs.AroundLaws.{head_of, encode-around, Quant, quant-of}
 use Rattle.decls.proofs.DeclLaws.{GoodDecls, good-kept, few-kept, decls-ok, around-good, head-long, decls-words}
+use Rattle.form.specs.Refusal.{number_of}
+use Rattle.form.specs.declared.answer.Refusal.TheVariants.{TooLong, NotQuantified, OutOfLimits, NothingToRewrite, OutputTooShort}
 
 pub used-length : (ns : List Decl) (f : Form) → length (used_places ns f) ≡ length ns
 used-length [] f = refl
@@ -239,25 +241,25 @@ module _ (f : Form) (ok : Ok 64 pred f) (short : length (encode f) ≤ 8192) (q 
 -- no row and no output row make prune refuse by 7
 abbrev code : Outcome → ℕ
 code (answer ws) = 0
-code (stop n p) = n
+code (stop n) = number_of n
 
-code-room : (b : Bool) (ws : List ℕ) → code (needs 14 b (answer ws)) ≡ 7 → ⊥
+code-room : (b : Bool) (ws : List ℕ) → code (needs OutputTooShort b (answer ws)) ≡ 7 → ⊥
 code-room true ws h = omega arith
 code-room false ws h = omega arith
 
-code-finish : (b : Bool) (room : ℕ) (g : Form) → is_one (row_form pred (encode g)) ≡ true → code (needs 9 b (finish pred room g)) ≡ 7 → ⊥
+code-finish : (b : Bool) (room : ℕ) (g : Form) → is_one (row_form pred (encode g)) ≡ true → code (needs NothingToRewrite b (finish pred room g)) ≡ 7 → ⊥
 unfolding finish
 code-finish true room g o h = code-room (leb (length (encode g)) room) (encode g) (rw o at h)
 code-finish false room g o h = omega arith
 
 abbrev pruned : ℕ → Form → Outcome
-pruned room f = of_quantified (λ t ns b. needs 9 (not (eqb (kept_count (used_places ns b)) (length ns))) (finish pred room (prune t ns b))) 3 (quantified f)
+pruned room f = of_quantified (λ t ns b. needs NothingToRewrite (not (eqb (kept_count (used_places ns b)) (length ns))) (finish pred room (prune t ns b))) NotQuantified (quantified f)
 
 code-form : (room : ℕ) (f : Form) → Ok 64 pred f → length (encode f) ≤ 8192 → code (pruned room f) ≡ 7 → ⊥
 code-form room f ok short h = go (quantified f) refl
   where
     go : (z : Quantified) → quantified f ≡ z → ⊥
-    go other e = let z : code (refusal 3) ≡ 7 = rw e at h in omega arith
+    go other e = let z : code (stop NotQuantified) ≡ 7 = rw e at h in omega arith
     go (quantifier t ds b) e =
         let q = quant-of ok t ds b e in
         code-finish (not (eqb (kept_count (used_places q.decls q.body)) (length q.decls))) room (prune q.op q.decls q.body) (prune-inside f ok short q) (rw q.is at h)
@@ -268,11 +270,11 @@ code_row row room (one f) e short h =
     let (words, ok) = row-exact pred row f e in
     code-form room f ok (rw words at short) h
 
-code-within : (row : List ℕ) (room : ℕ) (b : Bool) → leb (length row) 8192 ≡ b → code (pick b (of_found (break_at Predicate row) (λ s f. pruned room f) (form_of Predicate row)) (refusal 1)) ≡ 7 → ⊥
+code-within : (row : List ℕ) (room : ℕ) (b : Bool) → leb (length row) 8192 ≡ b → code (pick b (of_found (break_at Predicate row) (λ s f. pruned room f) (form_of Predicate row)) (stop TooLong)) ≡ 7 → ⊥
 unfolding form_of
 code-within row room true e h = code_row row room (row_form pred row) refl (leb-true (length row) 8192 e) h
 code-within row room false e h = omega arith
 
-pub prune-never-7 : (row : List ℕ) (room : ℕ) → prune_outcome row room ≡ refusal 7 → ⊥
+pub prune-never-7 : (row : List ℕ) (room : ℕ) → prune_outcome row room ≡ stop OutOfLimits → ⊥
 unfolding prune_outcome
 prune-never-7 row room h = code-within row room (leb (length row) 8192) refl (ap code h)

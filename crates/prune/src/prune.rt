@@ -12,109 +12,86 @@ ghost use Rattle.prune.specs.Internal.Dropped.{Falls, fallen_words, dropped_outc
 use decls::ends::{body_start, declared};
 use decls::heads::write_noted;
 use decls::used::clear_used;
-use form::answer::{Answer, Kind, Limit};
+use form::answer::{Answer, Kind, Refusal};
 use replace::heads::write_head;
 use replace::pieces::{less, one_if};
 use replace::tables::put_words;
+use shift::marks::with_marks;
 use shift::slots::slot_of;
-use tree::tag::Tag;
 
 // For each slot, how many declarations inside it are dropped.
-fn count_falls(words: &[u32], falls: &mut [u32])
-    requires words_len_bound { length words.now ≤ 32 }
-    requires words_in_bounds { length words.now < length falls.old }
-    ensures { Falls words.now falls.new }
+fn falls_of(words: &[u32]) -> [u32; 33]
+    requires { length words.now ≤ 32 }
+    ensures made { Falls words.now result }
+    ensures len { length result ≡ 33 }
 {
-    let mut s = words.len();
-    let mut gone = 0u32;
-    falls[s] = 0;
-    while 0 < s {
-        s -= 1;
+    let mut falls = [0u32; 33];
+    let mut gone = 0;
+    for s in (0..words.len()).rev() {
         gone += one_if(words[s]);
         falls[s] = gone;
     }
+    falls
 }
 
-// The items from `from` on with their indices fallen, stored at `at`.
+// The items of the body with their indices fallen, stored at `at`.
 fn write_fallen(
     words: &[u32],
     falls: &[u32],
-    row: &[u32],
+    body: &[u32],
     marks: &[u32],
-    from: usize,
     out: &mut [u32],
     at: usize,
 )
     requires words_len_bound { (length words.now ≤ 32) × (length words.now < length falls.now) × Falls words.now falls.now }
-    requires row_in_bounds { (length row.now ≤ length marks.now) × (from < length row.now) × (apart (length words.now) (drop from row.now) (drop from marks.now) ≡ true) }
-    requires from_in_bounds { at + (length row.now - from) ≤ length out.old }
-    ensures { out.new ≡ store out.old at (rewritten (fallen_words words.now) (items (drop from row.now) (drop from marks.now))) }
+    requires body_in_bounds { (length body.now ≤ length marks.now) × (0 < length body.now) × (apart (length words.now) body.now marks.now ≡ true) }
+    requires at_in_bounds { at + length body.now ≤ length out.old }
+    ensures { out.new ≡ store out.old at (rewritten (fallen_words words.now) (items body.now marks.now)) }
 {
     let n = words.len() as u32;
-    out[at] = row[from];
-    let mut i = from + 1;
-    let mut p = at + 1;
-    while i < row.len() {
-        let slot = slot_of(marks[i - 1], row[i - 1], row[i], n, n);
-        out[p] = less(row[i], falls[slot]);
-        p += 1;
-        i += 1;
+    out[at] = body[0];
+    for i in 1..body.len() {
+        let slot = slot_of(marks[i - 1], body[i - 1], body[i], n, n);
+        out[at + i] = less(body[i], falls[slot]);
     }
 }
 
-// The head of what is left, and the row from `from` on without the declarations whose word is not 0: 9 where no word is, 14 where the output
-// row is shorter.
-fn drop_decls(
-    words: &[u32],
-    head: &[u32],
-    row: &[u32],
-    marks: &[u32],
-    from: usize,
-    out: &mut [u32],
-) -> Answer
-    requires words_len_bound { (length words.now ≤ 32) × (length head.now ≤ 8192) × (length row.now ≤ 8192) }
-    requires row_in_bounds { (length row.now ≤ length marks.now) × (from < length row.now) × (apart (length words.now) (drop from row.now) (drop from marks.now) ≡ true) }
-    ensures value { result ≡ told (dropped_outcome head.now words.now row.now marks.now from (length out.old)) }
-    ensures out_after { out.new ≡ written (dropped_outcome head.now words.now row.now marks.now from (length out.old)) out.old }
+// The quantifier without the declarations whose word is not 0: the head of what is left, and the body with lower indices. NothingToRewrite where
+// no word is over 0, OutputTooShort where the output row is shorter.
+fn drop_decls(words: &[u32], head: &[u32], body: &[u32], marks: &[u32], out: &mut [u32]) -> Answer
+    requires words_len_bound { (length words.now ≤ 32) × (length head.now ≤ 8192) × (length body.now ≤ 8192) }
+    requires body_in_bounds { (length body.now ≤ length marks.now) × (0 < length body.now) × (apart (length words.now) body.now marks.now ≡ true) }
+    ensures value { result ≡ told (dropped_outcome head.now words.now body.now marks.now (length out.old)) }
+    ensures out_after { out.new ≡ written (dropped_outcome head.now words.now body.now marks.now (length out.old)) out.old }
 {
-    let mut falls = [0u32; 33];
-    count_falls(words, &mut falls);
+    let falls = falls_of(words);
     if falls[0] == 0 {
-        return Answer::No(9, 0);
+        return Err(Refusal::NothingToRewrite);
     }
-    let n = head.len() + (row.len() - from);
+    let n = head.len() + body.len();
     if out.len() < n {
-        return Answer::No(14, 0);
+        return Err(Refusal::OutputTooShort);
     }
     put_words(head, out, 0);
-    write_fallen(words, &falls, row, marks, from, out, head.len());
-    Answer::Done(n)
-}
-
-// The check of the row, which marks it at the start of marks that hold 0.
-fn mark_fresh(row: &[u32], kind: Kind, marks: &mut [u32]) -> Answer
-    requires { Fresh row.now marks.old }
-    ensures value { result ≡ told (check_outcome kind row.now) }
-    ensures marked { Marked (form_of kind row.now) (replicate (length row.now) 0) (take (length row.now) marks.new) }
-{
-    reader::check::mark(row, kind, marks)
+    write_fallen(words, &falls, body, marks, out, head.len());
+    Ok(n)
 }
 
 // The same for a row without annotations, whose head is short.
 fn drop_plain(words: &[u32], row: &[u32], marks: &[u32], from: usize, out: &mut [u32]) -> Answer
     requires words_len_bound { (length words.now ≤ 32) × (length row.now ≤ 8192) }
     requires row_in_bounds { (length row.now ≤ length marks.now) × (from < length row.now) × (apart (length words.now) (drop from row.now) (drop from marks.now) ≡ true) }
-    ensures value { result ≡ told (dropped_outcome (kept_head words.now row.now 34) words.now row.now marks.now from (length out.old)) }
-    ensures out_after { out.new ≡ written (dropped_outcome (kept_head words.now row.now 34) words.now row.now marks.now from (length out.old)) out.old }
+    ensures value { result ≡ told (dropped_outcome (kept_head words.now row.now 34) words.now (drop from row.now) (drop from marks.now) (length out.old)) }
+    ensures out_after { out.new ≡ written (dropped_outcome (kept_head words.now row.now 34) words.now (drop from row.now) (drop from marks.now) (length out.old)) out.old }
 {
     let mut head = [0u32; 34];
     let h = write_head(words, row, &mut head);
-    drop_decls(words, &head[..h], row, marks, from, out)
+    drop_decls(words, &head[..h], &row[from..], &marks[from..], out)
 }
 
-// The same for a row with annotations and this operator, whose head may be as long as the row. Called from two places, it stays a function of its
-// own when compiled, so that a row without annotations lays out no row for a long head.
-fn drop_noted(
+// The same for a row of at most N words with annotations and this operator, whose head may be as long as the row and lies in a frame of its own.
+#[inline(never)]
+fn drop_noted<const N: usize>(
     op: u32,
     words: &[u32],
     row: &[u32],
@@ -122,19 +99,14 @@ fn drop_noted(
     from: usize,
     out: &mut [u32],
 ) -> Answer
-    requires words_len_bound { (length words.now ≤ 32) × (length row.now ≤ 8192) }
+    requires words_len_bound { (length words.now ≤ 32) × (length row.now ≤ N) × (N ≤ 8192) }
     requires row_in_bounds { (length row.now ≤ length marks.now) × (from < length row.now) × (apart (length words.now) (drop from row.now) (drop from marks.now) ≡ true) }
-    ensures value { result ≡ told (dropped_outcome (noted_head op words.now row.now 8192) words.now row.now marks.now from (length out.old)) }
-    ensures out_after { out.new ≡ written (dropped_outcome (noted_head op words.now row.now 8192) words.now row.now marks.now from (length out.old)) out.old }
+    ensures value { result ≡ told (dropped_outcome (noted_head op words.now row.now 8192) words.now (drop from row.now) (drop from marks.now) (length out.old)) }
+    ensures out_after { out.new ≡ written (dropped_outcome (noted_head op words.now row.now 8192) words.now (drop from row.now) (drop from marks.now) (length out.old)) out.old }
 {
-    if row.len() <= 256 {
-        let mut short = [0u32; 256];
-        let h = write_noted(op, words, row, &mut short);
-        return drop_decls(words, &short[..h], row, marks, from, out);
-    }
-    let mut head = [0u32; 8192];
+    let mut head = [0u32; N];
     let h = write_noted(op, words, row, &mut head);
-    drop_decls(words, &head[..h], row, marks, from, out)
+    drop_decls(words, &head[..h], &row[from..], &marks[from..], out)
 }
 
 // The row without the declarations that the body, which starts at `from`, never uses. What is left is within the limits whenever the row is, so
@@ -147,28 +119,27 @@ fn drop_unused(row: &[u32], marks: &[u32], n: u32, from: usize, out: &mut [u32])
     let m = n as usize;
     let mut words = [1u32; 33];
     clear_used(row, marks, from, row.len(), n, &mut words[..m + 1]);
+    let unused = &words[1..m + 1];
     if row[0] < 860 {
-        return drop_plain(&words[1..m + 1], row, marks, from, out);
+        drop_plain(unused, row, marks, from, out)
+    } else if row.len() <= 256 {
+        drop_noted::<256>(row[0] - 10, unused, row, marks, from, out)
+    } else {
+        drop_noted::<8192>(row[0] - 10, unused, row, marks, from, out)
     }
-    if row[0] == Tag::NOTED_EXISTS {
-        return drop_noted(Tag::EXISTS, &words[1..m + 1], row, marks, from, out);
-    }
-    drop_noted(row[0] - 10, &words[1..m + 1], row, marks, from, out)
 }
 
-// Prune with marks of its own.
+// Prune with marks of its own. It stays a function of its own, so that no loop reads the rows through the closure that calls it.
+#[inline(never)]
 fn prune_in(row: &[u32], marks: &mut [u32], out: &mut [u32]) -> Answer
     requires { Fresh row.now marks.old }
     ensures value { result ≡ told (prune_outcome row.now (length out.old)) }
     ensures out_after { out.new ≡ written (prune_outcome row.now (length out.old)) out.old }
 {
-    let checked = mark_fresh(row, Kind::Predicate, marks);
-    let Answer::Done(k) = checked else {
-        return checked;
-    };
+    reader::check::mark(row, Kind::Predicate, marks)?;
     let n = declared(row);
     if n == 0 {
-        return Answer::No(3, 0);
+        return Err(Refusal::NotQuantified);
     }
     let from = body_start(row, n);
     drop_unused(row, marks, n, from, out)
@@ -179,21 +150,5 @@ pub fn remove_unused_decls(row: &[u32], out: &mut [u32]) -> Answer
     ensures value { result ≡ told (prune_outcome row.now (length out.old)) }
     ensures out_after { out.new ≡ written (prune_outcome row.now (length out.old)) out.old }
 {
-    if row.len() <= 64 {
-        let mut marks = [0u32; 64];
-        return prune_in(row, &mut marks, out);
-    }
-    if row.len() <= 512 {
-        let mut marks = [0u32; 512];
-        return prune_in(row, &mut marks, out);
-    }
-    if row.len() <= 2048 {
-        let mut marks = [0u32; 2048];
-        return prune_in(row, &mut marks, out);
-    }
-    if Limit::WORDS < row.len() {
-        return Answer::No(1, 0);
-    }
-    let mut marks = [0u32; 8192];
-    prune_in(row, &mut marks, out)
+    with_marks(row, out, |marks, out| prune_in(row, marks, out)).unwrap_or(Err(Refusal::TooLong))
 }

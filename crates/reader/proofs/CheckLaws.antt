@@ -18,16 +18,15 @@ use Rattle.form.specs.declared.answer.Kind.TheVariants.{Expression, Predicate, E
 use Rattle.form.specs.contracts.answer.Kind.{the_type}
 use types.Run.{OneOf, miss}
 use denote.Enum.Declared.{tag_of}
-use Rattle.form.specs.declared.answer.Answer.TheVariants.{Done, No}
+use Rattle.std.specs.Prelude.{Ok, Err, Some, None, Option}
 use Rattle.tree.specs.declared.tag.Shape.{Shape}
 use Rattle.tree.specs.declared.tag.Shape.TheVariants.{Unknown, Plain, Name, Value, Exprs, Preds, Apply, Compr, Quant, NotedCompr, NotedQuant}
-use Rattle.form.specs.declared.head.Step.{Step}
-use Rattle.form.specs.declared.head.Step.TheVariants.{End, Bad}
 use Rattle.form.proofs.DecodeLaws.{clash, decode-sound}
 use Rattle.reader.proofs.ReaderLaws.{told-end, told-bad}
 use Rattle.form.proofs.RowLaws.{unknown-no, no_whole, found-either}
 use Rattle.form.proofs.ViableLaws.{row-unbroken, named-unbroken}
 use Rattle.tree.proofs.Ranges.{one_table}
+use Rattle.form.specs.declared.answer.Refusal.TheVariants.{TooLong, Broken}
 
 -- a kind of either sort, which is the third or the fourth, is read by the first tag
 pub either-sort : (k : Kind) (row : List ℕ) (b : Bool) → OneOf (2 ∷ 3 ∷ []) (tag_of the_type k) → b ≡ known_at row → b ≡ as_expr k row
@@ -98,11 +97,11 @@ as_none Either = refl
 as_none Named = refl
 
 -- a row read as one form of a sort, at most d deep
-module _ (d : ℕ) (s : Sort) (row a b : List ℕ) (r : Step) (t : Told 0 0 (decode d s row) a b r) where
-  pub read-bad : r ≡ Bad → whole (decode d s row) ≡ not-one
+module _ (d : ℕ) (s : Sort) (row a b : List ℕ) (r : Option ℕ) (t : Told 0 0 (decode d s row) a b r) where
+  pub read-bad : r ≡ None → whole (decode d s row) ≡ not-one
   read-bad e = rw (told-bad 0 0 (decode d s row) a b r t e)
 
-  pub read_whole : (p : ℕ) → r ≡ End p → p ≡ length row → (f : Form) × (whole (decode d s row) ≡ one f) × (b ≡ mark f 0 0 a)
+  pub read_whole : (p : ℕ) → r ≡ Some p → p ≡ length row → (f : Form) × (whole (decode d s row) ≡ one f) × (b ≡ mark f 0 0 a)
   read_whole p e q =
       let (f, y, g, l, m) = told-end 0 0 (decode d s row) a b r p t e in
       let (w, n) = decode-sound d s row f y g in
@@ -112,7 +111,7 @@ module _ (d : ℕ) (s : Sort) (row a b : List ℕ) (r : Step) (t : Told 0 0 (dec
       go f [] g e = rw g
       go f (w ∷ y) g e = absurd (omega arith)
 
-  pub read-part : (p : ℕ) → r ≡ End p → (p ≡ length row → ⊥) → whole (decode d s row) ≡ not-one
+  pub read-part : (p : ℕ) → r ≡ Some p → (p ≡ length row → ⊥) → whole (decode d s row) ≡ not-one
   read-part p e q =
       let (f, y, g, l, m) = told-end 0 0 (decode d s row) a b r p t e in
       let (w, n) = decode-sound d s row f y g in
@@ -163,44 +162,44 @@ module _ (kind : Kind) (row a b : List ℕ) where
       by Either = rw (lt-leb (length row) 8192 h) (refl, tt)
       by Named = rw (lt-leb (length row) 8192 h) (refl, tt)
 
-  module _ (h : length row ≤ 8192) (x : Bool) (k : x ≡ as_expr kind row) (r : Step) (t : Told 0 0 (decode 64 (sort_for x) row) a b r) where
+  module _ (h : length row ≤ 8192) (x : Bool) (k : x ≡ as_expr kind row) (r : Option ℕ) (t : Told 0 0 (decode 64 (sort_for x) row) a b r) where
     as_read : (w : Whole) → whole (decode 64 (sort_for x) row) ≡ w → form_of kind row ≡ as_kind kind (as_sort (sort_for x) w)
     unfolding row_form
     as_read w e = form-of kind row x k ∙ rw (le-leb (length row) 8192 h, e)
 
-    pub row-bad : r ≡ Bad → (false ≡ has_form (form_of kind row)) × Marked (form_of kind row) a b
+    pub row-bad : r ≡ None → (false ≡ has_form (form_of kind row)) × Marked (form_of kind row) a b
     unfolding Marked
     row-bad e = rw (as_read not-one (read-bad 64 (sort_for x) row a b r t e), as_none kind) (refl, tt)
 
-    pub row-whole : (p : ℕ) → r ≡ End p → p ≡ length row → (v : Bool) → v ≡ of_kind kind row → (v ≡ has_form (form_of kind row)) × Marked (form_of kind row) a b
+    pub row-whole : (p : ℕ) → r ≡ Some p → p ≡ length row → (v : Bool) → v ≡ of_kind kind row → (v ≡ has_form (form_of kind row)) × Marked (form_of kind row) a b
     unfolding row_form
     row-whole p e q v o =
         let (f, w, m) = read_whole 64 (sort_for x) row a b r t p e q in
         of-kind (sort_for x) row f a b m v kind o (rw (le-leb (length row) 8192 h, w)) (as_read (one f) w)
 
-    pub row-part : (p : ℕ) → r ≡ End p → (p ≡ length row → ⊥) → (false ≡ has_form (form_of kind row)) × Marked (form_of kind row) a b
+    pub row-part : (p : ℕ) → r ≡ Some p → (p ≡ length row → ⊥) → (false ≡ has_form (form_of kind row)) × Marked (form_of kind row) a b
     unfolding Marked
     row-part p e n = rw (as_read not-one (read-part 64 (sort_for x) row a b r t p e n), as_none kind) (refl, tt)
 
 -- the check's answer
 module _ (kind : Kind) (row : List ℕ) where
-  pub check-long : 8192 < length row → No 1 0 ≡ told (check_outcome kind row)
+  pub check-long : 8192 < length row → Err TooLong ≡ told (check_outcome kind row)
   unfolding check_outcome
   check-long h = rw (lt-leb (length row) 8192 h)
 
   module _ (h : length row ≤ 8192) (v : Bool) (e : v ≡ has_form (form_of kind row)) where
-    pub check_done : v ≡ true → Done 0 ≡ told (check_outcome kind row)
+    pub check_done : v ≡ true → Ok 0 ≡ told (check_outcome kind row)
     unfolding check_outcome
     check_done t = rw (le-leb (length row) 8192 h) (go (form_of kind row) (sym e ∙ t))
       where
-        go : (o : Found) → has_form o ≡ true → Done 0 ≡ told (of_found (break_at kind row) (λ s f. answer []) o)
+        go : (o : Found) → has_form o ≡ true → Ok 0 ≡ told (of_found (break_at kind row) (λ s f. answer []) o)
         go (found s f) q = refl
         go missing q = absurd (clash cc)
 
-    pub check-broken : v ≡ false → (p : ℕ) → p ≡ break_at kind row → No 2 p ≡ told (check_outcome kind row)
+    pub check-broken : v ≡ false → (p : ℕ) → p ≡ break_at kind row → Err (Broken p) ≡ told (check_outcome kind row)
     unfolding check_outcome
     check-broken t p k = rw (le-leb (length row) 8192 h, k) (go (form_of kind row) (sym e ∙ t))
       where
-        go : (o : Found) → has_form o ≡ false → No 2 (break_at kind row) ≡ told (of_found (break_at kind row) (λ s f. answer []) o)
+        go : (o : Found) → has_form o ≡ false → Err (Broken (break_at kind row)) ≡ told (of_found (break_at kind row) (λ s f. answer []) o)
         go (found s f) q = absurd (clash cc)
         go missing q = refl

@@ -2,7 +2,7 @@
 use mathlib.Core.Path.{◌≡◌, refl, ap, sym, ◌∙◌}
 use mathlib.Core.Bool.{Bool, true, false, ◌&&◌}
 use mathlib.Core.List.{List, [], ◌∷◌}
-use Prim.Native.Nat.{ℕ, zero, suc, ◌+◌, ◌*◌, ◌^◌, ◌-◌, ◌≤◌, ◌<◌}
+use Prim.Native.Nat.{ℕ, zero, suc, ◌+◌, ◌*◌, ◌-◌, ◌≤◌, ◌<◌}
 use native.Mathlib.Numerals.{sub-one}
 use native.Mathlib.Omega.{arith}
 use borrow.Author.Tests.{le-leb, lt-leb}
@@ -11,18 +11,11 @@ use lib.ListN.{length, drop, length-append}
 use Rattle.tree.specs.Form.{free, bound, Form, leaf, node, noted, Decls, undeclared, bare, typed, names_of, any_typed, none, pick, between, encode, encode_decls}
 use Rattle.tree.specs.Tag.{Sort, expr, sorts}
 use Rattle.form.specs.Decode.{Got, got, no-form, Gots, gots, decode_all, GotDecl, got_bare, got_typed, no-decl, note_of, by_flag, decl_at, GotDecls, declared, no-decls, add_bare, add_typed, add_decl, decls, decode}
-use Rattle.reader.specs.Internal.Reads.{mark, Told, ToldAll, ToldDecl, ToldDecls, ToldNoted, ToldOther, Fits, words_after, decls_within}
-use Rattle.form.specs.declared.head.Step.{Step}
-use Rattle.form.specs.declared.head.Step.TheVariants.{End, Bad}
-use Rattle.form.specs.declared.head.Head as code
-use Rattle.form.specs.contracts.head.Head.{the_type}
-use types.Run.{OneOf, miss}
-use denote.Enum.Declared.{tag_of}
-use Rattle.form.specs.declared.head.Head.TheVariants.{Kids, Noted, None}
+use Rattle.reader.specs.Internal.Reads.{mark, Told, ToldAll, ToldDecl, ToldDecls, ToldNoted, decls_within}
 use Rattle.form.specs.Internal.Heads.{word_at}
-use Rattle.form.specs.declared.head.Word.TheVariants.{Is, Not}
 use Rattle.form.proofs.DecodeLaws.{clash, decls-at, decls-sound, bare-at, typed_at}
 use Rattle.form.proofs.HeadLaws.{word-is, next-drop}
+use Rattle.std.specs.Prelude.{Some, None, Option}
 
 -- declarations with annotations, and nothing after them
 module _ (at d u n : ℕ) (ws a b : List ℕ) where
@@ -30,20 +23,20 @@ module _ (at d u n : ℕ) (ws a b : List ℕ) where
   unfolding decls_within
   within deep few most = rw (le-leb d 65535 deep, le-leb u 65535 few, le-leb n 65535 most)
 
-  none_within : (leb d 65535 && (leb u 65535 && leb n 65535)) ≡ false → ToldNoted at u (decls_within d u n ws) (λ l. gots none l) a b Bad
+  none_within : (leb d 65535 && (leb u 65535 && leb n 65535)) ≡ false → ToldNoted at u (decls_within d u n ws) (λ l. gots none l) a b None
   unfolding decls_within ToldNoted
   none_within e = rw e refl
 
-  pub decls-deep : 65535 < d → ToldNoted at u (decls_within d u n ws) (λ l. gots none l) a b Bad
+  pub decls-deep : 65535 < d → ToldNoted at u (decls_within d u n ws) (λ l. gots none l) a b None
   decls-deep h = none_within (rw (lt-leb d 65535 h))
 
-  pub decls-under : d ≤ 65535 → 65535 < u → ToldNoted at u (decls_within d u n ws) (λ l. gots none l) a b Bad
+  pub decls-under : d ≤ 65535 → 65535 < u → ToldNoted at u (decls_within d u n ws) (λ l. gots none l) a b None
   decls-under deep h = none_within (rw (le-leb d 65535 deep, lt-leb u 65535 h))
 
-  pub decls-many : d ≤ 65535 → u ≤ 65535 → 65535 < n → ToldNoted at u (decls_within d u n ws) (λ l. gots none l) a b Bad
+  pub decls-many : d ≤ 65535 → u ≤ 65535 → 65535 < n → ToldNoted at u (decls_within d u n ws) (λ l. gots none l) a b None
   decls-many deep few h = none_within (rw (le-leb d 65535 deep, le-leb u 65535 few, lt-leb n 65535 h))
 
-  pub decls-read : d ≤ 65535 → u ≤ 65535 → n ≤ 65535 → (r : Step)
+  pub decls-read : d ≤ 65535 → u ≤ 65535 → n ≤ 65535 → (r : Option ℕ)
       → ToldNoted at u (decls (λ s l. decode d s l) n ws) (λ l. decode_all (λ s l. decode d s l) (sorts 0 0) l) a b r → ToldNoted at u (decls_within d u n ws) (λ l. gots none l) a b r
   unfolding decode_all
   decls-read deep few most r t = rw (within deep few most) t
@@ -91,21 +84,21 @@ module _ (d : ℕ) (row : List ℕ) (u : ℕ) where
   abbrev R : Sort → List ℕ → Got
   R s l = decode d s l
 
-  bad-decl : (p : ℕ) (g : GotDecl) (a b : List ℕ) → g ≡ no-decl → ToldDecl p u g a b Bad
+  bad-decl : (p : ℕ) (g : GotDecl) (a b : List ℕ) → g ≡ no-decl → ToldDecl p u g a b None
   unfolding ToldDecl
   bad-decl p g a b e = rw e refl
 
-  pub no_name : (l : List ℕ) → word_at 0 65535 l ≡ Not → decl_at R l ≡ no-decl
+  pub no_name : (l : List ℕ) → word_at 0 65535 l ≡ None → decl_at R l ≡ no-decl
   unfolding word_at decl_at
   no_name [] e = refl
   no_name (w ∷ []) e = refl
   no_name (w ∷ x ∷ l) e = go (between 0 65535 w) e
     where
-      go : (b : Bool) → pick b (Is w) Not ≡ Not → pick b (by_flag R w x l) no-decl ≡ no-decl
+      go : (b : Bool) → pick b (Some w) None ≡ None → pick b (by_flag R w x l) no-decl ≡ no-decl
       go true e = absurd (clash cc)
       go false e = refl
 
-  pub no_flag : (w : ℕ) (l : List ℕ) → word_at 0 1 l ≡ Not → decl_at R (w ∷ l) ≡ no-decl
+  pub no_flag : (w : ℕ) (l : List ℕ) → word_at 0 1 l ≡ None → decl_at R (w ∷ l) ≡ no-decl
   unfolding word_at decl_at
   no_flag w [] e = refl
   no_flag w (zero ∷ l) e = absurd (clash cc)
@@ -116,16 +109,16 @@ module _ (d : ℕ) (row : List ℕ) (u : ℕ) where
       go true = refl
       go false = refl
 
-  pub decl-no-name : (p : ℕ) (a b : List ℕ) → word_at 0 65535 (drop p row) ≡ Not → ToldDecl p u (decl_at R (drop p row)) a b Bad
+  pub decl-no-name : (p : ℕ) (a b : List ℕ) → word_at 0 65535 (drop p row) ≡ None → ToldDecl p u (decl_at R (drop p row)) a b None
   decl-no-name p a b e = bad-decl p _ a b (no_name (drop p row) e)
 
-  pub decl-no-flag : (p w : ℕ) (a b : List ℕ) → word_at 0 65535 (drop p row) ≡ Is w → word_at 0 1 (drop (p + 1) row) ≡ Not → ToldDecl p u (decl_at R (drop p row)) a b Bad
+  pub decl-no-flag : (p w : ℕ) (a b : List ℕ) → word_at 0 65535 (drop p row) ≡ Some w → word_at 0 1 (drop (p + 1) row) ≡ None → ToldDecl p u (decl_at R (drop p row)) a b None
   decl-no-flag p w a b e f =
       let (ws, q, k) = word-is 0 65535 (drop p row) w e in
       bad-decl p _ a b (rw q (no_flag w ws (rw (next-drop row p w ws q) f)))
 
   -- a name and a flag stand here
-  pub decl-words : (p w x : ℕ) → word_at 0 65535 (drop p row) ≡ Is w → word_at 0 1 (drop (p + 1) row) ≡ Is x → decl_at R (drop p row) ≡ by_flag R w x (drop (p + 2) row)
+  pub decl-words : (p w x : ℕ) → word_at 0 65535 (drop p row) ≡ Some w → word_at 0 1 (drop (p + 1) row) ≡ Some x → decl_at R (drop p row) ≡ by_flag R w x (drop (p + 2) row)
   unfolding decl_at
   decl-words p w x e f =
       let (ws, q, k) = word-is 0 65535 (drop p row) w e in
@@ -135,22 +128,22 @@ module _ (d : ℕ) (row : List ℕ) (u : ℕ) where
       let z : vs ≡ drop (p + 2) row = next-drop row (p + 1) x vs r ∙ ap (λ n. drop n row) m in
       rw (q, y, k, z)
 
-  pub decl-bare : (p w x : ℕ) (a : List ℕ) → word_at 0 65535 (drop p row) ≡ Is w → word_at 0 1 (drop (p + 1) row) ≡ Is x → x ≡ 0 → ToldDecl p u (decl_at R (drop p row)) a a (End (p + 2))
+  pub decl-bare : (p w x : ℕ) (a : List ℕ) → word_at 0 65535 (drop p row) ≡ Some w → word_at 0 1 (drop (p + 1) row) ≡ Some x → x ≡ 0 → ToldDecl p u (decl_at R (drop p row)) a a (Some (p + 2))
   unfolding ToldDecl
   decl-bare p w x a e f z = rw (decl-words p w x e f, z) (refl, refl)
 
-  note-told : (p w : ℕ) (g : Got) (a b : List ℕ) (r : Step) → Told (p + 2) u g a b r → ToldDecl p u (note_of w g) a b r
+  note-told : (p w : ℕ) (g : Got) (a b : List ℕ) (r : Option ℕ) → Told (p + 2) u g a b r → ToldDecl p u (note_of w g) a b r
   unfolding ToldDecl Told
   note-told p w (got f l) a b r t = t
   note-told p w no-form a b r t = t
 
-  pub flag_one : (w x : ℕ) (l : List ℕ) → word_at 0 1 (x ∷ l) ≡ Is x → (x ≡ 0 → ⊥) → x ≡ 1
+  pub flag_one : (w x : ℕ) (l : List ℕ) → word_at 0 1 (x ∷ l) ≡ Some x → (x ≡ 0 → ⊥) → x ≡ 1
   unfolding word_at
   flag_one w zero l e n = absurd (n refl)
   flag_one w (suc zero) l e n = refl
   flag_one w (suc (suc x)) l e n = let q = rw (le-leb 0 (suc (suc x)) (omega arith), lt-leb (suc (suc x)) 1 (omega arith)) at e in absurd (clash cc)
 
-  pub decl-typed : (p w x : ℕ) (a b : List ℕ) (r : Step) → word_at 0 65535 (drop p row) ≡ Is w → word_at 0 1 (drop (p + 1) row) ≡ Is x → (x ≡ 0 → ⊥)
+  pub decl-typed : (p w x : ℕ) (a b : List ℕ) (r : Option ℕ) → word_at 0 65535 (drop p row) ≡ Some w → word_at 0 1 (drop (p + 1) row) ≡ Some x → (x ≡ 0 → ⊥)
       → Told (p + 2) u (decode d expr (drop (p + 2) row)) a b r → ToldDecl p u (decl_at R (drop p row)) a b r
   decl-typed p w x a b r e f n t =
       let (vs, q, j) = word-is 0 1 (drop (p + 1) row) x f in
@@ -158,28 +151,28 @@ module _ (d : ℕ) (row : List ℕ) (u : ℕ) where
       rw (decl-words p w x e f, z) (note-told p w _ a b r t)
 
   -- several
-  bad-decls : (p : ℕ) (g : GotDecls) (a b : List ℕ) → g ≡ no-decls → ToldDecls p u g a b Bad
+  bad-decls : (p : ℕ) (g : GotDecls) (a b : List ℕ) → g ≡ no-decls → ToldDecls p u g a b None
   unfolding ToldDecls
   bad-decls p g a b e = rw e refl
 
-  decl-bad : (p : ℕ) (g : GotDecl) (a b : List ℕ) (r : Step) → ToldDecl p u g a b r → r ≡ Bad → g ≡ no-decl
+  decl-bad : (p : ℕ) (g : GotDecl) (a b : List ℕ) (r : Option ℕ) → ToldDecl p u g a b r → r ≡ None → g ≡ no-decl
   unfolding ToldDecl
   decl-bad p (got_bare w x) a b r t e = let z = t.0 in absurd (clash cc)
   decl-bad p (got_typed w f x) a b r t e = let z = t.0 in absurd (clash cc)
   decl-bad p no-decl a b r t e = refl
 
-  put-bare : (p q w : ℕ) (z : GotDecls) (a a' b : List ℕ) (r : Step) → q ≡ p + 2 → a' ≡ a → ToldDecls q u z a' b r → ToldDecls p u (add_bare w z) a b r
+  put-bare : (p q w : ℕ) (z : GotDecls) (a a' b : List ℕ) (r : Option ℕ) → q ≡ p + 2 → a' ≡ a → ToldDecls q u z a' b r → ToldDecls p u (add_bare w z) a b r
   unfolding ToldDecls encode mark
-  put-bare p q w (declared ds y) a a' b r e m h = (h.0 ∙ ap End (omega arith), rw (e, m) at h.1)
+  put-bare p q w (declared ds y) a a' b r e m h = (h.0 ∙ ap Some (omega arith), rw (e, m) at h.1)
   put-bare p q w no-decls a a' b r e m h = h
 
-  put_typed : (p q w : ℕ) (f : Form) (z : GotDecls) (a a' b : List ℕ) (r : Step) → q ≡ p + 2 + length (encode f) → a' ≡ mark f (p + 2) u a → ToldDecls q u z a' b r
+  put_typed : (p q w : ℕ) (f : Form) (z : GotDecls) (a a' b : List ℕ) (r : Option ℕ) → q ≡ p + 2 + length (encode f) → a' ≡ mark f (p + 2) u a → ToldDecls q u z a' b r
       → ToldDecls p u (add_typed w f z) a b r
   unfolding ToldDecls encode mark
-  put_typed p q w f (declared ds y) a a' b r e m h = (h.0 ∙ ap End (rw length-append (omega arith)), rw (e, m) at h.1)
+  put_typed p q w f (declared ds y) a a' b r e m h = (h.0 ∙ ap Some (rw length-append (omega arith)), rw (e, m) at h.1)
   put_typed p q w f no-decls a a' b r e m h = h
 
-  add-decls : (p q : ℕ) (g : GotDecl) (k : List ℕ → GotDecls) (a a' b : List ℕ) (r r' : Step) → decl_at R (drop p row) ≡ g → ToldDecl p u g a a' r → r ≡ End q
+  add-decls : (p q : ℕ) (g : GotDecl) (k : List ℕ → GotDecls) (a a' b : List ℕ) (r r' : Option ℕ) → decl_at R (drop p row) ≡ g → ToldDecl p u g a a' r → r ≡ Some q
       → ToldDecls q u (k (drop q row)) a' b r' → ToldDecls p u (add_decl g k) a b r'
   unfolding ToldDecl
   add-decls p q (got_bare w x) k a a' b r r' i t e h =
@@ -192,55 +185,55 @@ module _ (d : ℕ) (row : List ℕ) (u : ℕ) where
       rw y (put_typed p q w f (k (drop q row)) a a' b r' z t.1 h)
   add-decls p q no-decl k a a' b r r' i t e h = absurd (clash cc)
 
-  pub decls-more : (n p q : ℕ) (a a' : List ℕ) (r : Step) → 0 < n → ToldDecl p u (decl_at R (drop p row)) a a' r → r ≡ End q
-      → (b : List ℕ) (r' : Step) → ToldDecls q u (decls R (n - 1) (drop q row)) a' b r' → ToldDecls p u (decls R n (drop p row)) a b r'
+  pub decls-more : (n p q : ℕ) (a a' : List ℕ) (r : Option ℕ) → 0 < n → ToldDecl p u (decl_at R (drop p row)) a a' r → r ≡ Some q
+      → (b : List ℕ) (r' : Option ℕ) → ToldDecls q u (decls R (n - 1) (drop q row)) a' b r' → ToldDecls p u (decls R n (drop p row)) a b r'
   unfolding decls
   decls-more zero p q a a' r h t e b r' k = absurd (omega arith)
   decls-more (suc n) p q a a' r h t e b r' k = add-decls p q (decl_at R (drop p row)) (λ l. decls R n l) a a' b r r' refl t e (rw sub-one at k)
 
-  pub decls-stop : (n p : ℕ) (a a' b : List ℕ) (r : Step) → 0 < n → ToldDecl p u (decl_at R (drop p row)) a a' r → r ≡ Bad → ToldDecls p u (decls R n (drop p row)) a b Bad
+  pub decls-stop : (n p : ℕ) (a a' b : List ℕ) (r : Option ℕ) → 0 < n → ToldDecl p u (decl_at R (drop p row)) a a' r → r ≡ None → ToldDecls p u (decls R n (drop p row)) a b None
   unfolding decls
   decls-stop zero p a a' b r h t e = absurd (omega arith)
   decls-stop (suc n) p a a' b r h t e = bad-decls p _ a b (rw (decl-bad p (decl_at R (drop p row)) a a' r t e) refl)
 
-  pub decls-none : (n p : ℕ) (a : List ℕ) → n ≤ 0 → ToldDecls p u (decls R n (drop p row)) a a (End p)
+  pub decls-none : (n p : ℕ) (a : List ℕ) → n ≤ 0 → ToldDecls p u (decls R n (drop p row)) a a (Some p)
   unfolding decls ToldDecls encode mark
-  decls-none zero p a h = (ap End (omega arith), refl)
+  decls-none zero p a h = (ap Some (omega arith), refl)
   decls-none (suc n) p a h = absurd (omega arith)
 
-  pub decl-rises : (p q : ℕ) (g : GotDecl) (a b : List ℕ) (r : Step) → ToldDecl p u g a b r → r ≡ End q → p ≤ q
+  pub decl-rises : (p q : ℕ) (g : GotDecl) (a b : List ℕ) (r : Option ℕ) → ToldDecl p u g a b r → r ≡ Some q → p ≤ q
   unfolding ToldDecl
   decl-rises p q (got_bare w x) a b r t e = let z : q ≡ p + 2 = cc t.0 in omega arith
   decl-rises p q (got_typed w f x) a b r t e = let z : q ≡ p + 2 + length (encode f) = cc t.0 in omega arith
   decl-rises p q no-decl a b r t e = absurd (clash cc)
 
-  pub decls-rise : (p q : ℕ) (g : GotDecls) (a b : List ℕ) (r : Step) → ToldDecls p u g a b r → r ≡ End q → p ≤ q
+  pub decls-rise : (p q : ℕ) (g : GotDecls) (a b : List ℕ) (r : Option ℕ) → ToldDecls p u g a b r → r ≡ Some q → p ≤ q
   unfolding ToldDecls
   decls-rise p q (declared ds x) a b r t e = let z : q ≡ p + length (encode_decls ds) = cc t.0 in omega arith
   decls-rise p q no-decls a b r t e = absurd (clash cc)
 
   -- and the children after them
-  module _ (p n : ℕ) (k : List ℕ → Gots) (a a' b : List ℕ) (r : Step) (t : ToldDecls p u (decls R n (drop p row)) a a' r) where
-    pub noted-stop : r ≡ Bad → ToldNoted p u (decls R n (drop p row)) k a b Bad
+  module _ (p n : ℕ) (k : List ℕ → Gots) (a a' b : List ℕ) (r : Option ℕ) (t : ToldDecls p u (decls R n (drop p row)) a a' r) where
+    pub noted-stop : r ≡ None → ToldNoted p u (decls R n (drop p row)) k a b None
     unfolding ToldNoted ToldDecls
     noted-stop e = go (decls R n (drop p row)) t
       where
-        go : (g : GotDecls) → ToldDecls p u g a a' r → ToldNoted p u g k a b Bad
+        go : (g : GotDecls) → ToldDecls p u g a a' r → ToldNoted p u g k a b None
         go (declared ds x) t = let z = t.0 in absurd (clash cc)
         go no-decls t = refl
 
-    pub noted-bare : (q : ℕ) → r ≡ End q → q - p ≡ 2 * n → ToldNoted p u (decls R n (drop p row)) k a b Bad
+    pub noted-bare : (q : ℕ) → r ≡ Some q → q - p ≡ 2 * n → ToldNoted p u (decls R n (drop p row)) k a b None
     unfolding ToldNoted ToldDecls
     noted-bare q e l = go (decls R n (drop p row)) refl t
       where
-        go : (g : GotDecls) → decls R n (drop p row) ≡ g → ToldDecls p u g a a' r → ToldNoted p u g k a b Bad
+        go : (g : GotDecls) → decls R n (drop p row) ≡ g → ToldDecls p u g a a' r → ToldNoted p u g k a b None
         go (declared ds x) i t =
             let z : q ≡ p + length (encode_decls ds) = cc t.0 in
             let (c, v, w) = decls-sound d n (drop p row) ds x i in
             rw (none-typed ds (omega arith)) refl
         go no-decls i t = refl
 
-    pub noted_go : (q : ℕ) (r' : Step) → r ≡ End q → (q - p ≡ 2 * n → ⊥) → ToldAll q (u + n) (k (drop q row)) a' b r' → ToldNoted p u (decls R n (drop p row)) k a b r'
+    pub noted_go : (q : ℕ) (r' : Option ℕ) → r ≡ Some q → (q - p ≡ 2 * n → ⊥) → ToldAll q (u + n) (k (drop q row)) a' b r' → ToldNoted p u (decls R n (drop p row)) k a b r'
     unfolding ToldNoted ToldDecls
     noted_go q r' e l h = go (decls R n (drop p row)) refl t
       where
@@ -251,24 +244,3 @@ module _ (d : ℕ) (row : List ℕ) (u : ℕ) where
             let y : x ≡ drop q row = decls-at d n row p ds x i ∙ ap (λ n. drop n row) (sym z) in
             rw (some-typed ds (λ m. l (omega arith)), ← z, y, ← t.1, w) h
         go no-decls i t = absurd (clash cc)
-
--- what follows the head of a quantifier with annotations
-module _ (h : code.Head) (d u p x y w : ℕ) (e : h ≡ Noted p x y w) where
-  pub fits-noted : Fits h d u → u + w + 32 * d < 2 ^ 32
-  unfolding Fits
-  fits-noted f = rw e at f
-
-  pub words-noted : (n : ℕ) → words_after h n ≡ n - p
-  unfolding words_after
-  words-noted n = rw e refl
-
-  pub other-noted : (row m m₂ : List ℕ) (r : Step)
-      → ToldNoted p u (decls (λ s l. decode d s l) w (drop p row)) (λ l. decode_all (λ s l. decode d s l) (sorts x y) l) m m₂ r → ToldOther h d u row m m₂ r
-  unfolding ToldOther
-  other-noted row m m₂ r t = rw e t
-
-pub other-bad : (h : code.Head) (d u : ℕ) (row m m₂ : List ℕ) → OneOf (0 ∷ 2 ∷ []) (tag_of the_type h) → ToldOther h d u row m m₂ Bad
-unfolding ToldOther
-other-bad (Kids p x y w) d u row m m₂ k = refl
-other-bad (Noted p x y w) d u row m m₂ k = absurd (miss (0 ∷ 2 ∷ []) 1 tt k)
-other-bad None d u row m m₂ k = refl

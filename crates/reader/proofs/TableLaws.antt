@@ -1,58 +1,59 @@
 -- The lists in the code: names one after another, entries at positions of the row, their table, and the answers. Assumes nothing.
 use mathlib.Core.Path.{◌≡◌, refl, ap, sym, ◌∙◌}
-use mathlib.Core.Bool.{Bool, true, false, ◌&&◌}
+use mathlib.Core.Bool.{Bool, true, false, ◌&&◌, ◌||◌}
 use mathlib.Core.List.{List, [], ◌∷◌, ◌++◌, append_assoc, append-nil, map}
 use mathlib.Core.Option.{Option, none as absent, some}
-use Prim.Native.Nat.{ℕ, zero, suc, ◌+◌, ◌≤◌, ◌<◌}
+use Prim.Native.Nat.{ℕ, zero, suc, ◌+◌, ◌-◌, ◌≤◌, ◌<◌}
 use native.Mathlib.Numerals.{add-one}
 use native.Mathlib.Omega.{arith}
-use borrow.Author.Tests.{le-leb, lt-leb, leb-true, eq-eqb, ne_eqb}
-use lib.Dec.{leb}
-use lib.ListN.{length, get_or, take, drop, set, length-set, length-map}
-use lib.Seq.{drop-drop, drop-append_seam, take-suc-set}
-use Rattle.tree.specs.Form.{pick}
+use borrow.Author.Tests.{le-leb, lt-leb, leb-true}
+use lib.Dec.{leb, eqb}
+use lib.ListN.{length, get_or, take, drop, set, length-set, length-map, length-drop}
+use Rattle.std.specs.List.{list_any}
+use lib.Seq.{take_all, drop-drop, drop-append_seam, take-suc-set}
+use Rattle.tree.specs.Form.{pick, member}
 use Rattle.tree.specs.Tag.{expr}
 use Rattle.form.specs.Decode.{Got, got, no-form, decode}
 use Rattle.form.specs.Lists.{Entry, entry, word_of, with_expr, place_entry, entry_of, add_entry, and_then, list_of, entry_words, distinct, good_names}
 use Rattle.form.specs.Break.{break_list}
 use Rattle.form.specs.Answer.{told, answer, needs, names_outcome, pairs_outcome, places_outcome}
-use Rattle.reader.specs.Internal.Reads.{Told, mark_entry, mark_entries, ToldEntry, table_of, empty_table, add_row, tabled, ListingFrom, Listing, member_of, good_words}
-use Rattle.form.specs.declared.answer.Answer.TheVariants.{Done, No}
+use Rattle.reader.specs.Internal.Reads.{Told, mark_entry, mark_entries, ToldEntry, table_of, empty_table, add_row, tabled, ListingFrom, Listing, good_words}
+use Rattle.std.specs.Prelude.{Ok, Err, Some, None, Option as Maybe}
 use Rattle.form.specs.declared.answer.ListKind.{ListKind}
 use Rattle.form.specs.declared.answer.ListKind.TheVariants.{Pairs, Places}
 use Rattle.reader.specs.declared.lists.Table.{Table}
-use Rattle.form.specs.declared.head.Step.{Step}
-use Rattle.form.specs.declared.head.Step.TheVariants.{End, Bad}
 use Rattle.form.proofs.DecodeLaws.{clash}
 use Rattle.form.proofs.HeadLaws.{gone, here}
 use Rattle.form.proofs.ListLaws.{entry-sound, entry-long, list-step, list-nil}
+use Rattle.form.specs.declared.answer.Refusal.TheVariants.{TooLong, BadNames, TooManyPlaces, Broken}
 
 -- names, one after another
-module _ (ns : List ℕ) (m i : ℕ) where
-  pub member-here : i < length ns → get_or ns i 0 ≡ m → member_of m (drop i ns) ≡ true
-  unfolding member_of
-  member-here low e = rw (here ns i low, eq-eqb (get_or ns i 0) m e)
+or-pick : (b c : Bool) → (b || c) ≡ pick b true c
+or-pick true c = refl
+or-pick false c = refl
 
-  pub member-on : i < length ns → (get_or ns i 0 ≡ m → ⊥) → member_of m (drop i ns) ≡ member_of m (drop (i + 1) ns)
-  unfolding member_of
-  member-on low e = rw (here ns i low, ne_eqb (get_or ns i 0) m e)
-
-  pub member-end : length ns ≤ i → member_of m (drop i ns) ≡ false
-  unfolding member_of
-  member-end h = rw (gone ns i h)
+any-member : (m : ℕ) (ns : List ℕ) → list_any (λ n. eqb n m) ns ≡ member m ns
+any-member m [] = refl
+any-member m (n ∷ ns) = rw (any-member m ns) (or-pick (eqb n m) (member m ns))
 
 module _ (ns : List ℕ) (i : ℕ) (low : i < length ns) where
+  abbrev again : Bool
+  again = list_any (λ n. eqb n (get_or ns i 0)) (take (length ns - (i + 1)) (drop (i + 1) ns))
+
+  again-is : again ≡ member (get_or ns i 0) (drop (i + 1) ns)
+  again-is = rw (take_all (length ns - (i + 1)) (drop (i + 1) ns) (omega (arith, length-drop (i + 1) ns))) (any-member (get_or ns i 0) (drop (i + 1) ns))
+
   pub distinct-over : 65535 < get_or ns i 0 → distinct (drop i ns) ≡ false
   unfolding distinct
   distinct-over h = rw (here ns i low, lt-leb (get_or ns i 0) 65535 h)
 
-  pub distinct-twice : get_or ns i 0 ≤ 65535 → member_of (get_or ns i 0) (drop (i + 1) ns) ≡ true → distinct (drop i ns) ≡ false
-  unfolding distinct member_of
-  distinct-twice h e = rw (here ns i low, le-leb (get_or ns i 0) 65535 h, e)
+  pub distinct-twice : get_or ns i 0 ≤ 65535 → (b : Bool) → b ≡ again → b ≡ true → distinct (drop i ns) ≡ false
+  unfolding distinct
+  distinct-twice h b e t = rw (here ns i low, le-leb (get_or ns i 0) 65535 h, ← again-is, ← e, t)
 
-  pub distinct-on : get_or ns i 0 ≤ 65535 → member_of (get_or ns i 0) (drop (i + 1) ns) ≡ false → distinct (drop i ns) ≡ distinct (drop (i + 1) ns)
-  unfolding distinct member_of
-  distinct-on h e = rw (here ns i low, le-leb (get_or ns i 0) 65535 h, e)
+  pub distinct-on : get_or ns i 0 ≤ 65535 → (b : Bool) → b ≡ again → b ≡ false → distinct (drop i ns) ≡ distinct (drop (i + 1) ns)
+  unfolding distinct
+  distinct-on h b e t = rw (here ns i low, le-leb (get_or ns i 0) 65535 h, ← again-is, ← e, t)
 
 pub distinct-end : (ns : List ℕ) (i : ℕ) → length ns ≤ i → distinct (drop i ns) ≡ true
 unfolding distinct
@@ -67,51 +68,51 @@ unfolding good_names
 few-good ns h = rw (le-leb (length ns) 32 h)
 
 -- one entry at a position, as the code reads it
-pub entry_gone : (kind : ListKind) (row : List ℕ) (p : ℕ) (a b : List ℕ) → length row ≤ p → ToldEntry p (entry_of kind (drop p row)) a b Bad
+pub entry_gone : (kind : ListKind) (row : List ℕ) (p : ℕ) (a b : List ℕ) → length row ≤ p → ToldEntry p (entry_of kind (drop p row)) a b None
 unfolding entry_of ToldEntry
 entry_gone kind row p a b h = rw (gone row p h) refl
 
-with-told : (p w : ℕ) (g : Got) (a b : List ℕ) (r : Step) → Told (p + 1) 0 g a b r → ToldEntry p (with_expr w g) a b r
+with-told : (p w : ℕ) (g : Got) (a b : List ℕ) (r : Maybe ℕ) → Told (p + 1) 0 g a b r → ToldEntry p (with_expr w g) a b r
 unfolding Told ToldEntry entry_words mark_entry
-with-told p w (got f x) a b r t = (t.0 ∙ ap End (omega arith), t.1)
+with-told p w (got f x) a b r t = (t.0 ∙ ap Some (omega arith), t.1)
 with-told p w no-form a b r t = t
 
-pub pair-told : (row : List ℕ) (p : ℕ) (a b : List ℕ) (r : Step) → p < length row → Told (p + 1) 0 (decode 64 expr (drop (p + 1) row)) a b r → ToldEntry p (entry_of Pairs (drop p row)) a b r
+pub pair-told : (row : List ℕ) (p : ℕ) (a b : List ℕ) (r : Maybe ℕ) → p < length row → Told (p + 1) 0 (decode 64 expr (drop (p + 1) row)) a b r → ToldEntry p (entry_of Pairs (drop p row)) a b r
 unfolding entry_of
 pair-told row p a b r h t = rw (here row p h) (with-told p (get_or row p 0) (decode 64 expr (drop (p + 1) row)) a b r t)
 
-pub place-told : (row : List ℕ) (p : ℕ) (a b : List ℕ) (r : Step) → p < length row → ToldEntry p (place_entry (get_or row p 0) (drop (p + 1) row)) a b r → ToldEntry p (entry_of Places (drop p row)) a b r
+pub place-told : (row : List ℕ) (p : ℕ) (a b : List ℕ) (r : Maybe ℕ) → p < length row → ToldEntry p (place_entry (get_or row p 0) (drop (p + 1) row)) a b r → ToldEntry p (entry_of Places (drop p row)) a b r
 unfolding entry_of
 place-told row p a b r h t = rw (here row p h) t
 
-pub place_kept : (p w : ℕ) (ws a : List ℕ) → w ≡ 0 → ToldEntry p (place_entry w ws) a a (End (p + 1))
+pub place_kept : (p w : ℕ) (ws a : List ℕ) → w ≡ 0 → ToldEntry p (place_entry w ws) a a (Some (p + 1))
 unfolding ToldEntry entry_words mark_entry
 place_kept p w ws a e = rw e (refl, refl)
 
-pub place-bad : (p w : ℕ) (ws a b : List ℕ) → 1 < w → ToldEntry p (place_entry w ws) a b Bad
+pub place-bad : (p w : ℕ) (ws a b : List ℕ) → 1 < w → ToldEntry p (place_entry w ws) a b None
 unfolding ToldEntry
 place-bad p zero ws a b h = absurd (omega arith)
 place-bad p (suc zero) ws a b h = absurd (omega arith)
 place-bad p (suc (suc w)) ws a b h = refl
 
-pub place-filled : (p w : ℕ) (ws a b : List ℕ) (r : Step) → (w ≡ 0 → ⊥) → w ≤ 1 → Told (p + 1) 0 (decode 64 expr ws) a b r → ToldEntry p (place_entry w ws) a b r
+pub place-filled : (p w : ℕ) (ws a b : List ℕ) (r : Maybe ℕ) → (w ≡ 0 → ⊥) → w ≤ 1 → Told (p + 1) 0 (decode 64 expr ws) a b r → ToldEntry p (place_entry w ws) a b r
 place-filled p zero ws a b r n h t = absurd (n refl)
 place-filled p (suc zero) ws a b r n h t = with-told p 1 (decode 64 expr ws) a b r t
 place-filled p (suc (suc w)) ws a b r n h t = absurd (omega arith)
 
 -- the entries from a position on
-entry-end : (p : ℕ) (z : Option (Entry × List ℕ)) (a b : List ℕ) (r : Step) (q : ℕ) → ToldEntry p z a b r → r ≡ End q
+entry-end : (p : ℕ) (z : Option (Entry × List ℕ)) (a b : List ℕ) (r : Maybe ℕ) (q : ℕ) → ToldEntry p z a b r → r ≡ Some q
     → (x : Entry × List ℕ) × (z ≡ some x) × (q ≡ p + length (entry_words x.0)) × (b ≡ mark_entry x.0 p a)
 unfolding ToldEntry
 entry-end p (some x) a b r q t e = (x, refl, cc t.0, t.1)
 entry-end p absent a b r q t e = absurd (clash cc)
 
-entry-bad : (p : ℕ) (z : Option (Entry × List ℕ)) (a b : List ℕ) (r : Step) → ToldEntry p z a b r → r ≡ Bad → z ≡ absent
+entry-bad : (p : ℕ) (z : Option (Entry × List ℕ)) (a b : List ℕ) (r : Maybe ℕ) → ToldEntry p z a b r → r ≡ None → z ≡ absent
 unfolding ToldEntry
 entry-bad p (some x) a b r t e = let z = t.0 in absurd (clash cc)
 entry-bad p absent a b r t e = refl
 
-pub entry-rises : (p : ℕ) (z : Option (Entry × List ℕ)) (a b : List ℕ) (r : Step) (q : ℕ) → ToldEntry p z a b r → r ≡ End q → p < q
+pub entry-rises : (p : ℕ) (z : Option (Entry × List ℕ)) (a b : List ℕ) (r : Maybe ℕ) (q : ℕ) → ToldEntry p z a b r → r ≡ Some q → p < q
 entry-rises p z a b r q t e =
     let (x, s, l, m) = entry-end p z a b r q t e in
     let n = entry-long x.0 in
@@ -142,8 +143,8 @@ next-listing : (p q : ℕ) (z : Option (Entry × List ℕ)) (x : Entry × List �
 next-listing p q z x k y t t' u w a a' b ok e r v n m g h =
     rw e (add-listing p q x.0 (k x.1) t t' u a a' b ok n m (rw v at g) (rw r h))
 
-module _ (kind : ListKind) (row : List ℕ) (p : ℕ) (low : p < length row) (t : Table) (a a' : List ℕ) (r : Step) (Told-here : ToldEntry p (entry_of kind (drop p row)) a a' r) where
-  pub list-more : (q : ℕ) (t' : Table) → r ≡ End q → t' ≡ add_row t (get_or row p 0) (p + 1) q → (u : Table) (b : List ℕ) (ok : Bool)
+module _ (kind : ListKind) (row : List ℕ) (p : ℕ) (low : p < length row) (t : Table) (a a' : List ℕ) (r : Maybe ℕ) (Told-here : ToldEntry p (entry_of kind (drop p row)) a a' r) where
+  pub list-more : (q : ℕ) (t' : Table) → r ≡ Some q → t' ≡ add_row t (get_or row p 0) (p + 1) q → (u : Table) (b : List ℕ) (ok : Bool)
       → ListingFrom q (list_of kind (drop q row)) t' u a' b ok → ListingFrom p (list_of kind (drop p row)) t u a b ok
   list-more q t' e g u b ok h =
       let (x, z, n, m) = entry-end p (entry_of kind (drop p row)) a a' r q Told-here e in
@@ -151,7 +152,7 @@ module _ (kind : ListKind) (row : List ℕ) (p : ℕ) (low : p < length row) (t 
       (next-listing p q (entry_of kind (drop p row)) x (λ r. list_of kind r) (drop q row) t t' u (get_or row p 0) a a' b ok z (entry-rest kind row p x z ∙ ap (λ n. drop n row) (sym n))
       (entry-word kind row p low x z) n m g h)
 
-  pub list-stop : r ≡ Bad → (u : Table) (b : List ℕ) → ListingFrom p (list_of kind (drop p row)) t u a b false
+  pub list-stop : r ≡ None → (u : Table) (b : List ℕ) → ListingFrom p (list_of kind (drop p row)) t u a b false
   unfolding ListingFrom
   list-stop e u b = rw (list-here kind row p low, entry-bad p (entry_of kind (drop p row)) a a' r Told-here e) refl
 
@@ -174,14 +175,14 @@ module _ (t : Table) (w s e : ℕ) where
   add_words h = rw (lt-leb 32 t.n h)
 
 -- a row stored where there is a place for it
-module _ (n : ℕ) (ws ss es : List ℕ) (w s e : ℕ) where
-  pub row-stored : n < 32 → table_of (n + 1) (set ws n w) (set ss n s) (set es n e) ≡ add_row (table_of n ws ss es) w s e
+module _ (t : Table) (w s e : ℕ) where
+  pub row-stored : t.n < 32 → table_of (t.n + 1) (set t.words t.n w) (set t.starts t.n s) (set t.ends t.n e) ≡ add_row t w s e
   unfolding add_row
-  row-stored h = rw (lt-leb 32 n h)
+  row-stored h = rw (lt-leb 32 t.n h)
 
-  pub row-counted : 32 ≤ n → table_of (n + 1) ws ss es ≡ add_row (table_of n ws ss es) w s e
+  pub row-counted : 32 ≤ t.n → table_of (t.n + 1) t.words t.starts t.ends ≡ add_row t w s e
   unfolding add_row
-  row-counted h = rw (le-leb 32 n h)
+  row-counted h = rw (le-leb 32 t.n h)
 
 pub row_more : (t : Table) (w s e : ℕ) (t' : Table) → t' ≡ add_row t w s e → t'.n ≡ t.n + 1
 row_more t w s e t' u = rw u (add-n t w s e)
@@ -248,19 +249,19 @@ module _ (o : Option (List Entry)) (t u : Table) (a b : List ℕ) (ok : Bool) (h
 
 -- the answers: names, pairs, places
 module _ (row : List ℕ) where
-  pub names-long : 8192 < length row → No 1 0 ≡ told (names_outcome row)
+  pub names-long : 8192 < length row → Err TooLong ≡ told (names_outcome row)
   unfolding names_outcome
   names-long h = rw (lt-leb (length row) 8192 h)
 
-  pub names-answer : length row ≤ 8192 → (v g : Bool) → g ≡ good_names row → g ≡ v → told (needs 4 v (answer [])) ≡ told (names_outcome row)
+  pub names-answer : length row ≤ 8192 → (v g : Bool) → g ≡ good_names row → g ≡ v → told (needs BadNames v (answer [])) ≡ told (names_outcome row)
   unfolding names_outcome
   names-answer h v g e k = rw (le-leb (length row) 8192 h, ← e, k)
 
-  pub pairs-long : 8192 < length row → No 1 0 ≡ told (pairs_outcome row)
+  pub pairs-long : 8192 < length row → Err TooLong ≡ told (pairs_outcome row)
   unfolding pairs_outcome
   pairs-long h = rw (lt-leb (length row) 8192 h)
 
-  pub places-long : (n : ℕ) → 8192 < length row → No 1 0 ≡ told (places_outcome n row)
+  pub places-long : (n : ℕ) → 8192 < length row → Err TooLong ≡ told (places_outcome n row)
   unfolding places_outcome
   places-long n h = rw (lt-leb (length row) 8192 h)
 
@@ -269,38 +270,38 @@ module _ (row : List ℕ) where
     abbrev Read : ListKind → Type 0
     Read kind = Listing (list_of kind row) empty_table u a b ok
 
-    pub pairs-none : Read Pairs → ok ≡ false → (q : ℕ) → q ≡ break_list Pairs row → No 2 q ≡ told (pairs_outcome row)
+    pub pairs-none : Read Pairs → ok ≡ false → (q : ℕ) → q ≡ break_list Pairs row → Err (Broken q) ≡ told (pairs_outcome row)
     unfolding pairs_outcome
     pairs-none t e q k = rw (le-leb (length row) 8192 h, listing-no _ _ _ _ _ _ t e, k)
 
-    pairs-some : (es : List Entry) → list_of Pairs row ≡ some es → u ≡ tabled es 0 empty_table → (v : Bool) → good_words u.n u.words ≡ v → told (needs 4 v (answer [])) ≡ told (pairs_outcome row)
+    pairs-some : (es : List Entry) → list_of Pairs row ≡ some es → u ≡ tabled es 0 empty_table → (v : Bool) → good_words u.n u.words ≡ v → told (needs BadNames v (answer [])) ≡ told (pairs_outcome row)
     unfolding pairs_outcome
     pairs-some es o t v e = rw (le-leb (length row) 8192 h, o, ← good-listed es u t, e)
 
-    pub pairs-answer : Read Pairs → ok ≡ true → (v g : Bool) → g ≡ good_words u.n u.words → g ≡ v → told (needs 4 v (answer [])) ≡ told (pairs_outcome row)
+    pub pairs-answer : Read Pairs → ok ≡ true → (v g : Bool) → g ≡ good_words u.n u.words → g ≡ v → told (needs BadNames v (answer [])) ≡ told (pairs_outcome row)
     pairs-answer t e v g k q =
         let (es, o, t, m) = listing-yes _ _ _ _ _ _ t e in
         pairs-some es o t v (sym k ∙ q)
 
-    pub places-none : (d : ℕ) → Read Places → ok ≡ false → (q : ℕ) → q ≡ break_list Places row → No 2 q ≡ told (places_outcome d row)
+    pub places-none : (d : ℕ) → Read Places → ok ≡ false → (q : ℕ) → q ≡ break_list Places row → Err (Broken q) ≡ told (places_outcome d row)
     unfolding places_outcome
     places-none d t e q k = rw (le-leb (length row) 8192 h, listing-no _ _ _ _ _ _ t e, k)
 
-    places-some : (d : ℕ) (es : List Entry) → list_of Places row ≡ some es → u ≡ tabled es 0 empty_table → (v : Bool) → (leb d 32 && leb u.n d) ≡ v → told (needs 5 v (answer [])) ≡ told (places_outcome d row)
+    places-some : (d : ℕ) (es : List Entry) → list_of Places row ≡ some es → u ≡ tabled es 0 empty_table → (v : Bool) → (leb d 32 && leb u.n d) ≡ v → told (needs TooManyPlaces v (answer [])) ≡ told (places_outcome d row)
     unfolding places_outcome
     places-some d es o t v e = rw (le-leb (length row) 8192 h, o, ← rows-n es u t, e)
 
     module _ (d : ℕ) (t : Read Places) (e : ok ≡ true) where
-      places-answer : (v : Bool) → (leb d 32 && leb u.n d) ≡ v → told (needs 5 v (answer [])) ≡ told (places_outcome d row)
+      places-answer : (v : Bool) → (leb d 32 && leb u.n d) ≡ v → told (needs TooManyPlaces v (answer [])) ≡ told (places_outcome d row)
       places-answer v q =
           let (es, o, t, m) = listing-yes _ _ _ _ _ _ t e in
           places-some d es o t v q
 
-      pub places-over : 32 < d → No 5 0 ≡ told (places_outcome d row)
+      pub places-over : 32 < d → Err TooManyPlaces ≡ told (places_outcome d row)
       places-over g = places-answer false (rw (lt-leb d 32 g))
 
-      pub places-more : d ≤ 32 → d < u.n → No 5 0 ≡ told (places_outcome d row)
+      pub places-more : d ≤ 32 → d < u.n → Err TooManyPlaces ≡ told (places_outcome d row)
       places-more g o = places-answer false (rw (le-leb d 32 g, lt-leb u.n d o))
 
-      pub places-done : d ≤ 32 → u.n ≤ d → Done 0 ≡ told (places_outcome d row)
+      pub places-done : d ≤ 32 → u.n ≤ d → Ok 0 ≡ told (places_outcome d row)
       places-done g o = places-answer true (rw (le-leb d 32 g, le-leb u.n d o))

@@ -8,26 +8,13 @@ ghost use Rattle.reader.specs.Internal.Reads.{Told, has_form, Marked, known, kno
 
 use crate::reader::{mark_expr, mark_pred};
 use broken::position::broken_at;
-use form::answer::{Answer, Kind, Limit};
-use form::head::Step;
+use form::answer::{Answer, Kind, Limit, Refusal};
 use tree::tag::{Shape, expr_shape};
 
 fn is_known(shape: Shape) -> bool
     ensures { result ≡ known shape }
 {
-    match shape {
-        Shape::Unknown => false,
-        Shape::Plain(p, e) => true,
-        Shape::Name => true,
-        Shape::Value => true,
-        Shape::Exprs(m) => true,
-        Shape::Preds(m) => true,
-        Shape::Apply => true,
-        Shape::Compr => true,
-        Shape::Quant => true,
-        Shape::NotedCompr => true,
-        Shape::NotedQuant => true,
-    }
+    !matches!(shape, Shape::Unknown)
 }
 
 // Whether the row begins with the tag of an expression.
@@ -63,7 +50,7 @@ pub fn is_of_kind(row: &[u32], kind: Kind) -> bool
     }
 }
 
-fn first_form(row: &[u32], is_expr: bool, marks: &mut [u32]) -> Step
+fn first_form(row: &[u32], is_expr: bool, marks: &mut [u32]) -> Option<usize>
     ensures { Told 0 0 (decode 64 (pick is_expr expr pred) row.now) marks.old marks.new result }
 {
     if is_expr {
@@ -82,7 +69,7 @@ pub fn mark_form(row: &[u32], kind: Kind, marks: &mut [u32]) -> bool
     if Limit::WORDS < row.len() {
         return false;
     }
-    let Step::End(p) = first_form(row, is_expr(row, kind), marks) else {
+    let Some(p) = first_form(row, is_expr(row, kind), marks) else {
         return false;
     };
     if p == row.len() {
@@ -105,12 +92,12 @@ pub fn mark(row: &[u32], kind: Kind, marks: &mut [u32]) -> Answer
     ensures marked { Marked (form_of kind row.now) marks.old marks.new }
 {
     if Limit::WORDS < row.len() {
-        return Answer::No(1, 0);
+        return Err(Refusal::TooLong);
     }
     if mark_form(row, kind, marks) {
-        return Answer::Done(0);
+        return Ok(0);
     }
-    Answer::No(2, broken_at(row, kind))
+    Err(Refusal::Broken(broken_at(row, kind)))
 }
 
 // The check of a row that is to be one form of the kind.

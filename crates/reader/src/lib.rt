@@ -1,4 +1,4 @@
-// The shape check of document 01: the readers of expressions and predicates, and the checks of forms and of the three lists.
+// The shape check: the readers of expressions and predicates, and the checks of forms and of the three lists.
 #![tactic(auto)]
 
 pub mod check;

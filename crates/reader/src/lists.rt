@@ -1,13 +1,12 @@
 // The lists: names; name and expression in turn; for each declaration 0, or 1 and an expression.
-ghost use Rattle.std.specs.Prelude.{◌≡◌, ◌+◌, ◌<◌, length, take, drop};
+ghost use Rattle.std.specs.Prelude.{◌≡◌, ◌+◌, ◌-◌, ◌^◌, ◌<◌, length, drop};
 ghost use Rattle.form.specs.Lists.{place_entry, entry_of, list_of, distinct, good_names};
 ghost use Rattle.form.specs.Answer.{told, names_outcome, pairs_outcome, places_outcome};
-ghost use Rattle.reader.specs.Internal.Reads.{ToldEntry, table_of, Listing, member_of, good_words};
+ghost use Rattle.reader.specs.Internal.Reads.{ToldEntry, emptied, empty_table, add_row, Listing, good_words};
 
 use crate::reader::mark_child;
 use broken::position::broken_list;
-use form::answer::{Answer, Limit, ListKind};
-use form::head::Step;
+use form::answer::{Answer, Limit, ListKind, Refusal};
 
 // The entries of a list: of the first 32 the word, and where its expression starts and ends in the row (at one place where it has
 // none); and the number of all.
@@ -19,37 +18,55 @@ pub struct Table {
     pub n: usize,
 }
 
-// Whether the row is a list, and how many entries were read.
-#[derive(Clone, Copy)]
-pub struct Listed {
-    pub ok: bool,
-    pub n: usize,
-}
-
 impl Table {
     pub const LIMIT: usize = 32;
+
+    // A table of no entry.
+    pub fn new() -> Table
+        ensures { result ≡ empty_table }
+    {
+        Table {
+            words: [0; 32],
+            starts: [0; 32],
+            ends: [0; 32],
+            n: 0,
+        }
+    }
+
+    // One entry more; past 32 only their number grows.
+    fn add(&mut self, word: u32, start: usize, end: usize)
+        requires { self.old.n < 2 ^ 64 - 1 }
+        ensures { self.new ≡ add_row self.old word start end }
+    {
+        if self.n < Table::LIMIT {
+            self.words[self.n] = word;
+            self.starts[self.n] = start;
+            self.ends[self.n] = end;
+        }
+        self.n += 1;
+    }
 }
 
 // A place at p, whose word is w: where it ends.
-fn place_at(row: &[u32], marks: &mut [u32], p: usize, w: u32) -> Step
+fn place_at(row: &[u32], marks: &mut [u32], p: usize, w: u32) -> Option<usize>
     requires { p < length row.now }
     ensures { ToldEntry p (place_entry w (drop (p + 1) row.now)) marks.old marks.new result }
 {
     if w == 0 {
-        return Step::End(p + 1);
+        return Some(p + 1);
     }
     if 1 < w {
-        return Step::Bad;
+        return None;
     }
     mark_child(row, marks, p + 1, Limit::DEPTH, 0)
 }
 
 // One entry of a list at p: where it ends.
-fn entry_at(row: &[u32], kind: ListKind, marks: &mut [u32], p: usize) -> Step
+fn entry_at(row: &[u32], kind: ListKind, marks: &mut [u32], p: usize) -> Option<usize>
     ensures { ToldEntry p (entry_of kind (drop p row.now)) marks.old marks.new result }
 {
     if row.len() <= p {
-        return Step::Bad;
+        return None;
     }
     match kind {
         ListKind::Pairs => mark_child(row, marks, p + 1, Limit::DEPTH, 0),
@@ -57,62 +74,34 @@ fn entry_at(row: &[u32], kind: ListKind, marks: &mut [u32], p: usize) -> Step
     }
 }
 
-// The entries of the row, if it is such a list: the rows of their table are lent, and the names and indices of their expressions are
-// marked. What the rows and the marks hold after a refusal is free.
-pub fn mark_list(
-    row: &[u32],
-    kind: ListKind,
-    marks: &mut [u32],
-    words: &mut [u32; 32],
-    starts: &mut [usize; 32],
-    ends: &mut [usize; 32],
-) -> Listed
-    ensures { Listing (list_of kind row.now) (table_of 0 words.old starts.old ends.old) (table_of result.n words.new starts.new ends.new) marks.old marks.new result.ok }
+// Whether the row is such a list: its entries stand in the table, in place of what it held, and the names and indices of their expressions
+// are marked. What the table and the marks hold after a refusal is free.
+pub fn mark_list(row: &[u32], kind: ListKind, marks: &mut [u32], table: &mut Table) -> bool
+    ensures { Listing (list_of kind row.now) (emptied table.old) table.new marks.old marks.new result }
 {
-    let mut n = 0;
+    table.n = 0;
     let mut p = 0;
     while p < row.len() {
-        let Step::End(q) = entry_at(row, kind, marks, p) else {
-            return Listed { ok: false, n: n };
+        let Some(q) = entry_at(row, kind, marks, p) else {
+            return false;
         };
-        if n < Table::LIMIT {
-            words[n] = row[p];
-            starts[n] = p + 1;
-            ends[n] = q;
-        }
-        n += 1;
+        table.add(row[p], p + 1, q);
         p = q;
     }
-    Listed { ok: true, n: n }
-}
-
-// Whether the name stands at `from` or after it.
-fn has_from(names: &[u32], from: usize, m: u32) -> bool
-    ensures { result ≡ member_of m (drop from names.now) }
-{
-    let mut i = from;
-    while i < names.len() {
-        if names[i] == m {
-            return true;
-        }
-        i += 1;
-    }
-    false
+    true
 }
 
 // Whether no name is over 65,535 and none stands twice.
 fn are_distinct(names: &[u32]) -> bool
     ensures { result ≡ distinct names.now }
 {
-    let mut i = 0;
-    while i < names.len() {
-        if Limit::NAME < names[i] {
+    for (i, name) in names.iter().enumerate() {
+        if Limit::NAME < *name {
             return false;
         }
-        if has_from(names, i + 1, names[i]) {
+        if names[i + 1..].contains(name) {
             return false;
         }
-        i += 1;
     }
     true
 }
@@ -121,10 +110,7 @@ fn are_distinct(names: &[u32]) -> bool
 pub fn good_names(names: &[u32]) -> bool
     ensures { result ≡ good_names names.now }
 {
-    if Table::LIMIT < names.len() {
-        return false;
-    }
-    are_distinct(names)
+    names.len() <= Table::LIMIT && are_distinct(names)
 }
 
 // The check of a list of names.
@@ -132,32 +118,19 @@ pub fn check_names(row: &[u32]) -> Answer
     ensures { result ≡ told (names_outcome row.now) }
 {
     if Limit::WORDS < row.len() {
-        return Answer::No(1, 0);
+        return Err(Refusal::TooLong);
     }
     if !good_names(row) {
-        return Answer::No(4, 0);
+        return Err(Refusal::BadNames);
     }
-    Answer::Done(0)
+    Ok(0)
 }
 
-// Whether the first n words, or all if they are fewer, can be names of one list.
-fn are_first_distinct(words: &[u32], n: usize) -> bool
-    ensures { result ≡ distinct (take n words.now) }
+// Whether the words of a table's entries are good names.
+pub fn good_table(table: &Table) -> bool
+    ensures { result ≡ good_words table.now.n table.now.words }
 {
-    if words.len() < n {
-        return are_distinct(words);
-    }
-    are_distinct(&words[..n])
-}
-
-// Whether the words of a table's n entries are good names.
-pub fn good_table(words: &[u32; 32], n: usize) -> bool
-    ensures { result ≡ good_words n words.now }
-{
-    if Table::LIMIT < n {
-        return false;
-    }
-    are_first_distinct(words, n)
+    table.n <= Table::LIMIT && are_distinct(&table.words[..table.n])
 }
 
 // The check of a substitution list.
@@ -165,27 +138,17 @@ pub fn check_pairs(row: &[u32]) -> Answer
     ensures { result ≡ told (pairs_outcome row.now) }
 {
     if Limit::WORDS < row.len() {
-        return Answer::No(1, 0);
+        return Err(Refusal::TooLong);
     }
     let mut marks = [0u32; 1];
-    let mut words = [0u32; 32];
-    let mut starts = [0usize; 32];
-    let mut ends = [0usize; 32];
-    let listed = mark_list(
-        row,
-        ListKind::Pairs,
-        &mut marks,
-        &mut words,
-        &mut starts,
-        &mut ends,
-    );
-    if !listed.ok {
-        return Answer::No(2, broken_list(row, ListKind::Pairs));
+    let mut table = Table::new();
+    if !mark_list(row, ListKind::Pairs, &mut marks, &mut table) {
+        return Err(Refusal::Broken(broken_list(row, ListKind::Pairs)));
     }
-    if !good_table(&words, listed.n) {
-        return Answer::No(4, 0);
+    if !good_table(&table) {
+        return Err(Refusal::BadNames);
     }
-    Answer::Done(0)
+    Ok(0)
 }
 
 // The check of a list of places for n declarations. Places may be missing at its end.
@@ -193,28 +156,18 @@ pub fn check_places(row: &[u32], n: u32) -> Answer
     ensures { result ≡ told (places_outcome n row.now) }
 {
     if Limit::WORDS < row.len() {
-        return Answer::No(1, 0);
+        return Err(Refusal::TooLong);
     }
     let mut marks = [0u32; 1];
-    let mut words = [0u32; 32];
-    let mut starts = [0usize; 32];
-    let mut ends = [0usize; 32];
-    let listed = mark_list(
-        row,
-        ListKind::Places,
-        &mut marks,
-        &mut words,
-        &mut starts,
-        &mut ends,
-    );
-    if !listed.ok {
-        return Answer::No(2, broken_list(row, ListKind::Places));
+    let mut table = Table::new();
+    if !mark_list(row, ListKind::Places, &mut marks, &mut table) {
+        return Err(Refusal::Broken(broken_list(row, ListKind::Places)));
     }
     if Limit::DECLARATIONS < n {
-        return Answer::No(5, 0);
+        return Err(Refusal::TooManyPlaces);
     }
-    if (n as usize) < listed.n {
-        return Answer::No(5, 0);
+    if (n as usize) < table.n {
+        return Err(Refusal::TooManyPlaces);
     }
-    Answer::Done(0)
+    Ok(0)
 }

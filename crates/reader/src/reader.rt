@@ -1,15 +1,14 @@
 // The readers of expressions and of predicates, which call one another over the word row. They also mark each name and index with the
 // number of declarations that are open there.
-ghost use Rattle.std.specs.Prelude.{◌≡◌, ◌+◌, ◌*◌, ◌^◌, ◌<◌, drop, set, replicate};
+ghost use Rattle.std.specs.Prelude.{◌≡◌, ◌+◌, ◌*◌, ◌^◌, ◌<◌, drop, set, replicate, Some, None};
 ghost use Rattle.tree.specs.Form.{pick, none};
 ghost use Rattle.tree.specs.Tag.{expr, pred, sorts};
 ghost use Rattle.form.specs.Decode.{decode, decode_all, decl_at, decls, gots};
 ghost use Rattle.form.specs.Internal.Heads.{starts_leaf};
-ghost use Rattle.reader.specs.Internal.Reads.{mark_tag, Told, ToldAll, ToldDecl, ToldDecls, ToldNoted, ToldOther, Fits, decode_in, decls_within};
-ghost use Rattle.form.specs.declared.head.Step.TheVariants.{End, Bad};
+ghost use Rattle.reader.specs.Internal.Reads.{mark_tag, Told, ToldAll, ToldDecl, ToldDecls, ToldNoted, decode_in, decls_within};
 
 use form::answer::Limit;
-use form::head::{Head, Step, Word, asked, expr_head, is_leaf, pred_head};
+use form::head::{Head, asked, expr_head, is_leaf, pred_head};
 
 // Stores a mark, where there is room.
 fn put_mark(marks: &mut [u32], at: usize, mark: u32)
@@ -35,98 +34,116 @@ fn mark_tag(marks: &mut [u32], at: usize, tag: u32, under: u32)
 }
 
 // A name or an index at `at`, under so many open declarations; whatever else stands there is left to the reader of expressions.
-fn mark_leaf(row: &[u32], marks: &mut [u32], at: usize, depth: u32, under: u32) -> Step
+fn mark_leaf(row: &[u32], marks: &mut [u32], at: usize, depth: u32, under: u32) -> Option<usize>
     requires { under + 32 * depth < 2 ^ 32 }
-    ensures value { result ≡ pick (starts_leaf depth (drop at row.now)) (End (at + 2)) Bad }
+    ensures value { result ≡ pick (starts_leaf depth (drop at row.now)) (Some (at + 2)) None }
     ensures marks_after { marks.new ≡ pick (starts_leaf depth (drop at row.now)) (set marks.old at (under + 1)) marks.old }
 {
     if is_leaf(row, at, depth) {
         put_mark(marks, at, under + 1);
-        return Step::End(at + 2);
+        return Some(at + 2);
     }
-    Step::Bad
+    None
 }
 
 // An expression at `at`, under so many open declarations.
-#[cycle(mark_child_mark_decl_mark_decls_mark_expr_mark_exprs_mark_kids_mark_noted_mark_other_mark_pred_mark_preds)]
-pub(crate) fn mark_expr(row: &[u32], marks: &mut [u32], at: usize, depth: u32, under: u32) -> Step
+#[cycle(readers)]
+pub(crate) fn mark_expr(
+    row: &[u32],
+    marks: &mut [u32],
+    at: usize,
+    depth: u32,
+    under: u32,
+) -> Option<usize>
     requires { under + 32 * depth < 2 ^ 32 }
     ensures { Told at under (decode depth expr (drop at row.now)) marks.old marks.new result }
 {
     if depth == 0 {
-        return Step::Bad;
+        return None;
     }
     if row.len() <= at {
-        return Step::Bad;
+        return None;
     }
     let tag = row[at];
-    let head = expr_head(row, at + 1, tag);
-    let Head::Kids(p, preds, exprs, binds) = head else {
-        return mark_other(row, marks, head, depth - 1, under);
-    };
-    mark_tag(marks, at, tag, under);
-    mark_kids(row, marks, p, preds, exprs, depth - 1, under + binds)
+    let head = expr_head(row, at + 1, tag)?;
+    match head {
+        Head::Kids(p, preds, exprs, binds) => {
+            mark_tag(marks, at, tag, under);
+            mark_kids(row, marks, p, preds, exprs, depth - 1, under + binds)
+        }
+        Head::Noted(p, preds, exprs, binds) => {
+            mark_noted(row, marks, p, preds, exprs, binds, depth - 1, under)
+        }
+    }
 }
 
 // A predicate at `at`, under so many open declarations.
-#[cycle(mark_child_mark_decl_mark_decls_mark_expr_mark_exprs_mark_kids_mark_noted_mark_other_mark_pred_mark_preds)]
-pub(crate) fn mark_pred(row: &[u32], marks: &mut [u32], at: usize, depth: u32, under: u32) -> Step
+#[cycle(readers)]
+pub(crate) fn mark_pred(
+    row: &[u32],
+    marks: &mut [u32],
+    at: usize,
+    depth: u32,
+    under: u32,
+) -> Option<usize>
     requires { under + 32 * depth < 2 ^ 32 }
     ensures { Told at under (decode depth pred (drop at row.now)) marks.old marks.new result }
 {
     if depth == 0 {
-        return Step::Bad;
+        return None;
     }
     if row.len() <= at {
-        return Step::Bad;
+        return None;
     }
     let tag = row[at];
-    let head = pred_head(row, at + 1, tag);
-    let Head::Kids(p, preds, exprs, binds) = head else {
-        return mark_other(row, marks, head, depth - 1, under);
-    };
-    mark_tag(marks, at, tag, under);
-    mark_kids(row, marks, p, preds, exprs, depth - 1, under + binds)
+    let head = pred_head(row, at + 1, tag)?;
+    match head {
+        Head::Kids(p, preds, exprs, binds) => {
+            mark_tag(marks, at, tag, under);
+            mark_kids(row, marks, p, preds, exprs, depth - 1, under + binds)
+        }
+        Head::Noted(p, preds, exprs, binds) => {
+            mark_noted(row, marks, p, preds, exprs, binds, depth - 1, under)
+        }
+    }
 }
 
 // A declaration with its flag at `at`: a name and 0, or a name, 1 and an annotation.
-#[cycle(mark_child_mark_decl_mark_decls_mark_expr_mark_exprs_mark_kids_mark_noted_mark_other_mark_pred_mark_preds)]
-fn mark_decl(row: &[u32], marks: &mut [u32], at: usize, depth: u32, under: u32) -> Step
+#[cycle(readers)]
+fn mark_decl(row: &[u32], marks: &mut [u32], at: usize, depth: u32, under: u32) -> Option<usize>
     requires { under + 32 * depth < 2 ^ 32 }
     ensures { ToldDecl at under (decl_at (λ s l. decode depth s l) (drop at row.now)) marks.old marks.new result }
 {
-    let Word::Is(w) = asked(row, at, 0, Limit::NAME) else {
-        return Step::Bad;
-    };
-    let Word::Is(flag) = asked(row, at + 1, 0, 1) else {
-        return Step::Bad;
-    };
+    let w = asked(row, at, 0, Limit::NAME)?;
+    let flag = asked(row, at + 1, 0, 1)?;
     if flag == 0 {
-        return Step::End(at + 2);
+        return Some(at + 2);
     }
     mark_child(row, marks, at + 2, depth, under)
 }
 
 // n declarations with flags; their annotations stand under the declarations that are open round them.
-#[cycle(mark_child_mark_decl_mark_decls_mark_expr_mark_exprs_mark_kids_mark_noted_mark_other_mark_pred_mark_preds)]
-fn mark_decls(row: &[u32], marks: &mut [u32], at: usize, n: u32, depth: u32, under: u32) -> Step
+#[cycle(readers)]
+fn mark_decls(
+    row: &[u32],
+    marks: &mut [u32],
+    at: usize,
+    n: u32,
+    depth: u32,
+    under: u32,
+) -> Option<usize>
     requires { under + 32 * depth < 2 ^ 32 }
     ensures { ToldDecls at under (decls (λ s l. decode depth s l) n (drop at row.now)) marks.old marks.new result }
 {
     let mut p = at;
-    let mut left = n;
-    while 0 < left {
-        let Step::End(q) = mark_decl(row, marks, p, depth, under) else {
-            return Step::Bad;
-        };
-        p = q;
-        left -= 1;
+    for _ in 0..n {
+        p = mark_decl(row, marks, p, depth, under)?;
     }
-    Step::End(p)
+    Some(p)
 }
 
 // Declarations with flags, one of which at least has an annotation, and the children under them.
-#[cycle(mark_child_mark_decl_mark_decls_mark_expr_mark_exprs_mark_kids_mark_noted_mark_other_mark_pred_mark_preds)]
+#[cycle(readers)]
 fn mark_noted(
     row: &[u32],
     marks: &mut [u32],
@@ -136,36 +153,20 @@ fn mark_noted(
     binds: u32,
     depth: u32,
     under: u32,
-) -> Step
+) -> Option<usize>
     requires { under + binds + 32 * depth < 2 ^ 32 }
     ensures { ToldNoted at under (decls (λ s l. decode depth s l) binds (drop at row.now)) (λ l. decode_all (λ s l. decode depth s l) (sorts preds exprs) l) marks.old marks.new result }
 {
-    let Step::End(p) = mark_decls(row, marks, at, binds, depth, under) else {
-        return Step::Bad;
-    };
+    let p = mark_decls(row, marks, at, binds, depth, under)?;
     if p - at == 2 * (binds as usize) {
-        return Step::Bad;
+        return None;
     }
-    let Step::End(q) = mark_preds(row, marks, p, preds, depth, under + binds) else {
-        return Step::Bad;
-    };
+    let q = mark_preds(row, marks, p, preds, depth, under + binds)?;
     mark_exprs(row, marks, q, exprs, depth, under + binds)
 }
 
-// What follows the head of a quantifier with annotations; after any other head, none is read.
-#[cycle(mark_child_mark_decl_mark_decls_mark_expr_mark_exprs_mark_kids_mark_noted_mark_other_mark_pred_mark_preds)]
-fn mark_other(row: &[u32], marks: &mut [u32], head: Head, depth: u32, under: u32) -> Step
-    requires { Fits head depth under }
-    ensures { ToldOther head depth under row.now marks.old marks.new result }
-{
-    let Head::Noted(p, preds, exprs, binds) = head else {
-        return Step::Bad;
-    };
-    mark_noted(row, marks, p, preds, exprs, binds, depth, under)
-}
-
 // So many predicates, then so many expressions.
-#[cycle(mark_child_mark_decl_mark_decls_mark_expr_mark_exprs_mark_kids_mark_noted_mark_other_mark_pred_mark_preds)]
+#[cycle(readers)]
 fn mark_kids(
     row: &[u32],
     marks: &mut [u32],
@@ -174,103 +175,118 @@ fn mark_kids(
     exprs: u32,
     depth: u32,
     under: u32,
-) -> Step
+) -> Option<usize>
     requires { under + 32 * depth < 2 ^ 32 }
     ensures { ToldAll at under (decode_all (λ s l. decode depth s l) (sorts preds exprs) (drop at row.now)) marks.old marks.new result }
 {
-    let Step::End(p) = mark_preds(row, marks, at, preds, depth, under) else {
-        return Step::Bad;
-    };
+    let p = mark_preds(row, marks, at, preds, depth, under)?;
     mark_exprs(row, marks, p, exprs, depth, under)
 }
 
 // An expression at `at`: a name or an index, the common case, without a call.
-#[cycle(mark_child_mark_decl_mark_decls_mark_expr_mark_exprs_mark_kids_mark_noted_mark_other_mark_pred_mark_preds)]
-pub(crate) fn mark_child(row: &[u32], marks: &mut [u32], at: usize, depth: u32, under: u32) -> Step
+#[cycle(readers)]
+pub(crate) fn mark_child(
+    row: &[u32],
+    marks: &mut [u32],
+    at: usize,
+    depth: u32,
+    under: u32,
+) -> Option<usize>
     requires { under + 32 * depth < 2 ^ 32 }
     ensures { Told at under (decode depth expr (drop at row.now)) marks.old marks.new result }
 {
-    let Step::End(q) = mark_leaf(row, marks, at, depth, under) else {
-        return mark_expr(row, marks, at, depth, under);
-    };
-    Step::End(q)
+    match mark_leaf(row, marks, at, depth, under) {
+        Some(end) => Some(end),
+        None => mark_expr(row, marks, at, depth, under),
+    }
 }
 
 // n expressions in a row.
-#[cycle(mark_child_mark_decl_mark_decls_mark_expr_mark_exprs_mark_kids_mark_noted_mark_other_mark_pred_mark_preds)]
-fn mark_exprs(row: &[u32], marks: &mut [u32], at: usize, n: u32, depth: u32, under: u32) -> Step
+#[cycle(readers)]
+fn mark_exprs(
+    row: &[u32],
+    marks: &mut [u32],
+    at: usize,
+    n: u32,
+    depth: u32,
+    under: u32,
+) -> Option<usize>
     requires { under + 32 * depth < 2 ^ 32 }
     ensures { ToldAll at under (decode_all (λ s l. decode depth s l) (replicate n expr) (drop at row.now)) marks.old marks.new result }
 {
     let mut p = at;
-    let mut left = n;
-    while 0 < left {
-        let Step::End(q) = mark_child(row, marks, p, depth, under) else {
-            return Step::Bad;
-        };
-        p = q;
-        left -= 1;
+    for _ in 0..n {
+        p = mark_child(row, marks, p, depth, under)?;
     }
-    Step::End(p)
+    Some(p)
 }
 
 // n predicates in a row.
-#[cycle(mark_child_mark_decl_mark_decls_mark_expr_mark_exprs_mark_kids_mark_noted_mark_other_mark_pred_mark_preds)]
-fn mark_preds(row: &[u32], marks: &mut [u32], at: usize, n: u32, depth: u32, under: u32) -> Step
+#[cycle(readers)]
+fn mark_preds(
+    row: &[u32],
+    marks: &mut [u32],
+    at: usize,
+    n: u32,
+    depth: u32,
+    under: u32,
+) -> Option<usize>
     requires { under + 32 * depth < 2 ^ 32 }
     ensures { ToldAll at under (decode_all (λ s l. decode depth s l) (replicate n pred) (drop at row.now)) marks.old marks.new result }
 {
     let mut p = at;
-    let mut left = n;
-    while 0 < left {
-        let Step::End(q) = mark_pred(row, marks, p, depth, under) else {
-            return Step::Bad;
-        };
-        p = q;
-        left -= 1;
+    for _ in 0..n {
+        p = mark_pred(row, marks, p, depth, under)?;
     }
-    Step::End(p)
+    Some(p)
 }
 
 // An expression at `at`, under so many open declarations; where the depth or their number is over 65,535, none is read.
-pub fn expr_at(row: &[u32], marks: &mut [u32], at: usize, depth: u32, under: u32) -> Step
+pub fn expr_at(row: &[u32], marks: &mut [u32], at: usize, depth: u32, under: u32) -> Option<usize>
     ensures { Told at under (decode_in depth under expr (drop at row.now)) marks.old marks.new result }
 {
     if Limit::NAME < depth {
-        return Step::Bad;
+        return None;
     }
     if Limit::NAME < under {
-        return Step::Bad;
+        return None;
     }
     mark_expr(row, marks, at, depth, under)
 }
 
 // A predicate at `at`, likewise.
-pub fn pred_at(row: &[u32], marks: &mut [u32], at: usize, depth: u32, under: u32) -> Step
+pub fn pred_at(row: &[u32], marks: &mut [u32], at: usize, depth: u32, under: u32) -> Option<usize>
     ensures { Told at under (decode_in depth under pred (drop at row.now)) marks.old marks.new result }
 {
     if Limit::NAME < depth {
-        return Step::Bad;
+        return None;
     }
     if Limit::NAME < under {
-        return Step::Bad;
+        return None;
     }
     mark_pred(row, marks, at, depth, under)
 }
 
 // n declarations with flags at `at`, one of which at least has an annotation, under so many open declarations; where the depth or one of the
 // numbers is over 65,535, none are read.
-pub fn decls_at(row: &[u32], marks: &mut [u32], at: usize, n: u32, depth: u32, under: u32) -> Step
+pub fn decls_at(
+    row: &[u32],
+    marks: &mut [u32],
+    at: usize,
+    n: u32,
+    depth: u32,
+    under: u32,
+) -> Option<usize>
     ensures { ToldNoted at under (decls_within depth under n (drop at row.now)) (λ l. gots none l) marks.old marks.new result }
 {
     if Limit::NAME < depth {
-        return Step::Bad;
+        return None;
     }
     if Limit::NAME < under {
-        return Step::Bad;
+        return None;
     }
     if Limit::NAME < n {
-        return Step::Bad;
+        return None;
     }
     mark_noted(row, marks, at, 0, 0, n, depth, under)
 }

@@ -11,7 +11,7 @@ use Rattle.tree.specs.Tag.{pred}
 use Rattle.form.specs.Decode.{found, form_of}
 use Rattle.form.specs.Answer.{answer, told, written}
 use Rattle.form.specs.declared.answer.Kind.TheVariants.{Predicate}
-use Rattle.form.specs.declared.answer.Answer.TheVariants.{Done}
+use Rattle.std.specs.Prelude.{Ok}
 use Rattle.rules.specs.Point.{one_point, point_outcome}
 use Rattle.one_point.proofs.OutputLaws.{pointed, told-words}
 use Rattle.reading.specs.Reading.{Reading, holds}
@@ -41,5 +41,5 @@ output-keeps-truth row work room ws e =
     }
 
 -- the same by the two clauses of the contract of `one_point_inference`: a call that answers n leaves such words in the first n of its output row
-pub call-keeps-truth : (row : List ℕ) (work : ℕ) (out out' : List ℕ) (n : ℕ) → Done n ≡ told (point_outcome row work (length out)) → out' ≡ written (point_outcome row work (length out)) out → Output row (take n out')
+pub call-keeps-truth : (row : List ℕ) (work : ℕ) (out out' : List ℕ) (n : ℕ) → Ok n ≡ told (point_outcome row work (length out)) → out' ≡ written (point_outcome row work (length out)) out → Output row (take n out')
 call-keeps-truth row work out out' n r w = output-keeps-truth row work (length out) (take n out') (told-words (point_outcome row work (length out)) out out' n r w)

@@ -12,18 +12,21 @@ use lib.Seq.{take_at, take_all}
 use Rattle.tree.specs.Form.{Form, encode, pick}
 use Rattle.tree.specs.Tag.{Sort, expr, pred}
 use Rattle.form.specs.Decode.{Whole, one, not-one, row_form, Found, found, missing, as_sort, form_of}
-use Rattle.form.specs.Answer.{answer, refusal, told, written, is_one, finish}
+use Rattle.form.specs.Answer.{answer, stop, told, written, is_one, finish}
 use Rattle.form.specs.declared.answer.Kind.{Kind}
 use Rattle.form.specs.declared.answer.Kind.TheVariants.{Expression, Predicate}
-use Rattle.form.specs.declared.answer.Answer.TheVariants.{Done}
+use Rattle.std.specs.Prelude.{Ok, Err, Result}
 use Rattle.shift.specs.Internal.Items.{items, store}
 use Rattle.form.proofs.RowLaws.{found-row}
 use Rattle.shift.proofs.CheckedLaws.{not_found}
 use Rattle.shift.proofs.ItemLaws.{stored, store-append}
-use Rattle.replace.specs.Internal.Pieces.{sizes, length_refusal, InRow, has_form, short_words, emitted, replaced_words, replaced}
+use Rattle.replace.specs.Internal.Pieces.{sizes, checked_length, InRow, has_form, fitted, short_words, emitted, replaced_words, replaced}
 use Rattle.replace.specs.declared.pieces.Plan.{Plan}
-use Rattle.replace.proofs.LengthLaws.{not-refused, refused-many}
+use Rattle.replace.proofs.LengthLaws.{length-fits, length-over}
 use Rattle.replace.proofs.PieceLaws.{planned-length}
+use Rattle.form.specs.declared.answer.Refusal.TheVariants.{OutOfLimits, OutputTooShort}
+use Rattle.form.specs.declared.answer.Refusal.{Refusal}
+use Rattle.form.proofs.DecodeLaws.{clash}
 
 module _ (kind : Kind) (ws : List ℕ) where
   long-missing : 8192 < length ws → form_of kind ws ≡ missing
@@ -33,30 +36,23 @@ module _ (kind : Kind) (ws : List ℕ) where
       go (found s f) q = let l = (found-row ws s f kind q).0 in absurd (omega arith)
       go missing q = q
 
-  missing-emitted : (room : ℕ) → form_of kind ws ≡ missing → emitted false kind ws room ≡ refusal 7
+  missing-emitted : (room : ℕ) → form_of kind ws ≡ missing → emitted false kind ws room ≡ stop OutOfLimits
   unfolding emitted
   missing-emitted room q = rw q
 
-  emit-long : (room : ℕ) → 8192 < length ws → emitted false kind ws room ≡ refusal 7
+  emit-long : (room : ℕ) → 8192 < length ws → emitted false kind ws room ≡ stop OutOfLimits
   emit-long room h = missing-emitted room (long-missing h)
 
-  pub emit-no : (room : ℕ) (v : Bool) → v ≡ has_form (form_of kind ws) → v ≡ false → emitted false kind ws room ≡ refusal 7
+  pub emit-no : (room : ℕ) (v : Bool) → v ≡ has_form (form_of kind ws) → v ≡ false → emitted false kind ws room ≡ stop OutOfLimits
   emit-no room v e n = missing-emitted room (not_found (form_of kind ws) v e n)
 
   module _ (v : Bool) (e : v ≡ has_form (form_of kind ws)) (n : v ≡ true) where
     is_found : has_form (form_of kind ws) ≡ true
     is_found = sym e ∙ n
 
-    pub emit-room : (room : ℕ) → room < length ws → emitted false kind ws room ≡ refusal 14
+    pub emit-fits : (room : ℕ) → fitted ws room ≡ emitted false kind ws room
     unfolding emitted
-    emit-room room h = rw (is_found, lt-leb (length ws) room h)
-
-    emit-is : (room : ℕ) → length ws ≤ room → emitted false kind ws room ≡ answer ws
-    unfolding emitted
-    emit-is room h = rw (is_found, le-leb (length ws) room h)
-
-    pub emit-done : (out out' : List ℕ) → length ws ≤ length out → out' ≡ store out 0 ws → (Done (length ws) ≡ told (emitted false kind ws (length out))) × (out' ≡ written (emitted false kind ws (length out)) out)
-    emit-done out out' h w = rw (emit-is (length out) h, w) (refl, stored out ws h)
+    emit-fits room = rw is_found
 
 -- by the sort of the result
 abbrev pub kind_of : Sort → Kind
@@ -87,24 +83,27 @@ emit-sure true s room g h = go (leb (length (encode g)) 8192) refl
     go false q = rw (q, row-long s (encode g) (leb-false (length (encode g)) 8192 q))
 
 -- words of which only the length is checked
-short-not : (ws : List ℕ) (room : ℕ) {no : ℕ} → no ≡ length_refusal (length ws) room → (no ≡ 0 → ⊥) → short_words ws room ≡ refusal no
-unfolding length_refusal
-short-not ws room {no} e z = go (leb (length ws) 8192) (leb (length ws) room) (sym e)
+short-not : (ws : List ℕ) (room : ℕ) {k : Refusal} {r : Result (Unit {0}) Refusal} → r ≡ checked_length (length ws) room → r ≡ Err k → short_words ws room ≡ stop k
+unfolding checked_length
+short-not ws room {k} {r} e z = go (leb (length ws) 8192) (leb (length ws) room) (sym e ∙ z)
   where
-    go : (b c : Bool) → pick b (pick c 0 14) 7 ≡ no → pick b (pick c (answer ws) (refusal 14)) (refusal 7) ≡ refusal no
-    go true true q = absurd (z (sym q))
-    go true false q = ap refusal q
-    go false c q = ap refusal q
+    go : (b c : Bool) → pick b (pick c (Ok (tt {0})) (Err OutputTooShort)) (Err OutOfLimits) ≡ Err k → pick b (pick c (answer ws) (stop OutputTooShort)) (stop OutOfLimits) ≡ stop k
+    go true true q = absurd (clash cc)
+    go true false q = ap stop cc
+    go false c q = ap stop cc
 
 module _ (ws : List ℕ) where
-  pub short-many : (room : ℕ) → 8192 < length ws → short_words ws room ≡ refusal 7
+  pub short-many : (room : ℕ) → 8192 < length ws → short_words ws room ≡ stop OutOfLimits
   short-many room h = rw (lt-leb (length ws) 8192 h)
 
-  pub short-room : (room : ℕ) → length ws ≤ 8192 → room < length ws → short_words ws room ≡ refusal 14
-  short-room room h l = rw (le-leb (length ws) 8192 h, lt-leb (length ws) room l)
+  pub short-fits : (room : ℕ) → length ws ≤ 8192 → fitted ws room ≡ short_words ws room
+  short-fits room h = rw (le-leb (length ws) 8192 h)
 
-  pub short-done : (out out' : List ℕ) → length ws ≤ 8192 → length ws ≤ length out → out' ≡ store out 0 ws → (Done (length ws) ≡ told (short_words ws (length out))) × (out' ≡ written (short_words ws (length out)) out)
-  short-done out out' h l w = rw (le-leb (length ws) 8192 h, le-leb (length ws) (length out) l, w) (refl, stored out ws l)
+  pub fit-not : (room : ℕ) → room < length ws → fitted ws room ≡ stop OutputTooShort
+  fit-not room l = rw (lt-leb (length ws) room l)
+
+  pub fit-done : (out out' : List ℕ) → length ws ≤ length out → out' ≡ store out 0 ws → (Ok (length ws) ≡ told (fitted ws (length out))) × (out' ≡ written (fitted ws (length out)) out)
+  fit-done out out' l w = rw (le-leb (length ws) (length out) l, w) (refl, stored out ws l)
 
 -- the head and the words after it
 pub built-fits : {n a b c : ℕ} → a ≡ b → b ≡ c → n ≤ c → n ≤ a
@@ -129,9 +128,11 @@ module _ (head : List ℕ) (p : Plan) (list lm row marks : List ℕ) (inside : I
         let l : length all ≡ n = replaced-length ∙ sym k in
         rw (e, stored work all (rw l h), take_at all (drop (length all) work) n l)
 
-    pub long-row : {no : ℕ} → no ≡ length_refusal (length head + sizes p (items row marks)) 8192 → (no ≡ 0 → ⊥) → replaced false kind head p list lm row marks room ≡ refusal 7
+    pub long-row : {k : Refusal} {r : Result (Unit {0}) Refusal} → r ≡ checked_length (length head + sizes p (items row marks)) 8192 → r ≡ Err k → replaced false kind head p list lm row marks room ≡ stop k
     unfolding replaced
-    long-row e z = emit-long kind all room (rw replaced-length (refused-many (length head + sizes p (items row marks)) e z))
+    long-row e z =
+        let (l, q) = length-over (length head + sizes p (items row marks)) e z in
+        rw q (emit-long kind all room (rw replaced-length l))
 
   pub short-built : (room : ℕ) (work work' : List ℕ) (n : ℕ) → work' ≡ store work 0 all → n ≡ length head + sizes p (items row marks) → n ≤ length work → short_words (take n work') room ≡ short_words all room
   short-built room work work' n e k h =
@@ -139,14 +140,14 @@ module _ (head : List ℕ) (p : Plan) (list lm row marks : List ℕ) (inside : I
       rw (e, stored work all (rw l h), take_at all (drop (length all) work) n l)
 
   -- stored in the output row
-  pub sure-not : (room : ℕ) {no : ℕ} → no ≡ length_refusal (length head + sizes p (items row marks)) room → (no ≡ 0 → ⊥) → short_words all room ≡ refusal no
+  pub sure-not : (room : ℕ) {k : Refusal} {r : Result (Unit {0}) Refusal} → r ≡ checked_length (length head + sizes p (items row marks)) room → r ≡ Err k → short_words all room ≡ stop k
   sure-not room e z = short-not all room (rw replaced-length e) z
 
-  pub sure-done : (out out' : List ℕ) {no : ℕ} → no ≡ length_refusal (length head + sizes p (items row marks)) (length out) → no ≡ 0 → (n : ℕ) → n ≡ length head + sizes p (items row marks) → out' ≡ store out 0 all
-      → (Done n ≡ told (short_words all (length out))) × (out' ≡ written (short_words all (length out)) out)
+  pub sure-done : (out out' : List ℕ) {x : Unit {0}} {r : Result (Unit {0}) Refusal} → r ≡ checked_length (length head + sizes p (items row marks)) (length out) → r ≡ Ok x → (n : ℕ) → n ≡ length head + sizes p (items row marks) → out' ≡ store out 0 all
+      → (Ok n ≡ told (short_words all (length out))) × (out' ≡ written (short_words all (length out)) out)
   sure-done out out' e z n k w =
-      let (a, b) = not-refused (length all) (length out) (rw replaced-length e) z in
-      rw (le-leb (length all) 8192 a, le-leb (length all) (length out) b) (ap Done (k ∙ sym replaced-length), w ∙ stored out all b)
+      let (a, b) = length-fits (length all) (length out) (rw replaced-length e) z in
+      rw (le-leb (length all) 8192 a, le-leb (length all) (length out) b) (ap Ok (k ∙ sym replaced-length), w ∙ stored out all b)
 
 pub short-sure : (kind : Kind) (head : List ℕ) (p : Plan) (list lm row marks : List ℕ) (room : ℕ) (sure : Bool) → sure ≡ true → short_words (replaced_words head p list lm row marks) room ≡ replaced sure kind head p list lm row marks room
 unfolding replaced emitted

@@ -1,13 +1,15 @@
 -- How long a result can be: each of its pieces has at most half as many words as the longest part for each word of the item. When its
 -- length is refused. Assumes nothing.
 use mathlib.Core.Path.{◌≡◌, refl, ap, sym, ◌∙◌}
-use mathlib.Core.Bool.{Bool, true, false}
+use mathlib.Core.Bool.{Bool, true, false, not, ◌&&◌}
+use Rattle.std.specs.Ordering.{ord_max, nat_cmp}
+use Rattle.std.proofs.Common.{cond, is_lt, Less, Equal, Greater}
 use mathlib.Core.List.{List, [], ◌∷◌}
 use Prim.Native.Nat.{ℕ, zero, suc, ◌+◌, ◌-◌, ◌*◌, ◌/◌, ◌≤◌, ◌<◌, min, max}
 use native.Mathlib.Nat.{add-mul, add-le-add, le_trans, le-max_left, le-max_right, le-div_iff_mul-le, div-lt_iff_lt-mul}
 use native.Mathlib.Omega.{arith}
-use borrow.Author.Tests.{eqb-true, eqb-false, le-leb, lt-leb, leb-true, leb-false}
-use lib.Dec.{leb, eqb}
+use borrow.Author.Tests.{ltb-true, ltb-false, eqb-true, eqb-false, le-leb, lt-leb, leb-true, leb-false}
+use lib.Dec.{leb, ltb, eqb}
 use lib.ListN.{length, get_or, drop, length-append, length-drop}
 use Rattle.tree.specs.Form.{pick}
 use Rattle.form.proofs.DecodeLaws.{clash}
@@ -15,9 +17,23 @@ use Rattle.shift.specs.Internal.Items.{items, size_of, words_of, rewritten}
 use Rattle.shift.specs.declared.items.Item.{Item}
 use Rattle.shift.specs.declared.items.Item.TheVariants.{Plain, Ident}
 use Rattle.shift.proofs.ItemLaws.{rewritten-length}
-use Rattle.replace.specs.Internal.Pieces.{piece_size, piece_of, sizes, longest, half, length_refusal}
+use Rattle.replace.specs.Internal.Pieces.{piece_size, piece_of, sizes, longest, half, checked_length}
+use Rattle.replace.specs.Internal.Job.{job_plan, job_size, most_words}
 use Rattle.replace.specs.declared.pieces.Plan.{Plan}
+use Rattle.replace.specs.declared.pieces.Job.{Job}
+use Rattle.rules.proofs.WalkLaws.{and_right}
 use Rattle.replace.proofs.PieceLaws.{piece-all, words-length}
+use Rattle.std.specs.Prelude.{Result, Ok, Err}
+use Rattle.form.specs.declared.answer.Refusal.{Refusal}
+use Rattle.form.specs.declared.answer.Refusal.TheVariants.{OutOfLimits, OutputTooShort}
+
+pub larger-is : (a b : ℕ) → ord_max nat_cmp a b ≡ max a b
+larger-is a b = go (ltb b a) refl (eqb b a)
+  where
+    go : (c : Bool) → ltb b a ≡ c → (d : Bool) → cond (is_lt (cond c Less (cond d Equal Greater))) a b ≡ max a b
+    go true p d = let l = ltb-true b a p in omega arith
+    go false p true = let l = ltb-false b a p in omega arith
+    go false p false = let l = ltb-false b a p in omega arith
 
 pub half_pos : (n : ℕ) → 2 ≤ n → 0 < half n
 unfolding half
@@ -88,50 +104,52 @@ module _ (head words h most : ℕ) where
       go true q = let k = (le-div_iff_mul-le pos).0 (leb-true words ((most - head) / h) q) in sym (le-leb (head + words * h) most (omega arith))
       go false q = let k = (div-lt_iff_lt-mul pos).0 (leb-false words ((most - head) / h) q) in sym (lt-leb (head + words * h) most (omega arith))
 
--- a length and its refusal
+-- the check of a length
 module _ (n room : ℕ) where
-  pub refusal-none : n ≤ 8192 → n ≤ room → 0 ≡ length_refusal n room
-  unfolding length_refusal
-  refusal-none a b = rw (le-leb n 8192 a, le-leb n room b)
+  pub length-ok : n ≤ 8192 → n ≤ room → Ok (tt {0}) ≡ checked_length n room
+  unfolding checked_length
+  length-ok a b = rw (le-leb n 8192 a, le-leb n room b)
 
-  pub refusal-many : 8192 < n → 7 ≡ length_refusal n room
-  unfolding length_refusal
-  refusal-many a = rw (lt-leb n 8192 a)
+  pub length-many : 8192 < n → Err OutOfLimits ≡ checked_length n room
+  unfolding checked_length
+  length-many a = rw (lt-leb n 8192 a)
 
-  pub refusal-room : n ≤ 8192 → room < n → 14 ≡ length_refusal n room
-  unfolding length_refusal
-  refusal-room a b = rw (le-leb n 8192 a, lt-leb n room b)
+  pub length-room : n ≤ 8192 → room < n → Err OutputTooShort ≡ checked_length n room
+  unfolding checked_length
+  length-room a b = rw (le-leb n 8192 a, lt-leb n room b)
 
-  pub not-refused : {no : ℕ} → no ≡ length_refusal n room → no ≡ 0 → (n ≤ 8192) × (n ≤ room)
-  unfolding length_refusal
-  not-refused {no} e z = go (leb n 8192) refl (leb n room) refl (sym e)
+  pub length-fits : {x : Unit {0}} {r : Result (Unit {0}) Refusal} → r ≡ checked_length n room → r ≡ Ok x → (n ≤ 8192) × (n ≤ room)
+  unfolding checked_length
+  length-fits {x} {r} e z = go (leb n 8192) refl (leb n room) refl (sym e ∙ z)
     where
-      go : (b : Bool) → leb n 8192 ≡ b → (c : Bool) → leb n room ≡ c → pick b (pick c 0 14) 7 ≡ no → (n ≤ 8192) × (n ≤ room)
+      go : (b : Bool) → leb n 8192 ≡ b → (c : Bool) → leb n room ≡ c → pick b (pick c (Ok (tt {0})) (Err OutputTooShort)) (Err OutOfLimits) ≡ Ok x → (n ≤ 8192) × (n ≤ room)
       go true p true q e = (leb-true n 8192 p, leb-true n room q)
-      go true p false q e = absurd (omega arith)
-      go false p c q e = absurd (omega arith)
+      go true p false q e = absurd (clash cc)
+      go false p c q e = absurd (clash cc)
 
-pub refused-many : (n : ℕ) {no : ℕ} → no ≡ length_refusal n 8192 → (no ≡ 0 → ⊥) → 8192 < n
-refused-many n e z = go (leb n 8192) refl
+pub length-over : (n : ℕ) {k : Refusal} {r : Result (Unit {0}) Refusal} → r ≡ checked_length n 8192 → r ≡ Err k → (8192 < n) × (k ≡ OutOfLimits)
+unfolding checked_length
+length-over n {k} {r} e z = go (leb n 8192) refl (sym e ∙ z)
   where
-    go : (b : Bool) → leb n 8192 ≡ b → 8192 < n
-    go true q = let l = leb-true n 8192 q in absurd (z (e ∙ sym (refusal-none n 8192 l l)))
-    go false q = leb-false n 8192 q
+    go : (b : Bool) → leb n 8192 ≡ b → pick b (pick b (Ok (tt {0})) (Err OutputTooShort)) (Err OutOfLimits) ≡ Err k → (8192 < n) × (k ≡ OutOfLimits)
+    go true q e = absurd (clash cc)
+    go false q e = (leb-false n 8192 q, cc)
 
-pub always-short : (p : Plan) (row marks : List ℕ) (i head room words l : ℕ) → words ≡ length row - i → l ≡ most p → leb (head + words * half l) (min room 8192) ≡ true
-    → 0 ≡ length_refusal (head + sizes p (items (drop i row) (drop i marks))) room
-always-short p row marks i head room words l e f q =
-    let s : sizes p (items (drop i row) (drop i marks)) ≤ words * half l = rw (f, e, ← length-drop i row) (sizes-short p (drop i row) (drop i marks)) in
-    let t = leb-true (head + words * half l) (min room 8192) q in
-    refusal-none (head + sizes p (items (drop i row) (drop i marks))) room (omega arith) (omega arith)
+-- how many words a head and a job make at most
+module _ (j : Job) (head : ℕ) where
+  few-words : head + job_size j ≤ most_words head j
+  few-words =
+      let h : job_size j ≤ (length j.source.row.now - j.from) * half (most (job_plan j)) = rw (← length-drop j.from j.source.row.now) (sizes-short (job_plan j) (drop j.from j.source.row.now) (drop j.from j.source.marks.now)) in
+      omega arith
 
-pub work-short : (p : Plan) (row marks : List ℕ) (i head room words : ℕ) → words ≡ length row - i → pick (leb (head + words * half (most p)) (min room 8192)) false (leb (head + words * half (most p)) 32768) ≡ true
-    → head + sizes p (items (drop i row) (drop i marks)) ≤ 32768
-work-short p row marks i head room words e q =
-    let s : sizes p (items (drop i row) (drop i marks)) ≤ words * half (most p) = rw (e, ← length-drop i row) (sizes-short p (drop i row) (drop i marks)) in
-    let t = leb-true (head + words * half (most p)) 32768 (go (leb (head + words * half (most p)) (min room 8192)) _ q) in
-    omega arith
-  where
-    go : (b c : Bool) → pick b false c ≡ true → c ≡ true
-    go true c q = absurd (clash cc)
-    go false c q = q
+  pub always-short : (room n l : ℕ) → n ≡ length j.source.row.now - j.from → l ≡ most (job_plan j) → leb (head + n * half l) (min room 8192) ≡ true → Ok (tt {0}) ≡ checked_length (head + job_size j) room
+  always-short room n l e f q =
+      let t = leb-true (most_words head j) (min room 8192) (rw (e, f) at q) in
+      let w = few-words in
+      length-ok (head + job_size j) room (omega arith) (omega arith)
+
+  pub work-short : (room : ℕ) → (not (leb (most_words head j) (min room 8192)) && leb (most_words head j) 32768) ≡ true → head + job_size j ≤ 32768
+  work-short room q =
+      let t = leb-true (most_words head j) 32768 (and_right (not (leb (most_words head j) (min room 8192))) (leb (most_words head j) 32768) q) in
+      let w = few-words in
+      omega arith

@@ -15,3 +15,4 @@ pub mod OkLaws
 pub mod InsideLaws
 pub mod SmallLaws
 pub mod PartialLaws
+pub mod StoreLaws

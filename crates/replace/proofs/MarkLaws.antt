@@ -3,9 +3,9 @@ use mathlib.Core.Path.{◌≡◌, refl, ap, sym, ◌∙◌}
 use mathlib.Core.Bool.{Bool}
 use mathlib.Core.List.{List, [], ◌∷◌, ◌++◌, append_assoc, append-nil}
 use mathlib.Core.Option.{Option, none as absent, some}
-use Prim.Native.Nat.{ℕ, zero, suc, ◌+◌, ◌-◌, ◌≤◌, ◌<◌}
+use Prim.Native.Nat.{ℕ, zero, suc, ◌+◌, ◌-◌, ◌≤◌}
 use native.Mathlib.Omega.{arith}
-use lib.ListN.{length, get_or, take, drop, set, replicate, length-append, length-replicate, length-drop, take-append-drop}
+use lib.ListN.{length, take, drop, replicate, length-append, length-replicate, length-drop, take-append-drop}
 use lib.Seq.{take_at, drop_at, take-append-le, length-take-le, take_all}
 use Rattle.tree.specs.Form.{Form, encode}
 use Rattle.form.specs.Decode.{Found, found, missing, form_of}
@@ -14,7 +14,6 @@ use Rattle.reader.specs.Internal.Reads.{mark, Marked, mark_place, mark_entry, ma
 use Rattle.form.specs.declared.answer.Kind.{Kind}
 use Rattle.form.specs.declared.answer.ListKind.{ListKind}
 use Rattle.reader.specs.declared.lists.Table.{Table}
-use Rattle.form.proofs.HeadLaws.{here, gone}
 use Rattle.form.proofs.ListLaws.{list-sound}
 use Rattle.shift.specs.Internal.Items.{Fresh, items, store}
 use Rattle.shift.specs.declared.items.Item.TheVariants.{Plain, Ident}
@@ -25,18 +24,6 @@ use Rattle.shift.proofs.RowLaws.{zeros, marks_of, zeros-append, zeros-length, ma
 pub zeros-are : (l : List ℕ) → replicate (length l) 0 ≡ zeros l
 zeros-are [] = refl
 zeros-are (w ∷ l) = ap (λ z. 0 ∷ z) (zeros-are l)
-
--- one more word cleared
-pub clear-more : (l l' : List ℕ) (at i n : ℕ) → i < n → l' ≡ set l (at + i) 0 → store l (at + i) (replicate (n - i) 0) ≡ store l' (at + (i + 1)) (replicate (n - (i + 1)) 0)
-unfolding store
-clear-more l l' at i n h e =
-    let a : n - i ≡ suc (n - (i + 1)) = omega arith in
-    let b : at + (i + 1) ≡ at + i + 1 = omega arith in
-    rw (a, b, e)
-
-pub clear_none : (l : List ℕ) (at i n : ℕ) → n ≤ i → store l (at + i) (replicate (n - i) 0) ≡ l
-unfolding store
-clear_none l at i n h = let a : n - i ≡ 0 = omega arith in rw a
 
 -- a form's marks at the start of a row
 front-mark : (f : Form) (b : List ℕ) → mark f 0 0 (zeros (encode f) ++ b) ≡ marks_of 0 f ++ b
@@ -156,17 +143,6 @@ front_kept o a ys b n e h k = (rw (take-append-le n ys b (omega arith)) k, drop_
 pub listing-kept : (kind : ListKind) (list l l' : List ℕ) (t u : Table) (ok : Bool) → drop 8192 l' ≡ drop 8192 l → Listing (list_of kind list) t u (replicate (length list) 0) (take (length list) (drop 8192 l)) ok
     → Listing (list_of kind list) t u (replicate (length list) 0) (take (length list) (drop 8192 l')) ok
 listing-kept kind list l l' t u ok e h = rw e h
-
--- one more word copied
-pub copy_more : (ws l l' : List ℕ) (at i : ℕ) → i < length ws → l' ≡ set l (at + i) (get_or ws i 0) → store l (at + i) (drop i ws) ≡ store l' (at + (i + 1)) (drop (i + 1) ws)
-unfolding store
-copy_more ws l l' at i h e =
-    let b : at + (i + 1) ≡ at + i + 1 = omega arith in
-    rw (b, here ws i h, e)
-
-pub copy-none : (ws l : List ℕ) (at i : ℕ) → length ws ≤ i → store l (at + i) (drop i ws) ≡ l
-unfolding store
-copy-none ws l at i h = rw (gone ws i h)
 
 -- marks past the row's end say nothing
 pub items-take : (ws ms : List ℕ) → items ws (take (length ws) ms) ≡ items ws ms

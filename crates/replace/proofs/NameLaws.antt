@@ -24,6 +24,15 @@ unfolding kept_words
 kept-no zero n e = absurd (e refl)
 kept-no (suc w) n e = refl
 
+-- one name stored, or not
+pub kept-put : (w n : ℕ) (l l' : List ℕ) (p q : ℕ) → w ≡ 0 → l' ≡ set l p n → q ≡ p + 1 → (l' ≡ store l p (kept_words (w ∷ []) (n ∷ []))) × (q ≡ p + length (kept_words (w ∷ []) (n ∷ [])))
+unfolding store
+kept-put w n l l' p q e a b = rw (kept-yes w n e) (a, b)
+
+pub kept-pass : (w n : ℕ) (l l' : List ℕ) (p q : ℕ) → (w ≡ 0 → ⊥) → l' ≡ l → q ≡ p → (l' ≡ store l p (kept_words (w ∷ []) (n ∷ []))) × (q ≡ p + length (kept_words (w ∷ []) (n ∷ [])))
+unfolding store
+kept-pass w n l l' p q e a b = rw (kept-no w n e) (a, omega arith)
+
 kept_word : (w n : ℕ) (ws ns : List ℕ) → kept_words (w ∷ ws) (n ∷ ns) ≡ kept_words (w ∷ []) (n ∷ []) ++ kept_words ws ns
 unfolding kept_words
 kept_word zero n ws ns = refl

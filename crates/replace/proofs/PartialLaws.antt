@@ -23,7 +23,7 @@ use Rattle.rules.proofs.OkLaws.{ok-deep}
 use Rattle.rules.specs.Partial.{join_with, put_round}
 use Rattle.replace.specs.Internal.Partial.{joins, inner_end, inner_names, inner_start, Inner, partial_head, partial_words, head_fits, partial_row}
 use native.Mathlib.Omega.{arith}
-use Rattle.form.specs.Answer.{refusal}
+use Rattle.form.specs.Answer.{stop}
 use Rattle.form.specs.declared.answer.Kind.TheVariants.{Predicate}
 use Rattle.reader.specs.declared.lists.Table.{Table}
 use Rattle.rules.specs.Split.{is_nil}
@@ -31,6 +31,7 @@ use Rattle.rules.proofs.WalkLaws.{and_left, and_right}
 use Rattle.replace.proofs.ReadyLaws.{ready-is}
 use Rattle.shift.specs.Internal.Items.{store}
 use Rattle.shift.proofs.ItemLaws.{store-append}
+use Rattle.form.specs.declared.answer.Refusal.TheVariants.{OutOfLimits}
 
 -- a node with another tag does not join
 join-not : (t u : ℕ) (ns : List Decl) (o ds : List ℕ) (ks : Forms) → eqb u t ≡ false → join_with t ns (node u o ds ks) (quantified (node u o ds ks)) ≡ quantify_decls t ns (node u o ds ks)
@@ -252,7 +253,7 @@ head-fits t front stay row i h k = rw (le-leb (length front) 32 h, le-leb (lengt
 -- the row that is written
 module _ (sure : Bool) (t : ℕ) (front stay : List ℕ) (tb : Table) (d : ℕ) (list lm row marks : List ℕ) (room : ℕ) where
   module _ (from : ℕ) (e : from ≡ inner_end t front stay row) where
-    pub partial-not : head_fits (length front) (length stay) from (length row) ≡ false → partial_row sure t front stay tb d list lm row marks room ≡ refusal 7
+    pub partial-not : head_fits (length front) (length stay) from (length row) ≡ false → partial_row sure t front stay tb d list lm row marks room ≡ stop OutOfLimits
     unfolding partial_row
     partial-not q = rw (← e, q)
 

@@ -1,11 +1,17 @@
 -- The loops over a plan's pieces: searches in the table, lengths, and the words stored one piece after another. Assumes nothing.
 use mathlib.Core.Path.{◌≡◌, refl, ap, sym, ◌∙◌}
-use mathlib.Core.Bool.{Bool, true, false}
+use mathlib.Core.Bool.{Bool, true, false, not}
+use mir.Val.{bool_byte}
+use Rattle.std.specs.Prelude.{Option, Some, None, cond, position}
+use Rattle.std.specs.Option.{unwrap_or}
+use Rattle.std.specs.List.{position_or_len}
+use Rattle.std.proofs.lemmas.List.Recursion.{is_position_or_len}
+use Rattle.std.proofs.lemmas.List.Sums.{prefix_len-le-length}
 use mathlib.Core.List.{List, [], ◌∷◌}
 use Prim.Native.Nat.{ℕ, zero, suc, ◌+◌, ◌-◌, ◌≤◌, ◌<◌}
 use native.Mathlib.Nat.{add-zero, le_refl}
 use native.Mathlib.Omega.{arith}
-use borrow.Author.Tests.{le-leb, lt-leb, leb-true, leb-false, le-ltb, eq-eqb, ne_eqb}
+use borrow.Author.Tests.{ltb-false, le-leb, lt-leb, leb-true, leb-false, le-ltb, ne_eqb}
 use lib.Dec.{leb, ltb, eqb}
 use lib.ListN.{length, get_or, take, drop, length-append, length-drop}
 use lib.Seq.{length-take-le}
@@ -22,32 +28,33 @@ use Rattle.replace.specs.declared.pieces.Piece.TheVariants.{Same, Index, Part}
 use Rattle.replace.specs.declared.pieces.Plan.{Plan}
 
 -- a name in the table, and the filled places
-module _ (ns : List ℕ) (m i : ℕ) where
-  pub spot-here : i < length ns → get_or ns i 0 ≡ m → spot m (drop i ns) ≡ 0
-  unfolding spot
-  spot-here low e = rw (here ns i low, eq-eqb (get_or ns i 0) m e)
+spot-step : (b : Bool) (n : ℕ) → pick b 0 (suc n) ≡ cond b 0 (1 + n)
+spot-step true n = refl
+spot-step false n = omega arith
 
-  pub spot_on : i < length ns → (get_or ns i 0 ≡ m → ⊥) → i + spot m (drop i ns) ≡ i + 1 + spot m (drop (i + 1) ns)
-  unfolding spot
-  spot_on low e = rw (here ns i low, ne_eqb (get_or ns i 0) m e) (omega arith)
+spot-place : (m : ℕ) (ns : List ℕ) → spot m ns ≡ position_or_len (λ n. eqb n m) ns
+unfolding spot
+spot-place m ns = is_position_or_len (λ ns. spot m ns) (λ n. eqb n m) refl (λ n ns. spot-step (eqb n m) (spot m ns)) ns
 
-  pub spot-end : length ns ≤ i → spot m (drop i ns) ≡ 0
-  unfolding spot
-  spot-end h = rw (gone ns i h)
+or-end : (k n : ℕ) → k ≤ n → unwrap_or (cond (ltb k n) (Some k) None) n ≡ k
+or-end k n h = go (ltb k n) refl
+  where
+    go : (b : Bool) → ltb k n ≡ b → unwrap_or (cond b (Some k) None) n ≡ k
+    go true q = refl
+    go false q = let l = ltb-false k n q in omega arith
+
+pub spot-or-end : (ns : List ℕ) (m : ℕ) (r : Option ℕ) → r ≡ position (λ n. eqb n m) ns → unwrap_or r (length ns) ≡ spot m ns
+spot-or-end ns m r e = rw e (or-end (position_or_len (λ n. eqb n m) ns) (length ns) (prefix_len-le-length _ ns) ∙ sym (spot-place m ns))
+
+pub filled-byte : (w : ℕ) → bool_byte (not (eqb w 0)) ≡ filled_words (w ∷ [])
+unfolding filled_words
+filled-byte zero = refl
+filled-byte (suc w) = rw (ne_eqb (suc w) 0 (λ z. omega arith))
 
 pub filled-word : (w : ℕ) (ws : List ℕ) → filled_words (w ∷ ws) ≡ filled_words (w ∷ []) + filled_words ws
 unfolding filled_words
 filled-word zero ws = omega arith
 filled-word (suc w) ws = omega arith
-
-pub filled_zero : (w : ℕ) → w ≡ 0 → filled_words (w ∷ []) ≡ 0
-unfolding filled_words
-filled_zero w e = rw e
-
-pub filled-one : (w : ℕ) → (w ≡ 0 → ⊥) → filled_words (w ∷ []) ≡ 1
-unfolding filled_words
-filled-one zero n = absurd (n refl)
-filled-one (suc w) n = refl
 
 pub filled-few : (w : ℕ) → filled_words (w ∷ []) ≤ 1
 unfolding filled_words

@@ -1,40 +1,21 @@
 -- A table whose parts stand in the list row, as the code tests it. Assumes nothing.
-use mathlib.Core.Path.{◌≡◌, refl, ap, sym, ◌∙◌}
+use mathlib.Core.Path.{◌≡◌, refl, sym}
 use mathlib.Core.Bool.{Bool, true, false, ◌&&◌}
 use mathlib.Core.List.{List, []}
-use Prim.Native.Nat.{ℕ, zero, suc, ◌-◌, ◌≤◌, ◌<◌}
+use Prim.Native.Nat.{ℕ, zero, suc, ◌+◌, ◌≤◌, ◌<◌}
+use native.Mathlib.Numerals.{add-one}
 use native.Mathlib.Omega.{arith}
 use borrow.Author.Tests.{le-leb, lt-leb, leb-true}
 use lib.Dec.{leb, eqb}
 use borrow.Author.Tests.{eqb-true, eqb-false}
 use lib.ListN.{length, get_or, take}
-use Rattle.form.specs.Answer.{refusal}
+use Rattle.form.specs.Answer.{stop}
 use Rattle.form.specs.declared.answer.Kind.{Kind}
 use Rattle.form.specs.declared.answer.Kind.TheVariants.{Predicate}
 use Rattle.reader.specs.declared.lists.Table.{Table}
 use Rattle.rules.proofs.WalkLaws.{and_left, and_right}
-use Rattle.replace.specs.Internal.Pieces.{filled_words, InRow, Ready, replaced, free_plan, parts_in, ready_parts, is_ready, down_plan, placed_row, freed_row}
-
--- one part more, from the last to the first
-module _ (s e : List ℕ) (w i : ℕ) (h : 0 < i) where
-  last-part : parts_in s e w i ≡ (leb (get_or s (i - 1) 0) (get_or e (i - 1) 0) && (leb (get_or e (i - 1) 0) w && parts_in s e w (i - 1)))
-  unfolding parts_in
-  last-part = let n : i ≡ suc (i - 1) = omega arith in ap (λ (k : ℕ). parts_in s e w k) n
-
-  pub parts-turned : get_or e (i - 1) 0 < get_or s (i - 1) 0 → parts_in s e w i ≡ false
-  parts-turned a = last-part ∙ rw (lt-leb (get_or s (i - 1) 0) (get_or e (i - 1) 0) a)
-
-  module _ (a : get_or s (i - 1) 0 ≤ get_or e (i - 1) 0) where
-    pub parts-outside : w < get_or e (i - 1) 0 → parts_in s e w i ≡ false
-    parts-outside b = last-part ∙ rw (le-leb (get_or s (i - 1) 0) (get_or e (i - 1) 0) a, lt-leb (get_or e (i - 1) 0) w b)
-
-    pub parts_more : get_or e (i - 1) 0 ≤ w → parts_in s e w i ≡ parts_in s e w (i - 1)
-    parts_more b = last-part ∙ rw (le-leb (get_or s (i - 1) 0) (get_or e (i - 1) 0) a, le-leb (get_or e (i - 1) 0) w b)
-
-pub parts_none : (s e : List ℕ) (w i : ℕ) → i ≤ 0 → parts_in s e w i ≡ true
-unfolding parts_in
-parts_none s e w zero h = refl
-parts_none s e w (suc i) h = absurd (omega arith)
+use Rattle.replace.specs.Internal.Pieces.{filled_words, InRow, Ready, replaced, free_plan, parts_in, Rows, is_ready, down_plan, placed_row, freed_row}
+use Rattle.form.specs.declared.answer.Refusal.TheVariants.{OutOfLimits}
 
 -- the test and what it tests
 abbrev Inside : List ℕ → List ℕ → ℕ → ℕ → Type 0
@@ -61,21 +42,37 @@ inside-parts s e w (suc n) h =
     let x = h n (omega arith) in
     rw (le-leb (get_or s n 0) (get_or e n 0) x.0, le-leb (get_or e n 0) w x.1) (inside-parts s e w n (λ i k. h i (omega arith)))
 
-module _ (n : ℕ) (s e : List ℕ) (w m : ℕ) where
-  pub test-many : 32 < n → false ≡ ready_parts n s e w m
-  test-many h = rw (lt-leb n 32 h)
+-- the test, part after part
+module _ (s e : List ℕ) (w : ℕ) where
+  pub parts-first : parts_in s e w 0 ≡ true
+  unfolding parts_in
+  parts-first = refl
 
-  module _ (few : n ≤ 32) where
-    pub test_short : m < w → false ≡ ready_parts n s e w m
-    test_short k = rw (le-leb n 32 few, lt-leb w m k)
+  pub parts-next : (i : ℕ) → get_or s i 0 ≤ get_or e i 0 → get_or e i 0 ≤ w → parts_in s e w i ≡ true → parts_in s e w (i + 1) ≡ true
+  unfolding parts_in
+  parts-next i a b q = rw (add-one, le-leb (get_or s i 0) (get_or e i 0) a, le-leb (get_or e i 0) w b) q
 
-    pub test_parts : w ≤ m → parts_in s e w n ≡ ready_parts n s e w m
-    test_parts k = rw (le-leb n 32 few, le-leb w m k)
+  pub parts-no : (n i : ℕ) → i < n → (Inside s e w i → ⊥) → parts_in s e w n ≡ false
+  parts-no n i low f = go (parts_in s e w n) refl
+    where
+      go : (b : Bool) → parts_in s e w n ≡ b → parts_in s e w n ≡ false
+      go true q = absurd (f (parts-inside s e w n q i low))
+      go false q = q
 
+-- a table whose parts stand in the list row, as the code tests it
 module _ (t : Table) (list lm : List ℕ) where
-  pub ready-test : (b c : Bool) → b ≡ ready_parts t.n t.starts t.ends (length list) (length lm) → b ≡ c → is_ready t list lm ≡ c
+  pub test-many : 32 < t.n → false ≡ is_ready t list lm
   unfolding is_ready
-  ready-test b c e h = sym e ∙ h
+  test-many h = rw (lt-leb t.n 32 h)
+
+  module _ (few : t.n ≤ 32) where
+    pub test_short : length lm < length list → false ≡ is_ready t list lm
+    unfolding is_ready
+    test_short k = rw (le-leb t.n 32 few, lt-leb (length list) (length lm) k)
+
+    pub test_parts : length list ≤ length lm → parts_in t.starts t.ends (length list) t.n ≡ is_ready t list lm
+    unfolding is_ready
+    test_parts k = rw (le-leb t.n 32 few, le-leb (length list) (length lm) k)
 
   pub full-ready : is_ready t list lm ≡ true → (t.n ≤ 32) × (length list ≤ length lm) × ((i : ℕ) → i < t.n → Inside t.starts t.ends (length list) i)
   unfolding is_ready
@@ -92,16 +89,16 @@ module _ (t : Table) (list lm : List ℕ) where
   ready-full few long inside = rw (le-leb t.n 32 few, le-leb (length list) (length lm) long) (inside-parts t.starts t.ends (length list) t.n inside)
 
   module _ (d : ℕ) where
-    pub is-ready : is_ready t list lm ≡ true → length t.words ≡ 32 → length t.starts ≡ 32 → length t.ends ≡ 32 → Ready (down_plan t d) list lm
+    pub is-ready : is_ready t list lm ≡ true → Rows t → Ready (down_plan t d) list lm
     unfolding InRow
-    is-ready q a b c = let (few, long, inside) = full-ready q in record { tabled = record { few = few; words = a; starts = b; ends = c }; in_row = inside; marked = long }
+    is-ready q r = let (few, long, inside) = full-ready q in record { tabled = record { few = few; words = r.0; starts = r.1; ends = r.2 }; in_row = inside; marked = long }
 
     pub ready-is : Ready (down_plan t d) list lm → is_ready t list lm ≡ true
     unfolding InRow
     ready-is r = ready-full r.tabled.few r.marked r.in_row
 
     module _ (sure : Bool) (head row marks : List ℕ) (room : ℕ) where
-      pub placed-not : is_ready t list lm ≡ false → placed_row sure head t d list lm row marks room ≡ refusal 7
+      pub placed-not : is_ready t list lm ≡ false → placed_row sure head t d list lm row marks room ≡ stop OutOfLimits
       unfolding placed_row
       placed-not q = rw q
 
@@ -110,12 +107,12 @@ module _ (t : Table) (list lm : List ℕ) where
       unfolding placed_row
       placed-ready q g e = rw (q, e)
 
-  pub free-ready : is_ready t list lm ≡ true → length t.words ≡ 32 → length t.starts ≡ 32 → length t.ends ≡ 32 → Ready (free_plan t) list lm
+  pub free-ready : is_ready t list lm ≡ true → Rows t → Ready (free_plan t) list lm
   unfolding InRow
-  free-ready q a b c = let (few, long, inside) = full-ready q in record { tabled = record { few = few; words = a; starts = b; ends = c }; in_row = inside; marked = long }
+  free-ready q r = let (few, long, inside) = full-ready q in record { tabled = record { few = few; words = r.0; starts = r.1; ends = r.2 }; in_row = inside; marked = long }
 
   module _ (sure : Bool) (kind : Kind) (row marks : List ℕ) (room : ℕ) where
-    pub freed-not : is_ready t list lm ≡ false → freed_row sure kind t list lm row marks room ≡ refusal 7
+    pub freed-not : is_ready t list lm ≡ false → freed_row sure kind t list lm row marks room ≡ stop OutOfLimits
     unfolding freed_row
     freed-not q = rw q
 

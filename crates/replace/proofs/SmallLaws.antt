@@ -11,13 +11,13 @@ use lib.Dec.{leb, eqb}
 use lib.ListN.{length, get_or, take, drop, length-map, take-append-drop}
 use Rattle.tree.specs.Form.{Form, leaf, node, noted, free, bound, pick, encode}
 use Rattle.tree.specs.Tag.{expr}
+use Rattle.form.specs.Answer.{is_one}
 use Rattle.form.specs.Decode.{got, decode, Whole, one, not-one, whole}
 use Rattle.form.specs.Lists.{Place, kept, filled, Entry, entry, place_of, place_words, list_of}
 use Rattle.reader.specs.Internal.Reads.{Told, decode_in, empty_table, tabled}
+use Rattle.reader.specs.declared.lists.Table.{Table}
 use Rattle.form.specs.declared.answer.ListKind.{ListKind}
 use Rattle.form.specs.declared.answer.ListKind.TheVariants.{Pairs, Places}
-use Rattle.form.specs.declared.head.Step.{Step}
-use Rattle.form.specs.declared.head.Step.TheVariants.{End, Bad}
 use Rattle.form.proofs.DecodeLaws.{clash, Ok, decode-encode}
 use Rattle.reader.proofs.ReaderLaws.{in-decode}
 use Rattle.reader.proofs.CheckLaws.{read-bad, read_whole, read-part}
@@ -30,6 +30,7 @@ use Rattle.replace.specs.Internal.Pieces.{part, deep_part, deep_at, next_depth, 
 use Rattle.rules.proofs.OkLaws.{ok-deep}
 use Rattle.replace.proofs.EntryLaws.{listed-part}
 use Rattle.replace.proofs.InsideLaws.{Small, SmallPlace, SmallPlaces, small-split, small-places}
+use Rattle.std.specs.Prelude.{Some, None, Option}
 
 -- the first depth at which a test holds
 record Depth (from : ℕ) (test : ℕ → Bool) (r : ℕ) : Type 0 where
@@ -141,21 +142,21 @@ unfolding next_depth
 next-is d m e = (rw e refl, omega arith)
 
 -- a row by the reader's answer
-module _ (d : ℕ) (most : d ≤ 64) (ws a b : List ℕ) (r : Step) (t : Told 0 0 (decode_in d 0 expr ws) a b r) where
+module _ (d : ℕ) (most : d ≤ 64) (ws a b : List ℕ) (r : Option ℕ) (t : Told 0 0 (decode_in d 0 expr ws) a b r) where
   plain : Told 0 0 (decode d expr ws) a b r
   plain = rw (in-decode expr ws d 0 (omega arith) (omega arith)) at t
 
-  pub deep-bad : r ≡ Bad → false ≡ deep_part d ws
+  pub deep-bad : r ≡ None → false ≡ deep_part d ws
   unfolding deep_part
   deep-bad e = rw (read-bad d expr ws a b r plain e)
 
-  pub deep-rest : (p : ℕ) → r ≡ End p → (p ≡ length ws → ⊥) → false ≡ deep_part d ws
+  pub deep-end : (p : ℕ) → r ≡ Some p → eqb p (length ws) ≡ deep_part d ws
   unfolding deep_part
-  deep-rest p e n = rw (read-part d expr ws a b r plain p e n)
-
-  pub deep-whole : (p : ℕ) → r ≡ End p → p ≡ length ws → true ≡ deep_part d ws
-  unfolding deep_part
-  deep-whole p e q = let (f, w, m) = read_whole d expr ws a b r plain p e q in rw w
+  deep-end p e = go (eqb p (length ws)) refl
+    where
+      go : (b : Bool) → eqb p (length ws) ≡ b → b ≡ is_one (whole (decode d expr ws))
+      go true q = let (f, w, m) = read_whole d expr ws a b r plain p e (eqb-true p (length ws) q) in rw w
+      go false q = rw (read-part d expr ws a b r plain p e (eqb-false p (length ws) q))
 
 -- a form's row that is one expression so deep
 deep-form : (d : ℕ) (ws : List ℕ) → deep_part d ws ≡ true → (f : Form) × (ws ≡ encode f) × Ok d expr f
@@ -242,9 +243,6 @@ module _ (starts ends list : List ℕ) where
       let g = first-and (λ k. deep_parts k starts ends i list) (λ k. deep_at k (get_or starts i 0) (get_or ends i 0) list) (λ x y h z. parts-grow i x y h z) 65 65 1 (omega arith) (omega arith) in
       rw add-one (q ∙ rw e (sym g))
 
-  pub parts_all : (i n d : ℕ) → d ≡ depth_from 1 (λ k. deep_parts k starts ends i list) → i ≤ n → n ≤ i → d ≡ depth_from 1 (λ k. deep_parts k starts ends n list)
-  parts_all i n d e h k = let z : i ≡ n = omega arith in rw z at e
-
 -- the depth that is left
 pub depth-most : (test : ℕ → Bool) (from d : ℕ) → d ≡ depth_from from test → d ≤ 65
 depth-most test from d e = rw e (first-is 65 from test).most
@@ -264,30 +262,31 @@ module _ (row : List ℕ) where
       let x = left_by (λ d. deep_part d row) (all_below 63488 row) r e in
       record { most = x.0; words = λ h. (x.1 h).0; deep = λ h. (x.1 h).1 }
 
--- a form at most r deep stays one if the first n parts are put into it
-pub record LeavesBy (starts ends : List ℕ) (n : ℕ) (list : List ℕ) (r : ℕ) : Type 0 where
+-- a form at most r deep stays one if the table's parts are put into it
+pub record LeavesBy (t : Table) (list : List ℕ) (r : ℕ) : Type 0 where
   pub most : r ≤ 64
   pub words : 0 < r → all_below 63488 list ≡ true
-  pub each : 0 < r → (i : ℕ) → i < n → deep_at (65 - r) (get_or starts i 0) (get_or ends i 0) list ≡ true
+  pub each : 0 < r → (i : ℕ) → i < t.n → deep_at (65 - r) (get_or t.starts i 0) (get_or t.ends i 0) list ≡ true
 
-module _ (starts ends : List ℕ) (n : ℕ) (list : List ℕ) where
-  pub left-many : 32 < n → 0 ≡ depth_left_by starts ends n list
+module _ (t : Table) (list : List ℕ) where
+  pub left-many : 32 < t.n → 0 ≡ depth_left_by t list
   unfolding depth_left_by
-  left-many h = rw (lt-leb n 32 h)
+  left-many h = rw (lt-leb t.n 32 h)
 
-  pub left-high : n ≤ 32 → false ≡ all_below 63488 list → 0 ≡ depth_left_by starts ends n list
-  unfolding depth_left_by
-  left-high h e = rw (le-leb n 32 h, ← e)
+  module _ (few : t.n ≤ 32) where
+    pub left-high : false ≡ all_below 63488 list → 0 ≡ depth_left_by t list
+    unfolding depth_left_by
+    left-high e = rw (le-leb t.n 32 few, ← e)
 
-  pub left-parts : (d : ℕ) → n ≤ 32 → true ≡ all_below 63488 list → d ≡ depth_from 1 (λ d. deep_parts d starts ends n list) → 65 - d ≡ depth_left_by starts ends n list
-  unfolding depth_left_by
-  left-parts d h e q = rw (le-leb n 32 h, ← e, ← q)
+    pub left-parts : (d : ℕ) → true ≡ all_below 63488 list → d ≡ depth_from 1 (λ d. deep_parts d t.starts t.ends t.n list) → 65 - d ≡ depth_left_by t list
+    unfolding depth_left_by
+    left-parts d e q = rw (le-leb t.n 32 few, ← e, ← q)
 
-  pub leaves_by : (r : ℕ) → r ≡ depth_left_by starts ends n list → LeavesBy starts ends n list r
+  pub leaves_by : (r : ℕ) → r ≡ depth_left_by t list → LeavesBy t list r
   unfolding depth_left_by
   leaves_by r e =
-      let x = left_by (λ d. deep_parts d starts ends n list) (leb n 32 && all_below 63488 list) r e in
-      record { most = x.0; words = λ h. and_right (leb n 32) (all_below 63488 list) (x.1 h).0; each = λ h i l. parts-each starts ends list (65 - r) n (x.1 h).1 i l }
+      let x = left_by (λ d. deep_parts d t.starts t.ends t.n list) (leb t.n 32 && all_below 63488 list) r e in
+      record { most = x.0; words = λ h. and_right (leb t.n 32) (all_below 63488 list) (x.1 h).0; each = λ h i l. parts-each t.starts t.ends list (65 - r) t.n (x.1 h).1 i l }
 
 -- a form's row that is small
 pub small-form : (m : ℕ) (x : Form) → Ok 64 expr x → m ≤ 63 → deep_part (suc m) (encode x) ≡ true → all_below 63488 (encode x) ≡ true → Small m x
@@ -342,7 +341,7 @@ place-small : (m s e : ℕ) (l : List ℕ) (p : Place) → OkPlace p → m ≤ 6
 place-small m s e l kept ok k w h y = tt
 place-small m s e l (filled x) ok k w h y = at_small m s e l x ok k w h y
 
-pub listed_small : (kind : ListKind) (list : List ℕ) (es : List Entry) → list_of kind list ≡ some es → length es ≤ 32 → (r : ℕ) → LeavesBy (tabled es 0 empty_table).starts (tabled es 0 empty_table).ends (tabled es 0 empty_table).n list r → 0 < r → SmallPlaces (64 - r) (map place_of es)
+pub listed_small : (kind : ListKind) (list : List ℕ) (es : List Entry) → list_of kind list ≡ some es → length es ≤ 32 → (r : ℕ) → LeavesBy (tabled es 0 empty_table) list r → 0 < r → SmallPlaces (64 - r) (map place_of es)
 listed_small kind list es is few r y some_left = small-places (64 - r) (map place_of es) (λ i h. each i (rw (length-map es place_of) at h))
   where
     each : (i : ℕ) → i < length es → SmallPlace (64 - r) (get_or (map place_of es) i kept)

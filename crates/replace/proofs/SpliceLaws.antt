@@ -74,11 +74,11 @@ apart-one lo w zero ms = refl
 apart-one lo w (suc k) ms = refl
 
 module _ (lo : ℕ) (row marks : List ℕ) (i : ℕ) (z b : Bool) (e : z ≡ (b && apart lo (drop i row) (drop i marks))) where
-  pub pairs-more : i + 1 < length row → i + 1 < length marks → z ≡ (pick (pair_ok lo (get_or marks i 0) (get_or marks (i + 1) 0)) b false && apart lo (drop (i + 1) row) (drop (i + 1) marks))
+  pub pairs-more : i + 1 < length row → i + 1 < length marks → z ≡ ((b && pair_ok lo (get_or marks i 0) (get_or marks (i + 1) 0)) && apart lo (drop (i + 1) row) (drop (i + 1) marks))
   pairs-more low marked =
       e ∙ rw (here row i (omega arith), here marks i (omega arith), here row (i + 1) low, here marks (i + 1) marked, apart-pair) (go b (pair_ok lo (get_or marks i 0) (get_or marks (i + 1) 0)) _)
     where
-      go : (a b c : Bool) → (a && (b && c)) ≡ (pick b a false && c)
+      go : (a b c : Bool) → (a && (b && c)) ≡ ((a && b) && c)
       go true true c = refl
       go true false c = refl
       go false true c = refl

@@ -2,3 +2,4 @@
 pub mod Pieces
 pub mod Partial
 pub mod Splice
+pub mod Job

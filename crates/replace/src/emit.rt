@@ -2,48 +2,48 @@
 ghost use Rattle.std.specs.Prelude.{◌≡◌, false, ◌+◌, ◌≤◌, length};
 ghost use Rattle.form.specs.Answer.{told, written};
 ghost use Rattle.shift.specs.Internal.Items.{store};
-ghost use Rattle.replace.specs.Internal.Pieces.{short_words, emitted};
+ghost use Rattle.replace.specs.Internal.Pieces.{fitted, short_words, emitted};
 
-use form::answer::{Answer, Kind, Limit};
+use form::answer::{Answer, Kind, Limit, Refusal};
 
 // The words, stored at `at`.
 pub(crate) fn copy(words: &[u32], out: &mut [u32], at: usize)
     requires { at + length words.now ≤ length out.old }
     ensures { out.new ≡ store out.old at words.now }
 {
-    let mut i = 0;
-    while i < words.len() {
-        out[at + i] = words[i];
-        i += 1;
-    }
+    out[at..at + words.len()].copy_from_slice(words);
 }
 
-// The words as an answer: 7 where they are no form of the kind, 14 where the output row is shorter.
+// The words as an answer, where the output row has room for them.
+fn emit_fitted(words: &[u32], out: &mut [u32]) -> Answer
+    ensures value { result ≡ told (fitted words.now (length out.old)) }
+    ensures out_after { out.new ≡ written (fitted words.now (length out.old)) out.old }
+{
+    if out.len() < words.len() {
+        return Err(Refusal::OutputTooShort);
+    }
+    copy(words, out, 0);
+    Ok(words.len())
+}
+
+// The same, if they are a form of the kind.
 pub(crate) fn emit(kind: Kind, words: &[u32], out: &mut [u32]) -> Answer
     ensures value { result ≡ told (emitted false kind words.now (length out.old)) }
     ensures out_after { out.new ≡ written (emitted false kind words.now (length out.old)) out.old }
 {
     if !reader::check::is_form(words, kind) {
-        return Answer::No(7, 0);
+        return Err(Refusal::OutOfLimits);
     }
-    if out.len() < words.len() {
-        return Answer::No(14, 0);
-    }
-    copy(words, out, 0);
-    Answer::Done(words.len())
+    emit_fitted(words, out)
 }
 
-// The words as an answer, of which only the number is checked.
+// The same, if there are not more than a form has.
 pub(crate) fn emit_short(words: &[u32], out: &mut [u32]) -> Answer
     ensures value { result ≡ told (short_words words.now (length out.old)) }
     ensures out_after { out.new ≡ written (short_words words.now (length out.old)) out.old }
 {
     if Limit::WORDS < words.len() {
-        return Answer::No(7, 0);
+        return Err(Refusal::OutOfLimits);
     }
-    if out.len() < words.len() {
-        return Answer::No(14, 0);
-    }
-    copy(words, out, 0);
-    Answer::Done(words.len())
+    emit_fitted(words, out)
 }

@@ -1,35 +1,19 @@
 // The head of a quantified row: its declarations, and those of them that are kept.
-ghost use Rattle.std.specs.Prelude.{◌≡◌, [], ◌∷◌, ◌+◌, ◌≤◌, ◌<◌, length, take, drop};
+ghost use Rattle.std.specs.Prelude.{◌≡◌, ◌+◌, ◌≤◌, length, take, drop};
 ghost use Rattle.shift.specs.Internal.Items.{store};
-ghost use Rattle.replace.specs.Internal.Pieces.{kept_words, kept_head, declared_in};
+ghost use Rattle.replace.specs.Internal.Pieces.{declared_in, kept_words, kept_head};
 
-// The number of declarations of a row that is a quantified predicate; 0 for any other.
+use tree::tag::Tag;
+
+// The number of declarations of a row that is a quantified predicate without annotations; 0 for any other.
+#[tactic(auto, unfolding(crate::specs::Internal::Pieces::declared_in))]
 pub fn declared(row: &[u32]) -> u32
     ensures { result ≡ declared_in row.now }
 {
-    if row.len() < 2 {
-        return 0;
+    match row {
+        [Tag::FOR_ALL | Tag::EXISTS, n, ..] => *n,
+        _ => 0,
     }
-    if row[0] == 851 {
-        return row[1];
-    }
-    if row[0] == 852 {
-        return row[1];
-    }
-    0
-}
-
-// The name, stored at p if its word is 0: where the next one goes.
-fn put_kept(head: &mut [u32], p: usize, w: u32, name: u32) -> usize
-    requires { p < length head.old }
-    ensures value { result ≡ p + length (kept_words (w ∷ []) (name ∷ [])) }
-    ensures head_after { head.new ≡ store head.old p (kept_words (w ∷ []) (name ∷ [])) }
-{
-    if w == 0 {
-        head[p] = name;
-        return p + 1;
-    }
-    p
 }
 
 // The names of the row whose word is 0, stored from 2 on: where they end.
@@ -39,11 +23,12 @@ fn write_names(words: &[u32], row: &[u32], head: &mut [u32]) -> usize
     ensures value { result ≡ 2 + length (kept_words words.now (drop 2 row.now)) }
     ensures head_after { head.new ≡ store head.old 2 (kept_words words.now (drop 2 row.now)) }
 {
-    let mut i = 0;
     let mut p = 2;
-    while i < words.len() {
-        p = put_kept(head, p, words[i], row[i + 2]);
-        i += 1;
+    for (i, w) in words.iter().enumerate() {
+        if *w == 0 {
+            head[p] = row[i + 2];
+            p += 1;
+        }
     }
     p
 }
@@ -54,13 +39,7 @@ pub fn write_head(words: &[u32], row: &[u32], head: &mut [u32]) -> usize
     ensures upper_bound { result ≤ length head.old }
     ensures head_after { take result head.new ≡ kept_head words.now row.now (length head.old) }
 {
-    if 32 < words.len() {
-        return 0;
-    }
-    if row.len() < 2 + words.len() {
-        return 0;
-    }
-    if head.len() < 2 + words.len() {
+    if 32 < words.len() || row.len() < 2 + words.len() || head.len() < 2 + words.len() {
         return 0;
     }
     let p = write_names(words, row, head);

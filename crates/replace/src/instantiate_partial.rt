@@ -2,13 +2,15 @@
 // is the same.
 ghost use Rattle.std.specs.Prelude.{◌≡◌, ◌&&◌, ◌++◌, ◌+◌, ◌≤◌, leb, length, take};
 ghost use Rattle.form.specs.Answer.{told, written};
-ghost use Rattle.replace.specs.Internal.Pieces.{table_of, head_words};
-ghost use Rattle.replace.specs.Internal.Partial.{inner_end, inner_start, head_fits, partial_row};
+ghost use Rattle.replace.specs.Internal.Pieces.{head_words};
+ghost use Rattle.replace.specs.Internal.Partial.{inner_end, inner_start, head_fits};
+ghost use Rattle.replace.specs.Internal.Job.{partial_source};
 
 use crate::emit::copy;
+use crate::pieces::Source;
 use crate::splice::word_at;
 use crate::tables::fill_places;
-use form::answer::Answer;
+use form::answer::{Answer, Refusal};
 
 // Where the head of the body's own quantifier ends, if its declarations join those in front; else 0.
 fn inner_end(tag: u32, front: &[u32], stay: &[u32], body: &[u32]) -> usize
@@ -30,26 +32,14 @@ fn inner_end(tag: u32, front: &[u32], stay: &[u32], body: &[u32]) -> usize
 fn inner_start(end: usize) -> usize
     ensures { result ≡ inner_start end }
 {
-    if end == 0 {
-        return 0;
-    }
-    2
+    if end == 0 { 0 } else { 2 }
 }
 
 // Whether the names of a head are few enough, and the body's own head lies in it.
 fn has_room(front: usize, stay: usize, from: usize, words: usize) -> bool
     ensures { result ≡ head_fits front stay from words }
 {
-    if 32 < front {
-        return false;
-    }
-    if 32 < stay {
-        return false;
-    }
-    if 34 < from {
-        return false;
-    }
-    from <= words
+    front <= 32 && stay <= 32 && from <= 34 && from <= words
 }
 
 // The head of a quantifier with the names of three rows, none where there is none: its length.
@@ -76,52 +66,29 @@ fn write_head(tag: u32, front: &[u32], stay: &[u32], inner: &[u32], head: &mut [
 fn is_sure_under(h: usize, sure: bool) -> bool
     ensures { result ≡ (leb h 34 && sure) }
 {
-    if 34 < h {
-        return false;
-    }
-    sure
+    h <= 34 && sure
 }
 
-// The declarations in front and those that stay round the body, with the places of a table filled, whose rows are lent and whose expressions
-// are moved down. The result is checked as a form where it is not sure to be one; 7 too where there are more than 32 names of a kind.
+// The declarations in front and those that stay round the source's row, with the places of its table filled, whose expressions are moved down.
+// The result is checked as a form where it is not sure to be one; 7 too where there are more than 32 names of a kind.
 pub fn instantiate_partial(
     tag: u32,
     front: &[u32],
     stay: &[u32],
-    n: usize,
-    words: &[u32; 32],
-    starts: &[usize; 32],
-    ends: &[usize; 32],
+    source: Source,
     down: u32,
     sure: bool,
-    list: &[u32],
-    list_marks: &[u32],
-    row: &[u32],
-    marks: &[u32],
     out: &mut [u32],
 ) -> Answer
-    ensures value { result ≡ told (partial_row sure tag front.now stay.now (table_of n words.now starts.now ends.now) down list.now list_marks.now row.now marks.now (length out.old)) }
-    ensures out_after { out.new ≡ written (partial_row sure tag front.now stay.now (table_of n words.now starts.now ends.now) down list.now list_marks.now row.now marks.now (length out.old)) out.old }
+    ensures value { result ≡ told (partial_source sure tag front.now stay.now source.entry down (length out.old)) }
+    ensures out_after { out.new ≡ written (partial_source sure tag front.now stay.now source.entry down (length out.old)) out.old }
 {
+    let row = source.row;
     let from = inner_end(tag, front, stay, row);
     if !has_room(front.len(), stay.len(), from, row.len()) {
-        return Answer::No(7, 0);
+        return Err(Refusal::OutOfLimits);
     }
     let mut head = [0u32; 98];
     let h = write_head(tag, front, stay, &row[inner_start(from)..from], &mut head);
-    fill_places(
-        &head[..h],
-        n,
-        words,
-        starts,
-        ends,
-        down,
-        is_sure_under(h, sure),
-        list,
-        list_marks,
-        row,
-        marks,
-        from,
-        out,
-    )
+    fill_places(&head[..h], source, from, down, is_sure_under(h, sure), out)
 }

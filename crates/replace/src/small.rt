@@ -2,8 +2,6 @@
 ghost use Rattle.std.specs.Prelude.{◌≡◌, ◌≤◌, length};
 ghost use Rattle.replace.specs.Internal.Pieces.{deep_part, deep_at, depth_from, depth_left, deep_parts, depth_left_by};
 
-use crate::pieces::less;
-use form::head::Step;
 use reader::lists::Table;
 use reader::reader::expr_at;
 use shift::items::all_below;
@@ -27,13 +25,10 @@ fn is_within(row: &[u32], depth: u32) -> bool
     ensures { result ≡ deep_part depth row.now }
 {
     let mut marks = [0u32; 1];
-    let Step::End(p) = expr_at(row, &mut marks, 0, depth, 0) else {
+    let Some(p) = expr_at(row, &mut marks, 0, depth, 0) else {
         return false;
     };
-    if p != row.len() {
-        return false;
-    }
-    true
+    p == row.len()
 }
 
 // The first of `from` and the depths tried after it (1, 2, 3, 5, 9, 17, 33) within which the row is exactly one expression; 65 where none is.
@@ -45,7 +40,7 @@ fn depth_from(row: &[u32], from: u32) -> u32
         if is_within(row, d) {
             return d;
         }
-        d = d + 1 + less(d, 2);
+        d = d + 1 + d.saturating_sub(2);
     }
     Margin::DEPTHS
 }
@@ -64,17 +59,14 @@ fn depth_at(start: usize, end: usize, list: &[u32], from: u32) -> u32
     depth_from(&list[start..end], from)
 }
 
-// The first of 1, 2, 3, 5, 9, 17 and 33 within which each of the first n parts of the list is an expression; 65 where none is.
-fn parts_depth(starts: &[usize], ends: &[usize], n: usize, list: &[u32]) -> u32
-    requires n_in_bounds { n ≤ length starts.now }
-    requires n_in_bounds_2 { n ≤ length ends.now }
-    ensures { result ≡ depth_from 1 (λ d. deep_parts d starts.now ends.now n list.now) }
+// The first of 1, 2, 3, 5, 9, 17 and 33 within which each of the table's parts of the list is an expression; 65 where none is.
+fn parts_depth(table: &Table, list: &[u32]) -> u32
+    requires { table.now.n ≤ 32 }
+    ensures { result ≡ depth_from 1 (λ d. deep_parts d table.now.starts table.now.ends table.now.n list.now) }
 {
     let mut d = 1;
-    let mut i = 0;
-    while i < n {
-        d = depth_at(starts[i], ends[i], list, d);
-        i += 1;
+    for i in 0..table.n {
+        d = depth_at(table.starts[i], table.ends[i], list, d);
     }
     d
 }
@@ -89,15 +81,15 @@ pub fn depth_left(row: &[u32]) -> u32
     Margin::DEPTHS - depth_from(row, 1)
 }
 
-// How deep a form may be that is sure to stay one when the first n parts of the list are put into it; 0 where none is.
-pub fn depth_left_by(starts: &[usize; 32], ends: &[usize; 32], n: usize, list: &[u32]) -> u32
-    ensures { result ≡ depth_left_by starts.now ends.now n list.now }
+// How deep a form may be that is sure to stay one when the table's parts of the list are put into it; 0 where none is.
+pub fn depth_left_by(table: &Table, list: &[u32]) -> u32
+    ensures { result ≡ depth_left_by table.now list.now }
 {
-    if Table::LIMIT < n {
+    if Table::LIMIT < table.n {
         return 0;
     }
     if !all_below(list, Margin::WORDS_BELOW) {
         return 0;
     }
-    Margin::DEPTHS - parts_depth(starts, ends, n, list)
+    Margin::DEPTHS - parts_depth(table, list)
 }

@@ -2,11 +2,12 @@
 // list stands for takes a branch.
 ghost use Rattle.std.specs.Prelude.{◌≡◌, true, false, ◌&&◌, ◌+◌, ◌-◌, ◌≤◌, leb, ltb, length, get_or, drop, set, replicate};
 ghost use Rattle.tree.specs.Form.{pick};
-ghost use Rattle.shift.specs.Internal.Items.{items, rewritten, apart, store};
-ghost use Rattle.replace.specs.Internal.Pieces.{planned, sizes, plan_for, Ready};
+ghost use Rattle.shift.specs.Internal.Items.{apart, store};
+ghost use Rattle.replace.specs.Internal.Job.{Readied, job_size, job_words};
+ghost use Rattle.replace.specs.declared.pieces.Target.TheVariants.{Places, Names};
 ghost use Rattle.replace.specs.Internal.Splice.{pair_ok, Slots, Keys, key_of, name_spot, Filling, Freeing};
 
-use crate::pieces::{Piece, Rule, index_of, less, one_if, write_piece, write_pieces};
+use crate::pieces::{Job, Piece, Target, index_of, one_if, write_piece, write_pieces};
 use shift::items::Item;
 use shift::slots::slot_of;
 use tree::tag::Tag;
@@ -18,40 +19,24 @@ fn pair_ok(lo: u32, m: u32, k: u32) -> bool
     (m == 0) | ((lo < m) & (k == 0))
 }
 
-// Whether marks that stood apart still do with one more.
-fn still_apart(apart: bool, lo: u32, m: u32, k: u32) -> bool
-    ensures { result ≡ pick (pair_ok lo m k) apart false }
-{
-    if pair_ok(lo, m, k) {
-        return apart;
-    }
-    false
-}
-
 // The word at `at`; 0 past the end.
 pub(crate) fn word_at(row: &[u32], at: usize) -> u32
     ensures { result ≡ get_or row.now at 0 }
 {
-    if row.len() <= at {
-        return 0;
-    }
-    row[at]
+    row.get(at).copied().unwrap_or(0)
 }
 
 // Whether the marks from `from` on, where words are, stand apart as far as the row goes, and are over lo: one pass that takes several words at a time.
 fn are_apart(lo: u32, row: &[u32], marks: &[u32], from: usize) -> bool
     ensures { result ≡ (ltb from (length row.now) && (leb (length row.now) (length marks.now) && apart lo (drop from row.now) (drop from marks.now))) }
 {
-    if row.len() <= from {
-        return false;
-    }
-    if marks.len() < row.len() {
+    if row.len() <= from || marks.len() < row.len() {
         return false;
     }
     let mut apart = true;
     let mut i = from;
     while i + 1 < row.len() {
-        apart = still_apart(apart, lo, marks[i], marks[i + 1]);
+        apart &= pair_ok(lo, marks[i], marks[i + 1]);
         i += 1;
     }
     apart
@@ -73,46 +58,36 @@ fn set_slots(words: &[u32], gone: u32, cuts: &mut [u32], falls: &mut [u32])
     falls[0] = gone;
 }
 
-// The words from `from` on with the places of declarations filled, stored at `at`: where they end.
-fn write_filled(
-    rule: Rule,
-    words: &[u32],
-    starts: &[usize],
-    ends: &[usize],
-    cuts: &[u32],
-    falls: &[u32],
-    list: &[u32],
-    list_marks: &[u32],
-    row: &[u32],
-    marks: &[u32],
-    from: usize,
-    out: &mut [u32],
-    at: usize,
-) -> usize
-    requires { Filling rule words.now starts.now ends.now cuts.now falls.now list.now list_marks.now row.now marks.now from at (length out.old) }
-    ensures value { result ≡ at + sizes (plan_for rule words.now starts.now ends.now) (items (drop from row.now) (drop from marks.now)) }
-    ensures out_after { out.new ≡ store out.old at (rewritten (planned (plan_for rule words.now starts.now ends.now) list.now list_marks.now) (items (drop from row.now) (drop from marks.now))) }
+// The words of the job's row with the places of declarations filled, stored at `at`: where they end.
+fn write_filled(job: Job, cuts: &[u32], falls: &[u32], out: &mut [u32], at: usize) -> usize
+    requires { Filling job cuts.now falls.now at (length out.old) }
+    ensures value { result ≡ at + job_size job.entry }
+    ensures out_after { out.new ≡ store out.old at (job_words job.entry) }
 {
-    let n = rule.n as u32;
-    let mut i = from;
+    let row = job.source.row;
+    let marks = job.source.marks;
+    let table = job.source.table;
+    let n = table.n as u32;
+    let mut i = job.from;
     let mut p = at;
-    let mut word = word_at(row, from);
+    let mut word = word_at(row, i);
     while i + 1 < row.len() {
         let slot = slot_of(marks[i], row[i], row[i + 1], n, n + 1);
         if cuts[slot] == 0 {
             out[p] = word;
-            word = less(row[i + 1], falls[slot]);
+            word = row[i + 1].saturating_sub(falls[slot]);
             p += 1;
             i += 1;
             continue;
         }
-        let s = starts[slot - 1];
-        let e = ends[slot - 1];
-        let up = less(marks[i] - 1, rule.gone);
+        let s = table.starts[slot - 1];
+        let e = table.ends[slot - 1];
+        let up = (marks[i] - 1).saturating_sub(job.rule.gone);
+        let part = Piece::Part(s, e, up, job.rule.down);
         write_piece(
-            list,
-            list_marks,
-            Piece::Part(s, e, up, rule.down),
+            job.source.list,
+            job.source.list_marks,
+            part,
             Item::Plain(0),
             out,
             p,
@@ -141,9 +116,8 @@ fn write_last(row: &[u32], i: usize, word: u32, out: &mut [u32], p: usize) -> us
 fn key_of(m: u32, t: u32, v: u32) -> usize
     ensures { result ≡ key_of m t v }
 {
-    let key = v % 64;
     if (t == Tag::FREE_IDENT) & (m != 0) {
-        return key as usize;
+        return (v % 64) as usize;
     }
     64
 }
@@ -153,11 +127,8 @@ fn set_keys(words: &[u32], keys: &mut [u32])
     requires { keys.old ≡ replicate 65 0 }
     ensures { Keys words.now keys.new }
 {
-    let mut i = 0;
-    while i < words.len() {
-        let key = (words[i] % 64) as usize;
-        keys[key] = 1;
-        i += 1;
+    for word in words {
+        keys[(*word % 64) as usize] = 1;
     }
 }
 
@@ -173,43 +144,33 @@ fn name_spot(keys: &[u32], words: &[u32], m: u32, t: u32, v: u32) -> usize
     index_of(words, v)
 }
 
-// The words from `from` on with the listed names replaced, stored at `at`: where they end.
-fn write_freed(
-    rule: Rule,
-    words: &[u32],
-    starts: &[usize],
-    ends: &[usize],
-    keys: &[u32],
-    list: &[u32],
-    list_marks: &[u32],
-    row: &[u32],
-    marks: &[u32],
-    from: usize,
-    out: &mut [u32],
-    at: usize,
-) -> usize
-    requires { Freeing rule words.now starts.now ends.now keys.now list.now list_marks.now row.now marks.now from at (length out.old) }
-    ensures value { result ≡ at + sizes (plan_for rule words.now starts.now ends.now) (items (drop from row.now) (drop from marks.now)) }
-    ensures out_after { out.new ≡ store out.old at (rewritten (planned (plan_for rule words.now starts.now ends.now) list.now list_marks.now) (items (drop from row.now) (drop from marks.now))) }
+// The words of the job's row with the listed names replaced, stored at `at`: where they end.
+fn write_freed(job: Job, keys: &[u32], out: &mut [u32], at: usize) -> usize
+    requires { Freeing job keys.now at (length out.old) }
+    ensures value { result ≡ at + job_size job.entry }
+    ensures out_after { out.new ≡ store out.old at (job_words job.entry) }
 {
-    let n = rule.n;
-    let mut i = from;
+    let row = job.source.row;
+    let marks = job.source.marks;
+    let table = job.source.table;
+    let n = table.n;
+    let mut i = job.from;
     let mut p = at;
     while i + 1 < row.len() {
-        let spot = name_spot(keys, &words[..n], marks[i], row[i], row[i + 1]);
+        let spot = name_spot(keys, &table.words[..n], marks[i], row[i], row[i + 1]);
         if n <= spot {
             out[p] = row[i];
             p += 1;
             i += 1;
             continue;
         }
-        let s = starts[spot];
-        let e = ends[spot];
-        let up = marks[i] - 1;
+        let s = table.starts[spot];
+        let e = table.ends[spot];
+        let part = Piece::Part(s, e, marks[i] - 1, job.rule.down);
         write_piece(
-            list,
-            list_marks,
-            Piece::Part(s, e, up, rule.down),
+            job.source.list,
+            job.source.list_marks,
+            part,
             Item::Plain(0),
             out,
             p,
@@ -220,97 +181,53 @@ fn write_freed(
     write_last(row, i, word_at(row, i), out, p)
 }
 
-// What stands for the items from `from` on where places are filled, stored at `at`: where it ends.
-fn fill_words(
-    rule: Rule,
-    words: &[u32],
-    starts: &[usize],
-    ends: &[usize],
-    list: &[u32],
-    list_marks: &[u32],
-    row: &[u32],
-    marks: &[u32],
-    from: usize,
-    out: &mut [u32],
-    at: usize,
-) -> usize
-    requires ready { Ready (plan_for rule words.now starts.now ends.now) list.now list_marks.now × (rule.fills ≡ true) }
-    requires marks_in_bounds { at + sizes (plan_for rule words.now starts.now ends.now) (items (drop from row.now) (drop from marks.now)) ≤ length out.old }
-    ensures value { result ≡ at + sizes (plan_for rule words.now starts.now ends.now) (items (drop from row.now) (drop from marks.now)) }
-    ensures out_after { out.new ≡ store out.old at (rewritten (planned (plan_for rule words.now starts.now ends.now) list.now list_marks.now) (items (drop from row.now) (drop from marks.now))) }
+// What stands for the job's items where places are filled, stored at `at`: where it ends.
+fn fill_words(job: Job, out: &mut [u32], at: usize) -> usize
+    requires ready { Readied job × (job.rule.target ≡ Places) }
+    requires marks_in_bounds { at + job_size job ≤ length out.old }
+    ensures value { result ≡ at + job_size job.entry }
+    ensures out_after { out.new ≡ store out.old at (job_words job.entry) }
 {
-    let n = rule.n;
-    if !are_apart(n as u32, row, marks, from) {
-        return write_pieces(
-            rule, words, starts, ends, list, list_marks, row, marks, from, out, at,
-        );
+    let table = job.source.table;
+    if !are_apart(table.n as u32, job.source.row, job.source.marks, job.from) {
+        return write_pieces(job, out, at);
     }
     let mut cuts = [0u32; 34];
     let mut falls = [0u32; 34];
-    set_slots(&words[..n], rule.gone, &mut cuts, &mut falls);
-    write_filled(
-        rule, words, starts, ends, &cuts, &falls, list, list_marks, row, marks, from, out, at,
-    )
+    set_slots(
+        &table.words[..table.n],
+        job.rule.gone,
+        &mut cuts,
+        &mut falls,
+    );
+    write_filled(job, &cuts, &falls, out, at)
 }
 
 // The same where names are replaced.
-fn free_words(
-    rule: Rule,
-    words: &[u32],
-    starts: &[usize],
-    ends: &[usize],
-    list: &[u32],
-    list_marks: &[u32],
-    row: &[u32],
-    marks: &[u32],
-    from: usize,
-    out: &mut [u32],
-    at: usize,
-) -> usize
-    requires ready { Ready (plan_for rule words.now starts.now ends.now) list.now list_marks.now × (rule.fills ≡ false) }
-    requires marks_in_bounds { at + sizes (plan_for rule words.now starts.now ends.now) (items (drop from row.now) (drop from marks.now)) ≤ length out.old }
-    ensures value { result ≡ at + sizes (plan_for rule words.now starts.now ends.now) (items (drop from row.now) (drop from marks.now)) }
-    ensures out_after { out.new ≡ store out.old at (rewritten (planned (plan_for rule words.now starts.now ends.now) list.now list_marks.now) (items (drop from row.now) (drop from marks.now))) }
+fn free_words(job: Job, out: &mut [u32], at: usize) -> usize
+    requires ready { Readied job × (job.rule.target ≡ Names) }
+    requires marks_in_bounds { at + job_size job ≤ length out.old }
+    ensures value { result ≡ at + job_size job.entry }
+    ensures out_after { out.new ≡ store out.old at (job_words job.entry) }
 {
-    let n = rule.n;
-    if !are_apart(0, row, marks, from) {
-        return write_pieces(
-            rule, words, starts, ends, list, list_marks, row, marks, from, out, at,
-        );
+    if !are_apart(0, job.source.row, job.source.marks, job.from) {
+        return write_pieces(job, out, at);
     }
+    let table = job.source.table;
     let mut keys = [0u32; 65];
-    set_keys(&words[..n], &mut keys);
-    write_freed(
-        rule, words, starts, ends, &keys, list, list_marks, row, marks, from, out, at,
-    )
+    set_keys(&table.words[..table.n], &mut keys);
+    write_freed(job, &keys, out, at)
 }
 
-// What stands for the items from `from` on, stored at `at`: where it ends. Marks that do not stand apart are no form's, and are taken item
-// by item.
-pub(crate) fn write_spliced(
-    rule: Rule,
-    words: &[u32],
-    starts: &[usize],
-    ends: &[usize],
-    list: &[u32],
-    list_marks: &[u32],
-    row: &[u32],
-    marks: &[u32],
-    from: usize,
-    out: &mut [u32],
-    at: usize,
-) -> usize
-    requires ready { Ready (plan_for rule words.now starts.now ends.now) list.now list_marks.now }
-    requires marks_in_bounds { at + sizes (plan_for rule words.now starts.now ends.now) (items (drop from row.now) (drop from marks.now)) ≤ length out.old }
-    ensures value { result ≡ at + sizes (plan_for rule words.now starts.now ends.now) (items (drop from row.now) (drop from marks.now)) }
-    ensures out_after { out.new ≡ store out.old at (rewritten (planned (plan_for rule words.now starts.now ends.now) list.now list_marks.now) (items (drop from row.now) (drop from marks.now))) }
+// What stands for the job's items, stored at `at`: where it ends. Marks that do not stand apart are no form's, and are taken item by item.
+pub(crate) fn write_spliced(job: Job, out: &mut [u32], at: usize) -> usize
+    requires ready { Readied job }
+    requires marks_in_bounds { at + job_size job ≤ length out.old }
+    ensures value { result ≡ at + job_size job.entry }
+    ensures out_after { out.new ≡ store out.old at (job_words job.entry) }
 {
-    if rule.fills {
-        return fill_words(
-            rule, words, starts, ends, list, list_marks, row, marks, from, out, at,
-        );
+    match job.rule.target {
+        Target::Places => fill_words(job, out, at),
+        Target::Names => free_words(job, out, at),
     }
-    free_words(
-        rule, words, starts, ends, list, list_marks, row, marks, from, out, at,
-    )
 }

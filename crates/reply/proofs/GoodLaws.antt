@@ -10,6 +10,10 @@ use lib.IntN.{ℤ}
 use lib.ListN.{length, length-append}
 use Rattle.tree.specs.Form.{Form, pick, encode}
 use Rattle.form.specs.Answer.{Outcome, answer, stop, needs}
+use Rattle.form.specs.Refusal.{number_of, position_of}
+use Rattle.form.specs.declared.answer.Refusal.{Refusal}
+use Rattle.form.specs.declared.answer.Refusal.TheVariants.{WorkTooShort}
+use Rattle.std.specs.Prelude.{Some, None}
 use Rattle.form.proofs.RowLaws.{found-either, row_one}
 use Rattle.spell.specs.Spell.{digits, decimal, spell, ending, spell_no, print_outcome, print_no}
 use Rattle.line.specs.Line.{Formed, formed, read_line}
@@ -17,7 +21,6 @@ use Rattle.spell.proofs.PrintLaws.{spell-few}
 use Rattle.spell.proofs.WriteLaws.{digits-few}
 use Rattle.rules.specs.Command.{args_of, kind_of, outcome_of}
 use Rattle.rules.specs.declared.command.Command.{Command}
-use Rattle.line.specs.declared.line.Line.TheVariants.{Read, Misspelled}
 use Rattle.rules.proofs.OutcomeLaws.{Settled, OneForm, outcome-settled}
 use Rattle.reply.specs.Reply.{command_outcome, of_line, enough_rows, line_outcome, printed, reply_outcome}
 use Rattle.reply.proofs.LateLaws.{Gate, passes, refuses, form-tests, args-gate}
@@ -25,19 +28,19 @@ use Rattle.reply.proofs.LateLaws.{Gate, passes, refuses, form-tests, args-gate}
 -- an answer is the row of one form
 abbrev pub Good : Outcome → Type 0
 Good (answer ws) = OneForm ws
-Good (stop k p) = Unit {0}
+Good (stop k) = Unit {0}
 
 good-settled : (o : Outcome) → Settled OneForm o → Good o
 good-settled (answer ws) h = h
-good-settled (stop k p) h = tt
+good-settled (stop k) h = tt
 
-good-needs : (k : ℕ) (b : Bool) (o : Outcome) → Good o → Good (needs k b o)
+good-needs : (k : Refusal) (b : Bool) (o : Outcome) → Good o → Good (needs k b o)
 good-needs k true o h = h
 good-needs k false o h = tt
 
 good-gate : (g : Outcome → Outcome) → Gate g → (o : Outcome) → Good o → Good (g o)
 good-gate g (passes h) o k = rw (h o) k
-good-gate g (refuses n p h) o k = rw (h o) tt
+good-gate g (refuses n h) o k = rw (h o) tt
 
 good-command : (c : Command) (z : ℤ) (list_text list text row : List ℕ) (work room : ℕ) → Good (command_outcome c z list_text list text row work room)
 good-command c z list_text list text row work room =
@@ -45,11 +48,11 @@ good-command c z list_text list text row work room =
 
 pub good-line : (line : List ℕ) (list form work room : ℕ) → Good (line_outcome line list form work room)
 unfolding line_outcome
-good-line line list form work room = good-needs 15 (enough_rows list form work) _ (by-case (read_line line))
+good-line line list form work room = good-needs WorkTooShort (enough_rows list form work) _ (by-case (read_line line))
   where
     by-case : (x : Formed) → Good (of_line line work room x)
-    by-case (formed (Read p) ws) = good-command p.command p.offset _ _ _ ws work room
-    by-case (formed Misspelled ws) = tt
+    by-case (formed (Some p) ws) = good-command p.command p.offset _ _ _ ws work room
+    by-case (formed None ws) = tt
 
 ending-few : (k p : ℕ) → length (ending k p) ≤ 12
 unfolding ending decimal
@@ -72,7 +75,9 @@ module _ (P : List ℕ → Type 0) (forms : (f : Form) → P (spell f)) (refusal
       let n : length (encode f) ≤ 8192 = rw (← is) short in
       let m = spell-few f in
       (spell f, rw (le-leb (length ws) 8192 short, found-either ws s f e, le-leb (length (spell f)) bytes (omega arith)), forms f)
-  good-printed (stop k p) bytes g h = let m = no-few k p in (spell_no k p, rw (le-leb (length (spell_no k p)) bytes (omega arith)), refusals k p)
+  good-printed (stop r) bytes g h =
+      let m = no-few (number_of r) (position_of r) in
+      (spell_no (number_of r) (position_of r), rw (le-leb (length (spell_no (number_of r) (position_of r))) bytes (omega arith)), refusals (number_of r) (position_of r))
 
   pub reply-answers : (line : List ℕ) (list form work room bytes : ℕ) → 106496 ≤ bytes → (bs : List ℕ) × (reply_outcome line list form work room bytes ≡ answer bs) × P bs
   unfolding reply_outcome

@@ -15,12 +15,12 @@ use Rattle.tree.specs.Tag.{Sort}
 use Rattle.form.specs.Decode.{row_form, Found, found, missing, form_of}
 use Rattle.form.specs.Break.{break_at, break_list}
 use Rattle.form.specs.Lists.{Entry, list_of}
-use Rattle.form.specs.Answer.{Outcome, answer, stop, refusal, told, within, of_found, of_list, with_form, needs, check_outcome}
+use Rattle.form.specs.Answer.{Outcome, answer, stop, told, within, of_found, of_list, with_form, needs, check_outcome}
 use Rattle.reader.specs.Internal.Reads.{as_expr, of_kind, Listing}
 use Rattle.form.specs.declared.answer.Kind.{Kind}
 use Rattle.form.specs.declared.answer.Kind.TheVariants.{Either}
-use Rattle.form.specs.declared.answer.Answer.{Answer}
-use Rattle.form.specs.declared.answer.Answer.TheVariants.{Done, No}
+use Rattle.form.specs.Answer.{Answer}
+use Rattle.std.specs.Prelude.{Ok, Err}
 use Rattle.form.specs.declared.answer.ListKind.{ListKind}
 use Rattle.form.specs.declared.answer.ListKind.TheVariants as list-of
 use Rattle.reader.specs.declared.lists.Table.{Table}
@@ -40,34 +40,36 @@ use Rattle.line.specs.declared.line.Part.{Part}
 use Rattle.line.specs.declared.line.Parts.{Parts}
 use Rattle.reply.specs.Reply.{text_of, spelled_form, spelled_list, spelled_names, spelled_args}
 use Rattle.reply.specs.Internal.Parts.{Held, Bare, HeldBoth, form_words, parts_test}
+use Rattle.form.specs.declared.answer.Refusal.{Refusal}
+use Rattle.form.specs.declared.answer.Refusal.TheVariants.{TooLong, NotACommand, Broken}
 
--- a test before a command: it passes every outcome on, or refuses them all by one number and position
+-- a test before a command: it passes every outcome on, or refuses them all by one refusal
 pub data Gate (g : Outcome → Outcome) : Type 0 where
   passes : ((o : Outcome) → g o ≡ o) → Gate g
-  refuses : (n p : ℕ) → ((o : Outcome) → g o ≡ stop n p) → Gate g
+  refuses : (n : Refusal) → ((o : Outcome) → g o ≡ stop n) → Gate g
 
-gate-pick : (b : Bool) (n : ℕ) (g : Outcome → Outcome) → Gate g → Gate (λ o. pick b (g o) (refusal n))
+gate-pick : (b : Bool) (n : Refusal) (g : Outcome → Outcome) → Gate g → Gate (λ o. pick b (g o) (stop n))
 gate-pick true n g h = h
-gate-pick false n g h = refuses n 0 (λ o. refl)
+gate-pick false n g h = refuses n (λ o. refl)
 
 gate-found : (p : ℕ) (x : Found) (g : Outcome → Outcome) → Gate g → Gate (λ o. of_found p (λ s f. g o) x)
 gate-found p (found s f) g h = h
-gate-found p missing g h = refuses 2 p (λ o. refl)
+gate-found p missing g h = refuses (Broken p) (λ o. refl)
 
 gate-list : (p : ℕ) (x : Option (List Entry)) (g : Outcome → Outcome) → Gate g → Gate (λ o. of_list p (λ es. g o) x)
 gate-list p (some es) g h = h
-gate-list p absent g h = refuses 2 p (λ o. refl)
+gate-list p absent g h = refuses (Broken p) (λ o. refl)
 
-gate-8 : (b : Bool) → Gate (needs 8 b)
-gate-8 b = gate-pick b 8 (λ o. o) (passes (λ o. refl))
+gate-8 : (b : Bool) → Gate (needs NotACommand b)
+gate-8 b = gate-pick b NotACommand (λ o. o) (passes (λ o. refl))
 
 -- a test of a row, whose first refusal is 1
 pub record Tests (row : List ℕ) (g : Outcome → Outcome) : Type 0 where
   pub gate : Gate g
-  pub long : 8192 < length row → (o : Outcome) → g o ≡ refusal 1
+  pub long : 8192 < length row → (o : Outcome) → g o ≡ stop TooLong
 
 within-tests : (row : List ℕ) (g : Outcome → Outcome) → Gate g → Tests row (λ o. within row (g o))
-within-tests row g h = record { gate = gate-pick (leb (length row) 8192) 1 g h; long = λ l o. rw (lt-leb (length row) 8192 l) }
+within-tests row g h = record { gate = gate-pick (leb (length row) 8192) TooLong g h; long = λ l o. rw (lt-leb (length row) 8192 l) }
 
 pub check-tests : (kind : Kind) (row : List ℕ) → Tests row (λ o. with_form kind row (λ s f. o))
 check-tests kind row = within-tests row _ (gate-found (break_at kind row) (form_of kind row) (λ o. o) (passes (λ o. refl)))
@@ -85,27 +87,27 @@ unfolding spelled_names
 names-tests text row = within-tests row _ (gate-8 (fits_names text row))
 
 -- what a test answers for the empty answer it answers for all
-module _ (g : Outcome → Outcome) (r : Answer) (n : ℕ) (e : r ≡ told (g (answer []))) where
-  pub gate-refused : {p : ℕ} → Gate g → r ≡ No n p → (o : Outcome) → g o ≡ stop n p
-  gate-refused (passes h) q o = let z = rw (h (answer [])) at e in absurd (clash cc)
-  gate-refused {p} (refuses m k h) q o = let z = rw (h (answer [])) at e in let x : m ≡ n = cc in let y : k ≡ p = cc in h o ∙ rw (x, y)
+module _ (g : Outcome → Outcome) (r : Answer) (e : r ≡ told (g (answer []))) where
+  pub gate-refused : (n : Refusal) → Gate g → r ≡ Err n → (o : Outcome) → g o ≡ stop n
+  gate-refused n (passes h) q o = let z = rw (h (answer [])) at e in absurd (clash cc)
+  gate-refused n (refuses m h) q o = let z = rw (h (answer [])) at e in let x : m ≡ n = cc in h o ∙ rw x
 
-  pub gate-done : Gate g → r ≡ Done n → (o : Outcome) → g o ≡ o
-  gate-done (passes h) q o = h o
-  gate-done (refuses m k h) q o = let z = rw (h (answer [])) at e in absurd (clash cc)
+  pub gate-done : (n : ℕ) → Gate g → r ≡ Ok n → (o : Outcome) → g o ≡ o
+  gate-done n (passes h) q o = h o
+  gate-done n (refuses m h) q o = let z = rw (h (answer [])) at e in absurd (clash cc)
 
-pub told-long : (row : List ℕ) (g : Outcome → Outcome) → Tests row g → 8192 < length row → (o : Outcome) → No 1 0 ≡ told (g o)
+pub told-long : (row : List ℕ) (g : Outcome → Outcome) → Tests row g → 8192 < length row → (o : Outcome) → Err TooLong ≡ told (g o)
 told-long row g t l o = ap told (sym (t.long l o))
 
 -- a form's check, then its 8
-module _ (kind : Kind) (row : List ℕ) (b : Bool) (r : Answer) (n : ℕ) (e : r ≡ told (check_outcome kind row)) where
-  pub late-refused : {p : ℕ} → r ≡ No n p → r ≡ told (with_form kind row (λ s f. needs 8 b (answer [])))
+module _ (kind : Kind) (row : List ℕ) (b : Bool) (r : Answer) (e : r ≡ told (check_outcome kind row)) where
+  pub late-refused : (n : Refusal) → r ≡ Err n → Err n ≡ told (with_form kind row (λ s f. needs NotACommand b (answer [])))
   unfolding check_outcome
-  late-refused q = q ∙ sym (ap told (gate-refused _ r n e (check-tests kind row).gate q (needs 8 b (answer []))))
+  late-refused n q = sym (ap told (gate-refused _ r e n (check-tests kind row).gate q (needs NotACommand b (answer []))))
 
-  pub late-told : r ≡ Done n → (x : Bool) → x ≡ b → told (needs 8 x (answer [])) ≡ told (with_form kind row (λ s f. needs 8 b (answer [])))
+  pub late-told : (n : ℕ) → r ≡ Ok n → (x : Bool) → x ≡ b → told (needs NotACommand x (answer [])) ≡ told (with_form kind row (λ s f. needs NotACommand b (answer [])))
   unfolding check_outcome
-  late-told q x t = rw t (sym (ap told (gate-done _ r n e (check-tests kind row).gate q (needs 8 b (answer [])))))
+  late-told n q x t = rw t (sym (ap told (gate-done _ r e n (check-tests kind row).gate q (needs NotACommand b (answer [])))))
 
 not-other : (x y : Bool) → not (beq x y) ≡ false → x ≡ y
 not-other true true e = refl
@@ -119,7 +121,7 @@ fits-found true text missing e = absurd (clash cc)
 fits-found false text missing e = absurd (clash cc)
 
 module _ (kind : Kind) (text row : List ℕ) where
-  pub late-row : (b : Bool) → b ≡ fits_form text row → told (with_form kind row (λ s f. needs 8 b (answer []))) ≡ told (spelled_form kind text row (answer []))
+  pub late-row : (b : Bool) → b ≡ fits_form text row → told (with_form kind row (λ s f. needs NotACommand b (answer []))) ≡ told (spelled_form kind text row (answer []))
   unfolding spelled_form
   late-row b t = rw t
 
@@ -127,7 +129,7 @@ module _ (kind : Kind) (text row : List ℕ) where
   unfolding fits_form
   form-there t = fits-found (leb (length text) 65535) text (form_of Either row) (sym t)
 
-  pub late-fits : true ≡ fits_form text row → (x y : Bool) → x ≡ as_expr kind row → y ≡ as_expr Either row → not (beq x y) ≡ false → of_kind kind row ≡ true → Done 0 ≡ told (spelled_form kind text row (answer []))
+  pub late-fits : true ≡ fits_form text row → (x y : Bool) → x ≡ as_expr kind row → y ≡ as_expr Either row → not (beq x y) ≡ false → of_kind kind row ≡ true → Ok 0 ≡ told (spelled_form kind text row (answer []))
   unfolding spelled_form
   late-fits t x y h k e i =
       let (s, f, o) = form-there t in
@@ -137,16 +139,16 @@ module _ (kind : Kind) (text row : List ℕ) where
 
 -- a list's
 module _ (kind : ListKind) (text row : List ℕ) (short : length row ≤ 8192) (u v : Table) (a b : List ℕ) (ok : Bool) (t : Listing (list_of kind row) u v a b ok) where
-  pub list-none : ok ≡ false → (q : ℕ) → q ≡ break_list kind row → No 2 q ≡ told (spelled_list kind text row (answer []))
+  pub list-none : ok ≡ false → (q : ℕ) → q ≡ break_list kind row → Err (Broken q) ≡ told (spelled_list kind text row (answer []))
   unfolding spelled_list
   list-none e q k = rw (le-leb (length row) 8192 short, listing-no _ _ _ _ _ _ t e, k)
 
-  pub list-told : ok ≡ true → (c : Bool) → c ≡ fits_list kind text row → told (needs 8 c (answer [])) ≡ told (spelled_list kind text row (answer []))
+  pub list-told : ok ≡ true → (c : Bool) → c ≡ fits_list kind text row → told (needs NotACommand c (answer [])) ≡ told (spelled_list kind text row (answer []))
   unfolding spelled_list
   list-told e c f = let (es, o, r, m) = listing-yes _ _ _ _ _ _ t e in rw (le-leb (length row) 8192 short, o, f)
 
 -- the names'
-pub names-told : (text row : List ℕ) → length row ≤ 8192 → (c : Bool) → c ≡ fits_names text row → told (needs 8 c (answer [])) ≡ told (spelled_names text row (answer []))
+pub names-told : (text row : List ℕ) → length row ≤ 8192 → (c : Bool) → c ≡ fits_names text row → told (needs NotACommand c (answer [])) ≡ told (spelled_names text row (answer []))
 unfolding spelled_names
 names-told text row short c f = rw (le-leb (length row) 8192 short, f)
 
@@ -166,15 +168,15 @@ row-holds line row ws p h n l = let c = h.room in omega arith
 
 -- one test after another
 after-gate : (f g : Outcome → Outcome) → Gate f → Gate g → Gate (λ o. f (g o))
-after-gate f g (refuses m p h) k = refuses m p (λ o. h (g o))
+after-gate f g (refuses m h) k = refuses m (λ o. h (g o))
 after-gate f g (passes h) (passes k) = passes (λ o. h (g o) ∙ k o)
-after-gate f g (passes h) (refuses m p k) = refuses m p (λ o. h (g o) ∙ k o)
+after-gate f g (passes h) (refuses m k) = refuses m (λ o. h (g o) ∙ k o)
 
-pub test-no : (row : List ℕ) (g : Outcome → Outcome) → Tests row g → (r : Answer) → r ≡ told (g (answer [])) → (n : ℕ) {p : ℕ} → r ≡ No n p → (o : Outcome) → r ≡ told (g o)
-test-no row g t r e n q o = q ∙ sym (ap told (gate-refused g r n e t.gate q o))
+pub test-no : (row : List ℕ) (g : Outcome → Outcome) → Tests row g → (r : Answer) → r ≡ told (g (answer [])) → (n : Refusal) → r ≡ Err n → (o : Outcome) → Err n ≡ told (g o)
+test-no row g t r e n q o = sym (ap told (gate-refused g r e n t.gate q o))
 
-pub test-yes : (row : List ℕ) (g : Outcome → Outcome) → Tests row g → (r : Answer) → r ≡ told (g (answer [])) → (n : ℕ) → r ≡ Done n → (o : Outcome) (r' : Answer) → r' ≡ told o → r' ≡ told (g o)
-test-yes row g t r e n q o r' k = k ∙ sym (ap told (gate-done g r n e t.gate q o))
+pub test-yes : (row : List ℕ) (g : Outcome → Outcome) → Tests row g → (r : Answer) → r ≡ told (g (answer [])) → (n : ℕ) → r ≡ Ok n → (o : Outcome) (r' : Answer) → r' ≡ told o → r' ≡ told (g o)
+test-yes row g t r e n q o r' k = k ∙ sym (ap told (gate-done g r e n t.gate q o))
 
 -- a command's list
 pub args-gate : (x : Args) (text list : List ℕ) → Gate (spelled_args x text list)
@@ -184,10 +186,10 @@ args-gate Names text list = (names-tests text list).gate
 args-gate Pairs text list = (list-tests list-of.Pairs text list).gate
 args-gate Places text list = (list-tests list-of.Places text list).gate
 
-test_short : (row : List ℕ) (g : Outcome → Outcome) → Tests row g → (r : Answer) (n : ℕ) → r ≡ told (g (answer [])) → r ≡ Done n → length row ≤ 8192
+test_short : (row : List ℕ) (g : Outcome → Outcome) → Tests row g → (r : Answer) (n : ℕ) → r ≡ told (g (answer [])) → r ≡ Ok n → length row ≤ 8192
 test_short row g t r n e q = ⊎_elim (λ low. omega arith) (λ high. absurd (clash (let z = told-long row g t (omega arith) (answer []) in cc))) (split 8193 (length row))
 
-args-short : (x : Args) (text list : List ℕ) → Bare x list → (r : Answer) (n : ℕ) → r ≡ told (spelled_args x text list (answer [])) → r ≡ Done n → length list ≤ 8192
+args-short : (x : Args) (text list : List ℕ) → Bare x list → (r : Answer) (n : ℕ) → r ≡ told (spelled_args x text list (answer [])) → r ≡ Ok n → length list ≤ 8192
 args-short Nothing text list b r n e q = rw b (omega arith)
 args-short Offset text list b r n e q = rw b (omega arith)
 args-short Names text list b r n e q = test_short list _ (names-tests text list) r n e q
@@ -195,23 +197,23 @@ args-short Pairs text list b r n e q = test_short list _ (list-tests list-of.Pai
 args-short Places text list b r n e q = test_short list _ (list-tests list-of.Places text list) r n e q
 
 -- a command after its checks
-module _ (line : List ℕ) (p : Parts) (r : Answer) (n : ℕ) (e : r ≡ told (parts_test line p (answer []))) where
+module _ (line : List ℕ) (p : Parts) (r : Answer) (e : r ≡ told (parts_test line p (answer []))) where
   parts-tests : Tests (form_words line) (parts_test line p)
   parts-tests =
       let t = form-tests (kind_of p.command) (text_of line p.form) (form_words line) in
       record { gate = after-gate _ _ t.gate (args-gate (args_of p.command) (text_of line p.list) (list_row line)); long = λ l o. t.long l _ }
 
-  pub parts-refused : {d : ℕ} → r ≡ No n d → (o : Outcome) (result : List ℕ) → Said r (parts_test line p o) result result
-  parts-refused q o result = rw q (said-no _ n result (gate-refused _ r n e parts-tests.gate q o))
+  pub parts-refused : (n : Refusal) → r ≡ Err n → (o : Outcome) (result : List ℕ) → Said (Err n) (parts_test line p o) result result
+  parts-refused n q o result = said-no _ n result (gate-refused _ r e n parts-tests.gate q o)
 
-  module _ (q : r ≡ Done n) where
+  module _ (n : ℕ) (q : r ≡ Ok n) where
     -- the list's checks pass too
     listed : r ≡ told (spelled_args (args_of p.command) (text_of line p.list) (list_row line) (answer []))
     listed = go (form-tests (kind_of p.command) (text_of line p.form) (form_words line)).gate
       where
         go : Gate (spelled_form (kind_of p.command) (text_of line p.form) (form_words line)) → r ≡ told (spelled_args (args_of p.command) (text_of line p.list) (list_row line) (answer []))
         go (passes h) = e ∙ ap told (h _)
-        go (refuses m k h) = let z = rw h at e in absurd (clash cc)
+        go (refuses m h) = let z = rw h at e in absurd (clash cc)
 
     module _ (z : ℤ) (list row : List ℕ) (held : HeldBoth line list row p) (work room a b : ℕ) (la : p.list.count ≤ 8192 → a ≡ p.list.count) (lb : p.form.count ≤ 8192 → b ≡ p.form.count) where
       form-part : take b row ≡ form_words line
@@ -229,7 +231,7 @@ module _ (line : List ℕ) (p : Parts) (r : Answer) (n : ℕ) (e : r ≡ told (p
           rw (la k) (held-row line list (list_row line) p.list held.listed k)
 
       run_is : outcome_of p.command z (take a list) (take b row) work room ≡ parts_test line p (outcome_of p.command z (list_row line) (form_words line) work room)
-      run_is = rw (form-part, list-part) (sym (gate-done _ r n e parts-tests.gate q _))
+      run_is = rw (form-part, list-part) (sym (gate-done _ r e n parts-tests.gate q _))
 
       pub parts-passed : (r' : Answer) (result result' : List ℕ) → Said r' (outcome_of p.command z (take a list) (take b row) work room) result result'
           → Said r' (parts_test line p (outcome_of p.command z (list_row line) (form_words line) work room)) result result'

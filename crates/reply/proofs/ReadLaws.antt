@@ -8,6 +8,7 @@ use lib.Dec.{leb, eqb}
 use lib.IntN.{ℤ, pos}
 use lib.ListN.{length, drop, length-drop}
 use mathlib.Core.Logic.{⊎_elim}
+use Rattle.std.specs.Prelude.{Option, Some, None}
 use Rattle.tree.specs.Form.{pick}
 use Rattle.form.proofs.HeadLaws.{gone}
 use Rattle.tree.proofs.Ranges.{split}
@@ -15,17 +16,13 @@ use Rattle.line.specs.Scan.{Scan, ended, broken, add_byte, moved, mark_words, no
 use Rattle.line.specs.Line.{closing, closed, last_group, Formed, formed, form_part, form_arg, space, next_arg, no_list, of_offset, offset_args, of_list, list_args, args, list_words, of_start, list_start, start_of, read_line, list_row}
 use Rattle.line.specs.declared.turn.State.{State}
 use Rattle.line.specs.declared.turn.State.TheVariants.{Opened}
-use Rattle.line.specs.declared.turn.Turn.{Turn}
-use Rattle.line.specs.declared.turn.Turn.TheVariants.{To, Bad}
 use Rattle.rules.specs.Command.{commands, args_of}
 use Rattle.rules.specs.declared.command.Command.{Command}
 use Rattle.rules.specs.declared.command.Args.{Args}
 use Rattle.rules.specs.declared.command.Args.TheVariants.{Nothing, Offset, Names, Pairs, Places}
 use Rattle.reply.specs.Internal.Parts.{Bare}
 use Rattle.line.specs.declared.head.Start.{Start}
-use Rattle.line.specs.declared.head.Start.TheVariants.{At, Unknown}
 use Rattle.line.specs.declared.line.Part.{Part}
-use Rattle.line.specs.declared.line.Line.TheVariants.{Read, Misspelled}
 
 -- a group has no more bytes than there are
 abbrev Ends : ℕ → Scan → Type 0
@@ -37,10 +34,10 @@ unfolding add_byte
 ends_more n w (ended ws k) h = omega arith
 ends_more n w (broken ws) h = tt
 
-ends-moved : (n : ℕ) (t : Turn) (ws : List ℕ) (d : ℕ) (k : State → Scan) → ((s : State) → Ends n (k s)) → Ends (suc n) (moved t ws d k)
-ends-moved n Bad ws d k h = tt
-ends-moved n (To s) ws zero k h = omega arith
-ends-moved n (To s) ws (suc d) k h = ends_more n ws (k s) (h s)
+ends-moved : (n : ℕ) (t : Option State) (ws : List ℕ) (d : ℕ) (k : State → Scan) → ((s : State) → Ends n (k s)) → Ends (suc n) (moved t ws d k)
+ends-moved n None ws d k h = tt
+ends-moved n (Some s) ws zero k h = omega arith
+ends-moved n (Some s) ws (suc d) k h = ends_more n ws (k s) (h s)
 
 ends-scan : (places : Bool) (bs : List ℕ) (d : ℕ) (s : State) → Ends (length bs) (scan places d s bs)
 unfolding scan
@@ -75,8 +72,8 @@ Listed line h ls p = Lies line ls p × Bare (args_of h) ls
 
 -- the form of a command, and its list
 abbrev pub Inside : List ℕ → List ℕ → Formed → Type 0
-Inside line ls (formed (Read p) ws) = Lies line ws p.form × Listed line p.command ls p.list
-Inside line ls (formed Misspelled ws) = Unit {0}
+Inside line ls (formed (Some p) ws) = Lies line ws p.form × Listed line p.command ls p.list
+Inside line ls (formed None ws) = Unit {0}
 
 module _ (line : List ℕ) where
   pub nothing-lies : Lies line [] no_list
@@ -132,11 +129,11 @@ module _ (line : List ℕ) where
   args-inside Pairs h at e = list_inside h false at (λ ls. rw e tt)
   args-inside Places h at e = list_inside h true at (λ ls. rw e tt)
 
-  start-inside : (x : Start) → Inside line (list_start line x) (of_start line x)
-  start-inside (At h at) = args-inside (args_of h) h at refl
-  start-inside Unknown = tt
+  start-inside : (x : Option Start) → Inside line (list_start line x) (of_start line x)
+  start-inside (Some s) = args-inside (args_of s.command) s.command s.at refl
+  start-inside None = tt
 
-  line-by : (b : Bool) → Inside line (pick b (list_start line (start_of commands line)) []) (pick b (of_start line (start_of commands line)) (formed Misspelled []))
+  line-by : (b : Bool) → Inside line (pick b (list_start line (start_of commands line)) []) (pick b (of_start line (start_of commands line)) (formed None []))
   line-by true = start-inside (start_of commands line)
   line-by false = tt
 

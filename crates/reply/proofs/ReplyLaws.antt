@@ -2,15 +2,16 @@
 use mathlib.Core.Path.{◌≡◌, refl, ap, sym, ◌∙◌}
 use mathlib.Core.Bool.{Bool, true, false, ◌&&◌}
 use mathlib.Core.List.{List}
-use Prim.Native.Nat.{ℕ, ◌≤◌, ◌<◌}
+use Prim.Native.Nat.{ℕ, ◌≤◌}
 use native.Mathlib.Omega.{arith}
-use borrow.Author.Tests.{le-leb, lt-leb, leb-true}
+use borrow.Author.Tests.{leb-true}
 use lib.Dec.{leb}
 use lib.ListN.{length, take, drop, length-append}
 use lib.Seq.{take-append_seam}
-use Rattle.form.specs.Answer.{Outcome, answer, stop, refusal, told, written}
-use Rattle.form.specs.declared.answer.Answer.{Answer}
-use Rattle.form.specs.declared.answer.Answer.TheVariants.{Done, No}
+use Rattle.form.specs.Answer.{Outcome, answer, stop, told, written}
+use Rattle.form.specs.Answer.{Answer}
+use Rattle.std.specs.Prelude.{Option, Some, None, Ok, Err}
+use Rattle.form.specs.declared.answer.Refusal.{Refusal}
 use Rattle.form.proofs.DecodeLaws.{clash}
 use Rattle.spell.specs.Put.{put}
 use Rattle.line.specs.Line.{Formed, formed, read_line, list_row, line_of, form_row}
@@ -19,24 +20,13 @@ use Rattle.calls.proofs.CallLaws.{Said, said-no, said_same}
 use Rattle.rules.specs.Command.{outcome_of}
 use Rattle.line.specs.declared.line.Part.{Part}
 use Rattle.line.specs.declared.line.Parts.{Parts}
-use Rattle.line.specs.declared.line.Line.{Line}
-use Rattle.line.specs.declared.line.Line.TheVariants.{Read, Misspelled}
 use Rattle.reply.specs.Reply.{of_line, enough_rows, line_outcome, printed}
 use Rattle.reply.specs.Internal.Parts.{Held, HeldBoth, form_words, parts_test}
 use Rattle.reply.proofs.ReadLaws.{Lies, Inside, line-inside}
+use Rattle.form.specs.declared.answer.Refusal.TheVariants.{NotACommand, WorkTooShort}
 
 -- rows of these lengths
 module _ (list form work : ℕ) where
-  pub few-list : list < 8192 → false ≡ enough_rows list form work
-  few-list h = rw (lt-leb 8192 list h)
-
-  module _ (a : 8192 ≤ list) where
-    pub few-form : form < 8192 → false ≡ enough_rows list form work
-    few-form h = rw (le-leb 8192 list a, lt-leb 8192 form h)
-
-    pub work-left : 8192 ≤ form → leb 16384 work ≡ enough_rows list form work
-    work-left b = rw (le-leb 8192 list a, le-leb 8192 form b)
-
   enough-by : (p q r : Bool) → (p && (q && r)) ≡ true → (p ≡ true) × (q ≡ true)
   enough-by true true r e = (refl, refl)
   enough-by true false r e = absurd (clash cc)
@@ -55,34 +45,34 @@ held_by line row row' ws p (a, b, c) m w l =
 
 -- the answer of a line
 module _ (line : List ℕ) (list form work room : ℕ) where
-  pub not-enough : enough_rows list form work ≡ false → (result : List ℕ) → Said (No 15 0) (line_outcome line list form work room) result result
+  pub not-enough : enough_rows list form work ≡ false → (result : List ℕ) → Said (Err WorkTooShort) (line_outcome line list form work room) result result
   unfolding line_outcome
-  not-enough e result = said-no (line_outcome line list form work room) 15 result (rw e)
+  not-enough e result = said-no (line_outcome line list form work room) WorkTooShort result (rw e)
 
   module _ (enough : enough_rows list form work ≡ true) where
     is-line : line_outcome line list form work room ≡ of_line line work room (read_line line)
     unfolding line_outcome
     is-line = rw enough
 
-    bad-by : (x : Formed) → Misspelled ≡ line_of x → of_line line work room x ≡ refusal 8
+    bad-by : (x : Formed) → None ≡ line_of x → of_line line work room x ≡ stop NotACommand
     unfolding line_of
-    bad-by (formed (Read p) ws) e = absurd (clash cc)
-    bad-by (formed Misspelled ws) e = refl
+    bad-by (formed (Some p) ws) e = absurd (clash cc)
+    bad-by (formed None ws) e = refl
 
-    module _ (l : Line) (e : l ≡ line_of (read_line line)) where
-      pub misspelled : l ≡ Misspelled → (result : List ℕ) → Said (No 8 0) (line_outcome line list form work room) result result
-      misspelled q result = said-no _ 8 result (is-line ∙ bad-by (read_line line) (sym q ∙ e))
+    module _ (l : Option Parts) (e : l ≡ line_of (read_line line)) where
+      pub misspelled : l ≡ None → (result : List ℕ) → Said (Err NotACommand) (line_outcome line list form work room) result result
+      misspelled q result = said-no _ NotACommand result (is-line ∙ bad-by (read_line line) (sym q ∙ e))
 
-      module _ (p : Parts) (q : l ≡ Read p) where
-        is-by : (x : Formed) → Read p ≡ line_of x → x ≡ formed (Read p) (form_row x)
+      module _ (p : Parts) (q : l ≡ Some p) where
+        is-by : (x : Formed) → Some p ≡ line_of x → x ≡ formed (Some p) (form_row x)
         unfolding line_of form_row
-        is-by (formed (Read p') ws) k = let z : p' ≡ p = cc in rw z
-        is-by (formed Misspelled ws) k = absurd (clash cc)
+        is-by (formed (Some p') ws) k = let z : p' ≡ p = cc in rw z
+        is-by (formed None ws) k = absurd (clash cc)
 
-        is-command : read_line line ≡ formed (Read p) (form_words line)
+        is-command : read_line line ≡ formed (Some p) (form_words line)
         is-command = is-by (read_line line) (sym q ∙ e)
 
-        where-it-is : Inside line (list_row line) (formed (Read p) (form_words line))
+        where-it-is : Inside line (list_row line) (formed (Some p) (form_words line))
         where-it-is = rw is-command at (line-inside line)
 
         pub held-form : (row row' : List ℕ) → form ≡ length row → row' ≡ put row 0 (form_words line) → length row' ≡ length row → Held line row' (form_words line) p.form
@@ -102,26 +92,23 @@ module _ (line : List ℕ) (list form work room : ℕ) where
 
 -- printing
 module _ (o : Outcome) (r : Answer) (before result : List ℕ) (s : Said r o before result) where
-  pub room-there : (n : ℕ) → r ≡ Done n → n ≤ length result
+  pub room-there : (n : ℕ) → r ≡ Ok n → n ≤ length result
   room-there n q = go o s.0 s.1
     where
       go : (o : Outcome) → r ≡ told o → result ≡ written o before → n ≤ length result
       go (answer ws) e f = let z : length ws ≡ n = cc in rw f (omega (arith, length-append ws (drop (length ws) before), z))
-      go (stop k p) e f = absurd (clash cc)
+      go (stop k) e f = absurd (clash cc)
 
-  pub too_short : (n : ℕ) → r ≡ Done n → length result < n → {A : Type 0} → A
-  too_short n q h = let l = room-there n q in absurd (omega arith)
-
-  pub row-there : (n bytes : ℕ) → r ≡ Done n → printed bytes (answer (take n result)) ≡ printed bytes o
+  pub row-there : (n bytes : ℕ) → r ≡ Ok n → printed bytes (answer (take n result)) ≡ printed bytes o
   row-there n bytes q = go o s.0 s.1
     where
       go : (o : Outcome) → r ≡ told o → result ≡ written o before → printed bytes (answer (take n result)) ≡ printed bytes o
       go (answer ws) e f = let z : length ws ≡ n = cc in rw (← z, f, take-append_seam ws (drop (length ws) before))
-      go (stop k p) e f = absurd (clash cc)
+      go (stop k) e f = absurd (clash cc)
 
-  pub no-there : (k p bytes : ℕ) → r ≡ No k p → printed bytes (stop k p) ≡ printed bytes o
-  no-there k p bytes q = go o s.0
+  pub no-there : (k : Refusal) (bytes : ℕ) → r ≡ Err k → printed bytes (stop k) ≡ printed bytes o
+  no-there k bytes q = go o s.0
     where
-      go : (o : Outcome) → r ≡ told o → printed bytes (stop k p) ≡ printed bytes o
+      go : (o : Outcome) → r ≡ told o → printed bytes (stop k) ≡ printed bytes o
       go (answer ws) e = absurd (clash cc)
-      go (stop j m) e = let z : j ≡ k = cc in let y : m ≡ p = cc in rw (z, y)
+      go (stop j) e = let z : j ≡ k = cc in rw z

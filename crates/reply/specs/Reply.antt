@@ -1,7 +1,8 @@
--- What a line is answered: 8 where it is misspelled; then each row's 1 and 2, and 8 where its brackets do not hold its nodes; then the
--- command's own answer, printed.
-use Rattle.std.specs.Prelude.{Bool, ◌&&◌, List, ℕ, ◌-◌, leb, ℤ, take, drop}
-use Rattle.form.specs.Answer.{Outcome, answer, stop, refusal, within, with_form, with_list, needs}
+-- What a line is answered: that it is no command where it is misspelled, or where the brackets of a row that is not refused do not hold its
+-- nodes; each row's refusal; then the command's own answer, printed.
+use Rattle.std.specs.Prelude.{Bool, ◌&&◌, Some, None, List, ℕ, ◌-◌, leb, ℤ, take, drop}
+use Rattle.form.specs.Answer.{Outcome, answer, stop, within, with_form, with_list, needs}
+use Rattle.form.specs.Refusal.{number_of, position_of}
 use Rattle.form.specs.declared.answer.Kind.{Kind}
 use Rattle.form.specs.declared.answer.ListKind.{ListKind}
 use Rattle.form.specs.declared.answer.ListKind.TheVariants as list_of
@@ -12,21 +13,21 @@ use Rattle.rules.specs.declared.command.Args.TheVariants.{Nothing, Offset, Names
 use Rattle.spell.specs.Spell.{fits_form, fits_list, fits_names, print_outcome, print_no}
 use Rattle.line.specs.Line.{Formed, formed, read_line, list_row}
 use Rattle.line.specs.declared.line.Part.{Part}
-use Rattle.line.specs.declared.line.Line.TheVariants.{Read, Misspelled}
+use Rattle.form.specs.declared.answer.Refusal.TheVariants.{NotACommand, WorkTooShort}
 
 -- the bytes of a group
 abbrev pub text_of : List ℕ → Part → List ℕ
 text_of line p = take (p.end - p.start) (drop p.start line)
 
--- a row's 1 and 2, then its 8; names have no 2
+-- a row's own refusals, then that of its brackets; a list of names breaks nowhere
 unfoldable pub spelled_form : Kind → List ℕ → List ℕ → Outcome → Outcome
-spelled_form kind text row o = with_form kind row (λ s f. needs 8 (fits_form text row) o)
+spelled_form kind text row o = with_form kind row (λ s f. needs NotACommand (fits_form text row) o)
 
 unfoldable pub spelled_list : ListKind → List ℕ → List ℕ → Outcome → Outcome
-spelled_list kind text row o = with_list kind row (λ es. needs 8 (fits_list kind text row) o)
+spelled_list kind text row o = with_list kind row (λ es. needs NotACommand (fits_list kind text row) o)
 
 unfoldable pub spelled_names : List ℕ → List ℕ → Outcome → Outcome
-spelled_names text row o = within row (needs 8 (fits_names text row) o)
+spelled_names text row o = within row (needs NotACommand (fits_names text row) o)
 
 -- the list by the shape of the arguments
 abbrev pub spelled_args : Args → List ℕ → List ℕ → Outcome → Outcome
@@ -42,21 +43,21 @@ command_outcome c z list_text list text row work room =
     spelled_form (kind_of c) text row (spelled_args (args_of c) list_text list (outcome_of c z list row work room))
 
 abbrev pub of_line : List ℕ → ℕ → ℕ → Formed → Outcome
-of_line line work room (formed (Read p) ws) =
+of_line line work room (formed (Some p) ws) =
     command_outcome p.command p.offset (text_of line p.list) (list_row line) (text_of line p.form) ws work room
-of_line line work room (formed Misspelled ws) = refusal 8
+of_line line work room (formed None ws) = stop NotACommand
 
--- 15 where the row for the list or for the form has under 8,192 words, or the work row under 16,384
+-- the rows for the list and for the form have at least 8,192 words, the work row at least 16,384
 abbrev pub enough_rows : ℕ → ℕ → ℕ → Bool
 enough_rows list form work = leb 8192 list && (leb 8192 form && leb 16384 work)
 
 unfoldable pub line_outcome : List ℕ → ℕ → ℕ → ℕ → ℕ → Outcome
-line_outcome line list form work room = needs 15 (enough_rows list form work) (of_line line work room (read_line line))
+line_outcome line list form work room = needs WorkTooShort (enough_rows list form work) (of_line line work room (read_line line))
 
 -- the bytes of the answer, in a buffer of so many
 abbrev pub printed : ℕ → Outcome → Outcome
 printed bytes (answer ws) = print_outcome ws bytes
-printed bytes (stop k p) = print_no k p bytes
+printed bytes (stop r) = print_no (number_of r) (position_of r) bytes
 
 unfoldable pub reply_outcome : List ℕ → ℕ → ℕ → ℕ → ℕ → ℕ → Outcome
 reply_outcome line list form work room bytes = printed bytes (line_outcome line list form work room)

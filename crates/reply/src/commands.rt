@@ -16,8 +16,7 @@ fn check_list(line: &[u8], list: &[u32], args: Args, part: Part) -> Answer
     ensures { result ≡ told (spelled_args args (text_of line.now part) (list_row line.now) (answer [])) }
 {
     match args {
-        Args::Nothing => Answer::Done(0),
-        Args::Offset => Answer::Done(0),
+        Args::Nothing | Args::Offset => Ok(0),
         Args::Names => check_names_part(line, list, part),
         Args::Pairs => check_list_part(line, list, part, ListKind::Pairs),
         Args::Places => check_list_part(line, list, part, ListKind::Places),
@@ -30,10 +29,7 @@ pub(crate) fn check_parts(line: &[u8], list: &[u32], row: &[u32], parts: Parts) 
     ensures { result ≡ told (parts_test line.now parts (answer [])) }
 {
     let command = parts.command;
-    let checked = check_form_part(line, row, parts.form, kind_of(command));
-    let Answer::Done(m) = checked else {
-        return checked;
-    };
+    check_form_part(line, row, parts.form, kind_of(command))?;
     check_list(line, list, args_of(command), parts.list)
 }
 
@@ -41,9 +37,5 @@ pub(crate) fn check_parts(line: &[u8], list: &[u32], row: &[u32], parts: Parts) 
 pub(crate) fn words_of(part: Part) -> usize
     ensures { (result ≤ 8192) × (part.count ≤ 8192 → result ≡ part.count) }
 {
-    let count = part.count;
-    if Limit::WORDS < count {
-        return Limit::WORDS;
-    }
-    count
+    part.count.min(Limit::WORDS)
 }

@@ -6,23 +6,20 @@ ghost use Rattle.reply.specs.Reply.{text_of, spelled_form, spelled_list, spelled
 ghost use Rattle.reply.specs.Internal.Parts.{Held, form_words};
 
 use broken::position::broken_list;
-use form::answer::{Answer, Kind, Limit, ListKind};
+use form::answer::{Answer, Kind, Limit, ListKind, Refusal};
 use line::line::Part;
 use reader::check::{is_expr, is_of_kind};
-use reader::lists::mark_list;
+use reader::lists::{Table, mark_list};
 
 // A row's check, where it is known whether the text is the spelling of a form.
 fn check_row(row: &[u32], kind: Kind, fits: bool) -> Answer
-    ensures { result ≡ told (with_form kind row.now (λ s f. needs 8 fits (answer []))) }
+    ensures { result ≡ told (with_form kind row.now (λ s f. needs Refusal.NotACommand fits (answer []))) }
 {
-    let checked = reader::check::check(row, kind);
-    let Answer::Done(m) = checked else {
-        return checked;
-    };
+    reader::check::check(row, kind)?;
     if !fits {
-        return Answer::No(8, 0);
+        return Err(Refusal::NotACommand);
     }
-    Answer::Done(0)
+    Ok(0)
 }
 
 // Whether the row is one form of the kind and the text its spelling. A row whose text is its spelling is a form of the sort of its first tag;
@@ -35,13 +32,10 @@ pub fn check_text(text: &[u8], row: &[u32], kind: Kind) -> Answer
     }
     let expression = is_expr(row, kind);
     let first = is_expr(row, Kind::Either);
-    if expression != first {
+    if expression != first || !is_of_kind(row, kind) {
         return check_row(row, kind, true);
     }
-    if !is_of_kind(row, kind) {
-        return check_row(row, kind, true);
-    }
-    Answer::Done(0)
+    Ok(0)
 }
 
 // Whether the row is a list of the kind and the text its spelling.
@@ -49,20 +43,17 @@ pub fn check_list_text(text: &[u8], row: &[u32], kind: ListKind) -> Answer
     ensures { result ≡ told (spelled_list kind text.now row.now (answer [])) }
 {
     if Limit::WORDS < row.len() {
-        return Answer::No(1, 0);
+        return Err(Refusal::TooLong);
     }
     let mut marks = [0u32; 1];
-    let mut words = [0u32; 32];
-    let mut starts = [0usize; 32];
-    let mut ends = [0usize; 32];
-    let listed = mark_list(row, kind, &mut marks, &mut words, &mut starts, &mut ends);
-    if !listed.ok {
-        return Answer::No(2, broken_list(row, kind));
+    let mut table = Table::new();
+    if !mark_list(row, kind, &mut marks, &mut table) {
+        return Err(Refusal::Broken(broken_list(row, kind)));
     }
     if !spell::fits::fits_list(text, row, kind) {
-        return Answer::No(8, 0);
+        return Err(Refusal::NotACommand);
     }
-    Answer::Done(0)
+    Ok(0)
 }
 
 // Whether the row is short enough and the text its spelling as a list of names.
@@ -70,12 +61,12 @@ pub fn check_names_text(text: &[u8], row: &[u32]) -> Answer
     ensures { result ≡ told (spelled_names text.now row.now (answer [])) }
 {
     if Limit::WORDS < row.len() {
-        return Answer::No(1, 0);
+        return Err(Refusal::TooLong);
     }
     if !spell::fits::fits_names(text, row) {
-        return Answer::No(8, 0);
+        return Err(Refusal::NotACommand);
     }
-    Answer::Done(0)
+    Ok(0)
 }
 
 // The form of a line.
@@ -83,13 +74,10 @@ pub(crate) fn check_form_part(line: &[u8], row: &[u32], part: Part, kind: Kind) 
     requires { Held line.now row.now (form_words line.now) part }
     ensures { result ≡ told (spelled_form kind (text_of line.now part) (form_words line.now) (answer [])) }
 {
-    let start = part.start;
-    let end = part.end;
-    let count = part.count;
-    if Limit::WORDS < count {
-        return Answer::No(1, 0);
+    if Limit::WORDS < part.count {
+        return Err(Refusal::TooLong);
     }
-    check_text(&line[start..end], &row[..count], kind)
+    check_text(&line[part.start..part.end], &row[..part.count], kind)
 }
 
 // The list of a line.
@@ -97,13 +85,10 @@ pub(crate) fn check_list_part(line: &[u8], row: &[u32], part: Part, kind: ListKi
     requires { Held line.now row.now (list_row line.now) part }
     ensures { result ≡ told (spelled_list kind (text_of line.now part) (list_row line.now) (answer [])) }
 {
-    let start = part.start;
-    let end = part.end;
-    let count = part.count;
-    if Limit::WORDS < count {
-        return Answer::No(1, 0);
+    if Limit::WORDS < part.count {
+        return Err(Refusal::TooLong);
     }
-    check_list_text(&line[start..end], &row[..count], kind)
+    check_list_text(&line[part.start..part.end], &row[..part.count], kind)
 }
 
 // The names of a line.
@@ -111,11 +96,8 @@ pub(crate) fn check_names_part(line: &[u8], row: &[u32], part: Part) -> Answer
     requires { Held line.now row.now (list_row line.now) part }
     ensures { result ≡ told (spelled_names (text_of line.now part) (list_row line.now) (answer [])) }
 {
-    let start = part.start;
-    let end = part.end;
-    let count = part.count;
-    if Limit::WORDS < count {
-        return Answer::No(1, 0);
+    if Limit::WORDS < part.count {
+        return Err(Refusal::TooLong);
     }
-    check_names_text(&line[start..end], &row[..count])
+    check_names_text(&line[part.start..part.end], &row[..part.count])
 }

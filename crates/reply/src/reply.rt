@@ -4,21 +4,15 @@ ghost use Rattle.form.specs.Answer.{told, written};
 ghost use Rattle.reply.specs.Reply.{enough_rows, line_outcome, reply_outcome};
 
 use crate::commands::{check_parts, words_of};
-use form::answer::{Answer, Limit};
-use line::line::Line;
+use form::answer::{Answer, Limit, Refusal};
+use line::line::read_line;
 use spell::answer::{print_form, print_no};
 
 // Whether rows of these lengths are long enough for every line.
 fn are_enough(list: usize, form: usize, work: usize) -> bool
     ensures { result ≡ enough_rows list form work }
 {
-    if list < Limit::WORDS {
-        return false;
-    }
-    if form < Limit::WORDS {
-        return false;
-    }
-    16384 <= work
+    Limit::WORDS <= list && Limit::WORDS <= form && 16384 <= work
 }
 
 // The row that answers the line. The rows of the list and of the form are work rows too.
@@ -33,19 +27,22 @@ pub fn answer_line(
     ensures res_after { res.new ≡ written (line_outcome line.now (length list.old) (length form.old) (length work.old) (length res.old)) res.old }
 {
     if !are_enough(list.len(), form.len(), work.len()) {
-        return Answer::No(15, 0);
+        return Err(Refusal::WorkTooShort);
     }
-    let Line::Read(parts) = line::line::read_line(line, list, form) else {
-        return Answer::No(8, 0);
+    let Some(parts) = read_line(line, list, form) else {
+        return Err(Refusal::NotACommand);
     };
-    let checked = check_parts(line, list, form, parts);
-    let Answer::Done(k) = checked else {
-        return checked;
-    };
-    let command = parts.command;
+    check_parts(line, list, form, parts)?;
     let n = words_of(parts.list);
     let m = words_of(parts.form);
-    calls::run(command, parts.offset, &list[..n], &form[..m], work, res)
+    calls::run(
+        parts.command,
+        parts.offset,
+        &list[..n],
+        &form[..m],
+        work,
+        res,
+    )
 }
 
 // The bytes that answer the line, at the front of the buffer. All other rows are work rows.
@@ -61,12 +58,7 @@ pub fn reply(
     ensures bytes_after { bytes.new ≡ written (reply_outcome line.now (length list.old) (length form.old) (length work.old) (length res.old) (length bytes.old)) bytes.old }
 {
     match answer_line(line, list, form, work, res) {
-        Answer::Done(n) => {
-            if res.len() < n {
-                return Answer::No(14, 0);
-            }
-            print_form(&res[..n], bytes)
-        }
-        Answer::No(k, p) => print_no(k, p, bytes),
+        Ok(n) => print_form(&res[..n], bytes),
+        Err(refusal) => print_no(refusal.number(), refusal.position(), bytes),
     }
 }

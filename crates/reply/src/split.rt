@@ -15,14 +15,10 @@ pub enum Next {
 fn newline(bytes: &[u8]) -> usize
     ensures { result ≡ newline_in bytes.now }
 {
-    let mut i: usize = 0;
-    while i < bytes.len() {
-        if bytes[i] == b'\n' {
-            return i;
-        }
-        i += 1;
-    }
-    i
+    bytes
+        .iter()
+        .position(|byte| *byte == b'\n')
+        .unwrap_or(bytes.len())
 }
 
 // What is to be done with the bytes that are not answered yet, where a line that is too long is being skipped or not.

@@ -1,17 +1,17 @@
 // The head of the declarations that are kept, put round a body: alone, or joined with the declarations of the body's own quantifier.
-ghost use Rattle.std.specs.Prelude.{◌≡◌, ◌&&◌, [], ◌∷◌, ◌++◌, ◌+◌, ◌≤◌, leb, length, get_or, take, drop};
-ghost use Rattle.tree.specs.Form.{pick};
+ghost use Rattle.std.specs.Prelude.{◌≡◌, ◌&&◌, ◌∷◌, ◌++◌, ◌+◌, ◌≤◌, leb, length, get_or, take, drop};
 ghost use Rattle.decls.specs.Internal.Noted.{decls_end, noted_head};
-ghost use Rattle.rounds.specs.Internal.Round.{head_names, head_notes, round_head, round_from, can_join, join_fits, round_fits};
+ghost use Rattle.rounds.specs.Internal.Round.{head_names, head_notes, round_head, round_from, can_join, join_fits, round_fits, HeadTold};
 
 use decls::ends::decls_end;
 use decls::heads::{flag_names, write_flagged, write_noted};
+use form::answer::Limit;
 use replace::tables::put_words;
+use tree::tag::Tag;
 
-// Whether a head had room, its length, and from which word on the body follows it.
+// How long a head is, and from which word on the body follows it.
 #[derive(Clone, Copy)]
 pub struct Round {
-    pub ok: bool,
     pub words: usize,
     pub from: usize,
 }
@@ -20,68 +20,51 @@ pub struct Round {
 fn word_at(row: &[u32], i: usize) -> u32
     ensures { result ≡ get_or row.now i 0 }
 {
-    if row.len() <= i {
-        return 0;
-    }
-    row[i]
+    row.get(i).copied().unwrap_or(0)
 }
 
 // Whether a head of h words can be joined with k declarations of a body of so many words.
+#[tactic(auto, unfolding(crate::specs::Internal::Round::can_join))]
 fn can_join(h: usize, k: u32, words: usize) -> bool
     ensures { result ≡ can_join h k words }
 {
-    if h < 2 {
-        return false;
-    }
-    if 32 < k {
-        return false;
-    }
-    2 + (k as usize) <= words
+    2 <= h && k <= 32 && 2 + k as usize <= words
 }
 
 // A tag, a number, the words that stand in the first h ones from 2 on, and the inner ones behind them, if that is no more than 8,192 words. The
 // body follows from `from` on.
-fn put_inner(tag: u32, m: u32, inner: &[u32], head: &mut [u32], h: usize, from: usize) -> Round
+fn put_inner(
+    tag: u32,
+    m: u32,
+    inner: &[u32],
+    head: &mut [u32],
+    h: usize,
+    from: usize,
+) -> Option<Round>
     requires { (2 ≤ h) × (h ≤ 8192) × (8192 ≤ length head.old) }
-    ensures ok_value { result.ok ≡ leb (h + length inner.now) 8192 }
-    ensures words_in_bounds { result.words ≤ length head.old }
-    ensures head_after { take result.words head.new ≡ pick result.ok (tag ∷ m ∷ (drop 2 (take h head.old) ++ inner.now)) [] }
-    ensures from_value { result.from ≡ pick result.ok from 0 }
+    ensures { HeadTold (leb (h + length inner.now) 8192) (tag ∷ m ∷ (drop 2 (take h head.old) ++ inner.now)) from result head.new }
 {
-    if 8192 - h < inner.len() {
-        return Round {
-            ok: false,
-            words: 0,
-            from: 0,
-        };
+    let words = h + inner.len();
+    if Limit::WORDS < words {
+        return None;
     }
     put_words(inner, head, h);
     head[0] = tag;
     head[1] = m;
-    Round {
-        ok: true,
-        words: h + inner.len(),
-        from: from,
-    }
+    Some(Round { words, from })
 }
 
 // The head in the first h words, made longer by the names that the body declares, which get flags where the head has them.
-fn round_names(op: u32, body: &[u32], head: &mut [u32], h: usize) -> Round
+#[tactic(auto, using(crate::proofs::HeadLaws::join_all), unfolding(crate::specs::Internal::Round::join_fits, decls::specs::Internal::Noted::names_fit))]
+fn round_names(op: u32, body: &[u32], head: &mut [u32], h: usize) -> Option<Round>
     requires { (h ≤ 8192) × (8192 ≤ length head.old) × (2 ≤ h → get_or head.old 1 0 ≤ 32) }
-    ensures ok_value { result.ok ≡ join_fits (take h head.old) body.now (head_names op (take h head.old) body.now) }
-    ensures words_in_bounds { result.words ≤ length head.old }
-    ensures head_after { take result.words head.new ≡ pick result.ok (head_names op (take h head.old) body.now) [] }
-    ensures from_value { result.from ≡ pick result.ok (2 + get_or body.now 1 0) 0 }
+    ensures { HeadTold (join_fits (take h head.old) body.now (head_names op (take h head.old) body.now)) (head_names op (take h head.old) body.now) (2 + get_or body.now 1 0) result head.new }
 {
     let k = word_at(body, 1);
     if !can_join(h, k, body.len()) {
-        return Round {
-            ok: false,
-            words: 0,
-            from: 0,
-        };
+        return None;
     }
-    let end = 2 + (k as usize);
+    let end = 2 + k as usize;
     let tag = head[0];
     let m = head[1] + k;
     if tag == op {
@@ -93,6 +76,7 @@ fn round_names(op: u32, body: &[u32], head: &mut [u32], h: usize) -> Round
 }
 
 // The kept declarations, whose head stands in the first h words, in full, and the words that the body's annotated declarations become.
+#[tactic(auto, using(crate::proofs::HeadLaws::join_all), unfolding(crate::specs::Internal::Round::join_fits))]
 fn round_notes(
     op: u32,
     keep: &[u32],
@@ -101,21 +85,14 @@ fn round_notes(
     body: &[u32],
     head: &mut [u32],
     h: usize,
-) -> Round
+) -> Option<Round>
     requires op_bound { (op ≤ 852) × (h ≤ 8192) × (8192 ≤ length head.old) }
     requires head_value { take h head.old ≡ noted_head op keep.now decls.now 8192 }
-    ensures ok_value { result.ok ≡ join_fits (take h head.old) body.now (head_notes op keep.now decls.now notes.now body.now) }
-    ensures words_in_bounds { result.words ≤ length head.old }
-    ensures head_after { take result.words head.new ≡ pick result.ok (head_notes op keep.now decls.now notes.now body.now) [] }
-    ensures from_value { result.from ≡ pick result.ok (decls_end body.now 2 (get_or body.now 1 0)) 0 }
+    ensures { HeadTold (join_fits (take h head.old) body.now (head_notes op keep.now decls.now notes.now body.now)) (head_notes op keep.now decls.now notes.now body.now) (decls_end body.now 2 (get_or body.now 1 0)) result head.new }
 {
     let k = word_at(body, 1);
     if !can_join(h, k, body.len()) {
-        return Round {
-            ok: false,
-            words: 0,
-            from: 0,
-        };
+        return None;
     }
     let m = head[1] + k;
     let e = write_flagged(keep, decls, head);
@@ -127,6 +104,7 @@ fn round_notes(
 // `joins` is said, it is joined with the body's own quantifier, if that has the same operator: with its names, or, where `clear` is said, with
 // its annotated declarations, which become the words `notes`. It is not made where it would have more than 8,192 words, or the lent row has
 // fewer.
+#[tactic(auto, using(crate::proofs::HeadLaws::written), unfolding(crate::specs::Internal::Round::round_fits))]
 pub fn round_head(
     op: u32,
     keep: &[u32],
@@ -136,44 +114,19 @@ pub fn round_head(
     notes: &[u32],
     body: &[u32],
     head: &mut [u32],
-) -> Round
-    ensures ok_value { result.ok ≡ (leb 8192 (length head.old) && round_fits op keep.now decls.now joins clear notes.now body.now) }
-    ensures words_in_bounds { result.words ≤ length head.old }
-    ensures head_after { take result.words head.new ≡ pick result.ok (round_head op keep.now decls.now joins clear notes.now body.now) [] }
-    ensures from_value { result.from ≡ pick result.ok (round_from op joins clear body.now) 0 }
+) -> Option<Round>
+    ensures { HeadTold (leb 8192 (length head.old) && round_fits op keep.now decls.now joins clear notes.now body.now) (round_head op keep.now decls.now joins clear notes.now body.now) (round_from op joins clear body.now) result head.new }
 {
-    if head.len() < 8192 {
-        return Round {
-            ok: false,
-            words: 0,
-            from: 0,
-        };
-    }
-    if 852 < op {
-        return Round {
-            ok: false,
-            words: 0,
-            from: 0,
-        };
+    if head.len() < Limit::WORDS || Tag::EXISTS < op {
+        return None;
     }
     let h = write_noted(op, keep, decls, head);
-    let plain = Round {
-        ok: true,
-        words: h,
-        from: 0,
-    };
-    if !joins {
-        return plain;
-    }
     let first = word_at(body, 0);
-    if first == op {
-        return round_names(op, body, head, h);
+    if joins && first == op {
+        round_names(op, body, head, h)
+    } else if joins && clear && first == op + 10 {
+        round_notes(op, keep, decls, notes, body, head, h)
+    } else {
+        Some(Round { words: h, from: 0 })
     }
-    if !clear {
-        return plain;
-    }
-    if first != op + 10 {
-        return plain;
-    }
-    round_notes(op, keep, decls, notes, body, head, h)
 }

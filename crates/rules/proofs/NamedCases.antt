@@ -11,6 +11,7 @@ use Rattle.form.specs.Answer.{Outcome, answer, stop, finish}
 use Rattle.rules.specs.Named.{occurrence, nameless, named_outcome}
 use Rattle.rules.specs.Command.{outcome_of}
 use Rattle.rules.specs.declared.command.Command.TheVariants.{Named}
+use Rattle.form.specs.declared.answer.Refusal.TheVariants.{Broken}
 
 -- a row with names, and the row with indices; a row, and where it breaks
 abbrev Case : Type 0
@@ -72,6 +73,6 @@ indices =
     ∷ (852 ∷ 2 ∷ 2 ∷ 2 ∷ 101 ∷ 1 ∷ 2 ∷ [], 7)
     ∷ []
 
-pub named-breaks : map (λ c. named c.0) indices ≡ map (λ c. stop 2 c.1) indices
+pub named-breaks : map (λ c. named c.0) indices ≡ map (λ c. stop (Broken c.1)) indices
 unfolding named_outcome form_of row_form index_free decode decode_all decl_at decls read own own_of shape_of expr_tags pred_tags encode decls_next next_of least least_all after break_from break_at
 named-breaks = refl

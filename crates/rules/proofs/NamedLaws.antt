@@ -13,7 +13,7 @@ use Rattle.tree.specs.Form.{Leaf, free, bound, Form, leaf, node, noted, Decls, u
 use Rattle.tree.specs.Tag.{Sort}
 use Rattle.form.specs.Decode.{one, row_form, index_free, index_free_decls, index_free_all, Found, found, missing, form_of}
 use Rattle.form.specs.Break.{break_at}
-use Rattle.form.specs.Answer.{Outcome, answer, refusal, told, number, within, of_found, with_form, needs, is_one, finish}
+use Rattle.form.specs.Answer.{Outcome, answer, stop, told, number, within, of_found, with_form, needs, is_one, finish}
 use Rattle.form.specs.declared.answer.Kind.TheVariants.{Named}
 use Rattle.form.proofs.HeadLaws.{few-names, few-decls}
 use Rattle.form.proofs.DecodeLaws.{clash, Ok, ok-free, ok-bound, ok-node, ok-noted, OkDecls, ok_end, ok-bare, ok-typed, OkAll, ok-none, ok-more}
@@ -24,6 +24,7 @@ use Rattle.rules.specs.Named.{opened, further, occurrence, nameless_leaf, namele
 use Rattle.rules.proofs.WalkLaws.{each_all, each_decls, and_left, and_right}
 use Rattle.rules.proofs.LimitLaws.{fine_leaf, two-words}
 use Rattle.rules.proofs.OkLaws.{ok-leaf}
+use Rattle.form.specs.declared.answer.Refusal.TheVariants.{TooLong, OutputTooShort}
 
 -- a scope grows by the names that a node declares
 pub opened-length : (ds S : List ℕ) → length (opened ds S) ≡ length ds + length S
@@ -260,7 +261,7 @@ nameless-limits s row f e = ap is_one (nameless-row s row f e)
 -- so named answers, for every row and room: 1 for a row that is too long; 2 for one that is no form written with names; 14 where there is less
 -- room than the row has words; or else the row of the nameless form
 abbrev pub answered : List ℕ → ℕ → Sort → Form → Outcome
-answered row room s f = needs 14 (leb (length row) room) (answer (encode (nameless [] f)))
+answered row room s f = needs OutputTooShort (leb (length row) room) (answer (encode (nameless [] f)))
 
 pub named-outcomes : (row : List ℕ) (room : ℕ) → named_outcome row room ≡ with_form Named row (answered row room)
 unfolding named_outcome finish
@@ -277,11 +278,11 @@ named-outcomes row room = ap (within row) (go (form_of Named row) refl)
 pub named-never-7 : (row : List ℕ) (room : ℕ) → number (told (named_outcome row room)) ≡ 7 → ⊥
 named-never-7 row room h = go (leb (length row) 8192) (form_of Named row) (rw (named-outcomes row room) at h)
   where
-    enough : (b : Bool) (ws : List ℕ) → number (told (needs 14 b (answer ws))) ≡ 7 → ⊥
+    enough : (b : Bool) (ws : List ℕ) → number (told (needs OutputTooShort b (answer ws))) ≡ 7 → ⊥
     enough true ws q = omega arith
     enough false ws q = omega arith
 
-    go : (b : Bool) (x : Found) → number (told (pick b (of_found (break_at Named row) (answered row room) x) (refusal 1))) ≡ 7 → ⊥
+    go : (b : Bool) (x : Found) → number (told (pick b (of_found (break_at Named row) (answered row room) x) (stop TooLong))) ≡ 7 → ⊥
     go true (found s f) q = enough (leb (length row) room) (encode (nameless [] f)) q
     go true missing q = omega arith
     go false x q = omega arith

@@ -11,7 +11,7 @@ use lib.ListN.{replicate}
 use Rattle.tree.specs.Form.{free, bound, Form, leaf, node, noted, undeclared, bare, typed, Forms, none, more, encode}
 use Rattle.tree.specs.Tag.{expr, own, own_of, shape_of, expr_tags, pred_tags}
 use Rattle.form.specs.Decode.{read, decode, decode_all, not-one, row_form, index_free, form_of}
-use Rattle.form.specs.Answer.{answer, refusal, is_one, finish}
+use Rattle.form.specs.Answer.{answer, stop, is_one, finish}
 use Rattle.form.proofs.DecodeLaws.{clash, Ok, ok-free, ok-bound}
 use Rattle.rules.specs.Walk.{collect}
 use Rattle.rules.specs.Dangling.{closed}
@@ -19,6 +19,7 @@ use Rattle.rules.specs.Split.{equal}
 use Rattle.rules.specs.Named.{occurrence, nameless, named_outcome}
 use Rattle.rules.proofs.WalkLaws.{and_right}
 use Rattle.rules.proofs.NamedLaws.{lacks, declares, scope-unchanged, nameless-unchanged, nameless-closed}
+use Rattle.form.specs.declared.answer.Refusal.TheVariants.{OutputTooShort}
 
 abbrev one : Form → Forms
 one f = more f none
@@ -73,7 +74,7 @@ index-dangles = (refl, refl)
 
 -- the answer needs as much room as the row has words, here 8
 pub binds-one-room :
-    (named_outcome (encode binds_one) 7 ≡ refusal 14) × (named_outcome (encode binds_one) 8 ≡ answer (852 ∷ 1 ∷ 4 ∷ 101 ∷ 2 ∷ 0 ∷ 1 ∷ 7 ∷ []))
+    (named_outcome (encode binds_one) 7 ≡ stop OutputTooShort) × (named_outcome (encode binds_one) 8 ≡ answer (852 ∷ 1 ∷ 4 ∷ 101 ∷ 2 ∷ 0 ∷ 1 ∷ 7 ∷ []))
 unfolding named_outcome finish occurrence nameless form_of row_form index_free decode decode_all read own own_of shape_of expr_tags pred_tags encode
 binds-one-room = (refl, refl)
 

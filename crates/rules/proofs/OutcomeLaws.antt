@@ -15,7 +15,7 @@ use Rattle.tree.specs.Tag.{Sort, pred, expr}
 use Rattle.form.specs.Decode.{Whole, one, not-one, row_form, Found, found, missing, form_of}
 use Rattle.form.specs.Break.{Next, Open, least_all, after, break_from, break_sort, break_either, break_at, break_list, entry_next}
 use Rattle.form.specs.Lists.{Entry, word_of, list_of, good_names}
-use Rattle.form.specs.Answer.{Outcome, answer, stop, refusal, of_found, of_list, with_form, with_list, needs, is_one, finish}
+use Rattle.form.specs.Answer.{Outcome, answer, stop, of_found, of_list, with_form, with_list, needs, is_one, finish}
 use Rattle.form.specs.declared.answer.Kind.{Kind}
 use Rattle.form.specs.declared.answer.Kind.TheVariants.{Either, Expression, Predicate, Named as NamedRow}
 use Rattle.form.specs.declared.answer.ListKind.{ListKind}
@@ -32,8 +32,10 @@ use Rattle.rules.specs.Named.{nameless, named_outcome}
 use Rattle.rules.specs.Command.{outcome_of, numbered, of_numbered, number_outcome}
 use Rattle.rules.specs.declared.command.Command.{Command}
 use Rattle.rules.specs.declared.command.Command.TheVariants.{Shift, Free, Bind, Fill, Prune, Point, Member, Named}
-use Rattle.rules.specs.declared.command.Numbered.{Numbered}
-use Rattle.rules.specs.declared.command.Numbered.TheVariants.{Is, Unknown}
+use Rattle.form.specs.Refusal.{number_of, position_of}
+use Rattle.form.specs.declared.answer.Refusal.{Refusal}
+use Rattle.form.specs.declared.answer.Refusal.TheVariants.{TooLong, NotQuantified, BadNames, TooManyPlaces, Captured, OutOfLimits, NotACommand, NothingToRewrite, NoEquality, NoDeclaration, NotAbove, AlreadyFilled, OutputTooShort, WorkTooShort, Broken}
+use Rattle.std.specs.Prelude.{Option as Maybe, Some, None}
 
 -- where a row breaks
 break-by : (named : Bool) (z : ℕ → Next) (at : ℕ) (x : Open) (ws : List ℕ) → at ≤ 8192 → break_from named z at x ws ≤ 8192
@@ -76,42 +78,59 @@ pub record Refused (k p : ℕ) : Type 0 where
 -- what holds of an outcome whose answers are of a kind
 abbrev pub Settled : (List ℕ → Type 0) → Outcome → Type 0
 Settled P (answer ws) = P ws
-Settled P (stop k p) = Refused k p
+Settled P (stop r) = Refused (number_of r) (position_of r)
 
 pub settled-map : (P Q : List ℕ → Type 0) → ((ws : List ℕ) → P ws → Q ws) → (o : Outcome) → Settled P o → Settled Q o
 settled-map P Q f (answer ws) h = f ws h
-settled-map P Q f (stop k p) h = h
+settled-map P Q f (stop k) h = h
 
-no-position : (k : ℕ) → 1 ≤ k → Refused k 0
-no-position k h = record { numbered = h; low = omega arith; only_two = λ n. refl }
+has-number : (r : Refusal) → 1 ≤ number_of r
+has-number TooLong = omega arith
+has-number (Broken p) = omega arith
+has-number NotQuantified = omega arith
+has-number BadNames = omega arith
+has-number TooManyPlaces = omega arith
+has-number Captured = omega arith
+has-number OutOfLimits = omega arith
+has-number NotACommand = omega arith
+has-number NothingToRewrite = omega arith
+has-number NoEquality = omega arith
+has-number NoDeclaration = omega arith
+has-number NotAbove = omega arith
+has-number AlreadyFilled = omega arith
+has-number OutputTooShort = omega arith
+has-number WorkTooShort = omega arith
 
-broke : (p : ℕ) → p ≤ 8192 → Refused 2 p
+no-position : (r : Refusal) → position_of r ≡ 0 → Refused (number_of r) (position_of r)
+no-position r h = record { numbered = has-number r; low = omega (arith, h); only_two = λ n. h }
+
+broke : (p : ℕ) → p ≤ 8192 → Refused (number_of (Broken p)) p
 broke p h = record { numbered = omega arith; low = h; only_two = λ n. absurd (n refl) }
 
 -- the parts
 module _ (P : List ℕ → Type 0) where
-  pub refused : (k : ℕ) → 1 ≤ k → Settled P (refusal k)
-  refused k h = no-position k h
+  pub refused : (r : Refusal) → position_of r ≡ 0 → Settled P (stop r)
+  refused r h = no-position r h
 
-  pub tested : (k : ℕ) → 1 ≤ k → (b : Bool) (o : Outcome) → Settled P o → Settled P (needs k b o)
+  pub tested : (r : Refusal) → position_of r ≡ 0 → (b : Bool) (o : Outcome) → Settled P o → Settled P (needs r b o)
   tested k n true o h = h
   tested k n false o h = refused k n
 
   pub form-settled : (kind : Kind) (row : List ℕ) (go : Sort → Form → Outcome) → ((s : Sort) (f : Form) → row_form s row ≡ one f → Settled P (go s f)) → Settled P (with_form kind row go)
-  form-settled kind row go h = tested 1 (omega arith) (leb (length row) 8192) (of_found (break_at kind row) go (form_of kind row)) (by (form_of kind row) refl)
+  form-settled kind row go h = tested TooLong refl (leb (length row) 8192) (of_found (break_at kind row) go (form_of kind row)) (by (form_of kind row) refl)
     where
       by : (o : Found) → form_of kind row ≡ o → Settled P (of_found (break_at kind row) go o)
       by (found s f) e = h s f (found-exact kind row s f e)
       by missing e = broke (break_at kind row) (break-low kind row)
 
   pub list-settled : (kind : ListKind) (row : List ℕ) (go : List Entry → Outcome) → ((es : List Entry) → Settled P (go es)) → Settled P (with_list kind row go)
-  list-settled kind row go h = tested 1 (omega arith) (leb (length row) 8192) (of_list (break_list kind row) go (list_of kind row)) (by (list_of kind row))
+  list-settled kind row go h = tested TooLong refl (leb (length row) 8192) (of_list (break_list kind row) go (list_of kind row)) (by (list_of kind row))
     where
       by : (o : Option (List Entry)) → Settled P (of_list (break_list kind row) go o)
       by (some es) = h es
       by absent = broke (break_list kind row) (break-list-low kind row)
 
-  quantified-settled : (go : ℕ → List Decl → Form → Outcome) (k : ℕ) → 1 ≤ k → (q : Quantified) → ((t : ℕ) (ns : List Decl) (b : Form) → Settled P (go t ns b)) → Settled P (of_quantified go k q)
+  quantified-settled : (go : ℕ → List Decl → Form → Outcome) (r : Refusal) → position_of r ≡ 0 → (q : Quantified) → ((t : ℕ) (ns : List Decl) (b : Form) → Settled P (go t ns b)) → Settled P (of_quantified go r q)
   quantified-settled go k n (quantifier t ns b) h = h t ns b
   quantified-settled go k n other h = refused k n
 
@@ -126,10 +145,10 @@ pub finished : (s : Sort) (room : ℕ) (g : Form) → Settled OneForm (finish s 
 unfolding finish
 finished s room g = by (row_form s (encode g)) refl (leb (length (encode g)) room)
   where
-    by : (x : Whole) → row_form s (encode g) ≡ x → (b : Bool) → Settled OneForm (needs 7 (is_one x) (needs 14 b (answer (encode g))))
+    by : (x : Whole) → row_form s (encode g) ≡ x → (b : Bool) → Settled OneForm (needs OutOfLimits (is_one x) (needs OutputTooShort b (answer (encode g))))
     by (one f) e true = (s, f, e)
-    by (one f) e false = no-position 14 (omega arith)
-    by not-one e b = no-position 7 (omega arith)
+    by (one f) e false = no-position OutputTooShort refl
+    by not-one e b = no-position OutOfLimits refl
 
 -- the commands
 shift-settled : (row : List ℕ) (z : ℤ) (room : ℕ) → Settled OneForm (shift_outcome row z room)
@@ -138,46 +157,46 @@ shift-settled row z room = form-settled OneForm Either row _ (λ s f e. by s (sh
   where
     by : (s : Sort) (g : Option Form) → Settled OneForm (of_shifted s room g)
     by s (some g) = finished s room g
-    by s absent = no-position 6 (omega arith)
+    by s absent = no-position Captured refl
 
 free-settled : (list row : List ℕ) (work room : ℕ) → Settled OneForm (free_outcome list row work room)
 unfolding free_outcome
 free-settled list row work room =
-    tested OneForm 15 (omega arith) (leb 16384 work) _
-    (form-settled OneForm Either row _ (λ s f e. list-settled OneForm Pairs list _ (λ es. tested OneForm 4 (omega arith) (good_names (map word_of es)) _ (finished s room (substitute es f)))))
+    tested OneForm WorkTooShort refl (leb 16384 work) _
+    (form-settled OneForm Either row _ (λ s f e. list-settled OneForm Pairs list _ (λ es. tested OneForm BadNames refl (good_names (map word_of es)) _ (finished s room (substitute es f)))))
 
 bind-settled : (names row : List ℕ) (room : ℕ) → Settled OneForm (bind_outcome names row room)
 unfolding bind_outcome
 bind-settled names row room =
     form-settled OneForm Either row _
-    (λ s f e. tested OneForm 1 (omega arith) (leb (length names) 8192) _ (tested OneForm 4 (omega arith) (good_names names) _ (finished s room (bind names f))))
+    (λ s f e. tested OneForm TooLong refl (leb (length names) 8192) _ (tested OneForm BadNames refl (good_names names) _ (finished s room (bind names f))))
 
 fill-settled : (list row : List ℕ) (work room : ℕ) → Settled OneForm (fill_outcome list row work room)
 unfolding fill_outcome
 fill-settled list row work room =
-    tested OneForm 15 (omega arith) (leb 16384 work) _
+    tested OneForm WorkTooShort refl (leb 16384 work) _
     (form-settled OneForm Predicate row _
-    (λ s f e. list-settled OneForm Places list _ (λ es. quantified-settled OneForm _ 3 (omega arith) (quantified f) (λ t ns b. tested OneForm 5 (omega arith) (leb (length es) (length ns)) _ (finished pred room (fill t ns (places_for (length ns) es) b))))))
+    (λ s f e. list-settled OneForm Places list _ (λ es. quantified-settled OneForm _ NotQuantified refl (quantified f) (λ t ns b. tested OneForm TooManyPlaces refl (leb (length es) (length ns)) _ (finished pred room (fill t ns (places_for (length ns) es) b))))))
 
 prune-settled : (row : List ℕ) (room : ℕ) → Settled OneForm (prune_outcome row room)
 unfolding prune_outcome
 prune-settled row room =
     form-settled OneForm Predicate row _
-    (λ s f e. quantified-settled OneForm _ 3 (omega arith) (quantified f) (λ t ns b. tested OneForm 9 (omega arith) (not (eqb (kept_count (used_places ns b)) (length ns))) _ (finished pred room (prune t ns b))))
+    (λ s f e. quantified-settled OneForm _ NotQuantified refl (quantified f) (λ t ns b. tested OneForm NothingToRewrite refl (not (eqb (kept_count (used_places ns b)) (length ns))) _ (finished pred room (prune t ns b))))
 
 result-settled : (room : ℕ) (o : Option Form) → Settled OneForm (of_result room o)
 result-settled room (some g) = finished pred room g
-result-settled room absent = no-position 9 (omega arith)
+result-settled room absent = no-position NothingToRewrite refl
 
 point-settled : (row : List ℕ) (work room : ℕ) → Settled OneForm (point_outcome row work room)
 unfolding point_outcome
 point-settled row work room =
-    tested OneForm 15 (omega arith) (leb 16384 work) _ (form-settled OneForm Predicate row _ (λ s f e. result-settled room (one_point f)))
+    tested OneForm WorkTooShort refl (leb 16384 work) _ (form-settled OneForm Predicate row _ (λ s f e. result-settled room (one_point f)))
 
 member_settled : (row : List ℕ) (work room : ℕ) → Settled OneForm (member_outcome row work room)
 unfolding member_outcome
 member_settled row work room =
-    tested OneForm 15 (omega arith) (leb 16384 work) _ (form-settled OneForm Predicate row _ (λ s f e. result-settled room (membership f)))
+    tested OneForm WorkTooShort refl (leb 16384 work) _ (form-settled OneForm Predicate row _ (λ s f e. result-settled room (membership f)))
 
 named-settled : (row : List ℕ) (room : ℕ) → Settled OneForm (named_outcome row room)
 unfolding named_outcome
@@ -197,6 +216,6 @@ pub number-settled : (n : ℕ) (z : ℤ) (list row : List ℕ) (work room : ℕ)
 unfolding number_outcome
 number-settled n z list row work room = by (numbered n)
   where
-    by : (x : Numbered) → Settled OneForm (of_numbered x z list row work room)
-    by (Is c) = outcome-settled c z list row work room
-    by Unknown = no-position 8 (omega arith)
+    by : (x : Maybe Command) → Settled OneForm (of_numbered x z list row work room)
+    by (Some c) = outcome-settled c z list row work room
+    by None = no-position NotACommand refl

@@ -1,5 +1,5 @@
--- Document 01's starred cases, with Paper 2's lists of one place, of none and of three for two declarations, from row to row: one table, one
--- statement about the definitions. Assumes nothing.
+-- Worked cases from row to row, with lists of one place, of none and of three for two declarations: one table, one statement about the
+-- definitions. Assumes nothing.
 use mathlib.Core.Path.{◌≡◌, refl}
 use mathlib.Core.List.{List, [], ◌∷◌}
 use Prim.Native.Nat.{ℕ}
@@ -9,7 +9,7 @@ use Rattle.tree.specs.Tag.{own, own_of, shape_of, expr_tags, pred_tags}
 use Rattle.form.specs.Decode.{read, decl_at, decls, decode, decode_all, row_form, form_of}
 use Rattle.form.specs.Lists.{entry_of, entries, list_of, distinct, good_names}
 use Rattle.form.specs.Break.{decls_next, next_of, least, least_all, after, break_from, break_at}
-use Rattle.form.specs.Answer.{Outcome, answer, stop, refusal, finish}
+use Rattle.form.specs.Answer.{Outcome, answer, stop, finish}
 use Rattle.rules.specs.Walk.{walk, collect}
 use Rattle.rules.specs.Shift as S
 use Rattle.rules.specs.Free.{substitute, free_outcome}
@@ -26,6 +26,7 @@ use Rattle.rules.specs.Command.{outcome_of}
 use Rattle.rules.specs.declared.command.Command.{Command}
 use Rattle.rules.specs.declared.command.Command.TheVariants.{Shift, Free, Bind, Fill, Prune, Point, Member}
 use Rattle.rules.proofs.MissingPlaces.{exact_fill}
+use Rattle.form.specs.declared.answer.Refusal.TheVariants.{TooManyPlaces, Captured, NothingToRewrite, Broken}
 
 -- a command with an output row of 8,192 words and a work row of 16,384
 abbrev run : Command → ℤ → List ℕ → List ℕ → Outcome
@@ -51,18 +52,18 @@ cases =
 
 abbrev answers : List Outcome
 answers =
-    refusal 6
+    stop Captured
     ∷ answer (852 ∷ 1 ∷ 9 ∷ 101 ∷ 2 ∷ 0 ∷ 2 ∷ 1 ∷ [])
     ∷ answer (852 ∷ 1 ∷ 9 ∷ 101 ∷ 2 ∷ 0 ∷ 2 ∷ 1 ∷ [])
     ∷ answer (101 ∷ 2 ∷ 1 ∷ 2 ∷ 2 ∷ [])
     ∷ answer (852 ∷ 1 ∷ 4 ∷ 101 ∷ 2 ∷ 0 ∷ 2 ∷ 1 ∷ [])
     ∷ answer (852 ∷ 1 ∷ 5 ∷ 101 ∷ 1 ∷ 5 ∷ 2 ∷ 1 ∷ [])
     ∷ answer (852 ∷ 2 ∷ 4 ∷ 5 ∷ 101 ∷ 2 ∷ 1 ∷ 2 ∷ 2 ∷ [])
-    ∷ refusal 5
+    ∷ stop TooManyPlaces
     ∷ answer (852 ∷ 1 ∷ 4 ∷ 101 ∷ 2 ∷ 0 ∷ 1 ∷ 7 ∷ [])
     ∷ answer (610 ∷ [])
     ∷ answer (611 ∷ [])
-    ∷ refusal 9
+    ∷ stop NothingToRewrite
     ∷ answer (852 ∷ 1 ∷ 4 ∷ 851 ∷ 1 ∷ 6 ∷ 101 ∷ 2 ∷ 0 ∷ 2 ∷ 1 ∷ [])
     ∷ answer (852 ∷ 1 ∷ 4 ∷ 351 ∷ 2 ∷ 610 ∷ 101 ∷ 3 ∷ 5 ∷ 1 ∷ 7 ∷ [])
     ∷ []
@@ -92,8 +93,8 @@ noted_cases =
 abbrev noted_answers : List Outcome
 noted_answers =
     answer (861 ∷ 1 ∷ 9 ∷ 1 ∷ 2 ∷ 0 ∷ 101 ∷ 2 ∷ 0 ∷ 2 ∷ 1 ∷ [])
-    ∷ refusal 6
-    ∷ stop 2 3
+    ∷ stop Captured
+    ∷ stop (Broken 3)
     ∷ answer (861 ∷ 1 ∷ 9 ∷ 1 ∷ 2 ∷ 0 ∷ 101 ∷ 2 ∷ 0 ∷ 2 ∷ 1 ∷ [])
     ∷ answer (862 ∷ 1 ∷ 4 ∷ 1 ∷ 2 ∷ 0 ∷ 101 ∷ 2 ∷ 0 ∷ 2 ∷ 1 ∷ [])
     ∷ answer (852 ∷ 1 ∷ 5 ∷ 101 ∷ 2 ∷ 0 ∷ 1 ∷ 5 ∷ [])
@@ -110,13 +111,13 @@ pub noted-cases : noted_cases ≡ noted_answers
 unfolding S.shift_outcome S.shift free_outcome substitute B.bind_outcome B.bind F.fill_outcome F.fill F.quantified P.prune_outcome P.prune point_outcome one_point member_outcome membership offer_all instantiate_partial put_round scan offer_parts accept parts walk collect finish good_names distinct list_of entries entry_of form_of row_form decode decode_all decl_at decls read break_at break_from after least least_all decls_next next_of own own_of shape_of expr_tags pred_tags encode
 noted-cases = refl
 
--- the rule before Paper 2, on a list as long as the declarations, and on the two that are shorter: these it refused
+-- the rule by which a place for each declaration is asked for, on a list as long as the declarations, and on the two that are shorter: these it refused
 abbrev two : List ℕ
 two = 852 ∷ 2 ∷ 4 ∷ 5 ∷ 101 ∷ 2 ∷ 1 ∷ 2 ∷ 2 ∷ []
 
 abbrev former_cases : List Outcome
 former_cases = exact_fill (0 ∷ 1 ∷ 1 ∷ 5 ∷ []) two 16384 8192 ∷ exact_fill (1 ∷ 1 ∷ 5 ∷ []) two 16384 8192 ∷ exact_fill [] two 16384 8192 ∷ []
 
-pub former-cases : former_cases ≡ answer (852 ∷ 1 ∷ 4 ∷ 101 ∷ 2 ∷ 0 ∷ 2 ∷ 1 ∷ []) ∷ refusal 5 ∷ refusal 5 ∷ []
+pub former-cases : former_cases ≡ answer (852 ∷ 1 ∷ 4 ∷ 101 ∷ 2 ∷ 0 ∷ 2 ∷ 1 ∷ []) ∷ stop TooManyPlaces ∷ stop TooManyPlaces ∷ []
 unfolding F.fill F.quantified walk finish list_of entries entry_of form_of row_form decode decode_all decl_at decls read own own_of shape_of expr_tags pred_tags encode
 former-cases = refl

@@ -5,6 +5,7 @@ use Rattle.form.specs.Lists.{good_names}
 use Rattle.form.specs.Answer.{Outcome, within, with_form, needs, finish}
 use Rattle.form.specs.declared.answer.Kind.TheVariants.{Either}
 use Rattle.rules.specs.Walk.{Outer, named, dangling, subst}
+use Rattle.form.specs.declared.answer.Refusal.TheVariants.{BadNames}
 
 abbrev pub bind_name : List ℕ → ℕ → Form
 bind_name [] m = leaf (free m)
@@ -17,4 +18,4 @@ unfoldable pub bind : List ℕ → Form → Form
 bind ns f = subst (bind_for ns) f
 
 unfoldable pub bind_outcome : List ℕ → List ℕ → ℕ → Outcome
-bind_outcome names row room = with_form Either row (λ s f. within names (needs 4 (good_names names) (finish s room (bind names f))))
+bind_outcome names row room = with_form Either row (λ s f. within names (needs BadNames (good_names names) (finish s room (bind names f))))

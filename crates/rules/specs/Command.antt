@@ -1,6 +1,6 @@
 -- The commands over rows: what each is called, what it takes and what it answers.
-use Rattle.std.specs.Prelude.{List, [], ◌∷◌, ℕ, zero, suc, ℤ}
-use Rattle.form.specs.Answer.{Outcome, refusal}
+use Rattle.std.specs.Prelude.{List, [], ◌∷◌, ℕ, zero, suc, ℤ, Option, Some, None}
+use Rattle.form.specs.Answer.{Outcome, stop}
 use Rattle.form.specs.declared.answer.Kind.{Kind}
 use Rattle.form.specs.declared.answer.Kind.TheVariants.{Predicate, Either, Named as NamedRow}
 use Rattle.rules.specs.Shift.{shift_outcome}
@@ -13,10 +13,9 @@ use Rattle.rules.specs.Member.{member_outcome}
 use Rattle.rules.specs.Named.{named_outcome}
 use Rattle.rules.specs.declared.command.Command.{Command}
 use Rattle.rules.specs.declared.command.Command.TheVariants.{Shift, Free, Bind, Fill, Prune, Point, Member, Named}
-use Rattle.rules.specs.declared.command.Numbered.{Numbered}
-use Rattle.rules.specs.declared.command.Numbered.TheVariants.{Is, Unknown}
 use Rattle.rules.specs.declared.command.Args.{Args}
 use Rattle.rules.specs.declared.command.Args.TheVariants.{Nothing, Offset, Names, Pairs, Places}
+use Rattle.form.specs.declared.answer.Refusal.TheVariants.{NotACommand}
 
 -- in the order of their numbers, the first of which is 1
 abbrev pub commands : List Command
@@ -54,19 +53,19 @@ outcome_of Point z list row work room = point_outcome row work room
 outcome_of Member z list row work room = member_outcome row work room
 outcome_of Named z list row work room = named_outcome row room
 
--- the command of a number, and its answer: 8 where there is none
-abbrev pub nth : List Command → ℕ → Numbered
-nth [] n = Unknown
-nth (c ∷ cs) zero = Is c
+-- the command of a number, and its answer; a number of none is refused
+abbrev pub nth : List Command → ℕ → Option Command
+nth [] n = None
+nth (c ∷ cs) zero = Some c
 nth (c ∷ cs) (suc n) = nth cs n
 
-abbrev pub numbered : ℕ → Numbered
-numbered zero = Unknown
+abbrev pub numbered : ℕ → Option Command
+numbered zero = None
 numbered (suc n) = nth commands n
 
-abbrev pub of_numbered : Numbered → ℤ → List ℕ → List ℕ → ℕ → ℕ → Outcome
-of_numbered (Is c) z list row work room = outcome_of c z list row work room
-of_numbered Unknown z list row work room = refusal 8
+abbrev pub of_numbered : Option Command → ℤ → List ℕ → List ℕ → ℕ → ℕ → Outcome
+of_numbered (Some c) z list row work room = outcome_of c z list row work room
+of_numbered None z list row work room = stop NotACommand
 
 unfoldable pub number_outcome : ℕ → ℤ → List ℕ → List ℕ → ℕ → ℕ → Outcome
 number_outcome n z list row work room = of_numbered (numbered n) z list row work room

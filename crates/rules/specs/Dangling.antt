@@ -5,6 +5,7 @@ use Rattle.tree.specs.Form.{Form, pick}
 use Rattle.form.specs.Answer.{Outcome, answer, with_form, needs}
 use Rattle.form.specs.declared.answer.Kind.TheVariants.{Either}
 use Rattle.rules.specs.Walk.{Outer, named, dangling, collect, each}
+use Rattle.form.specs.declared.answer.Refusal.TheVariants.{OutputTooShort}
 
 abbrev pub index_of : ℕ → Outer → List ℕ
 index_of k = elim [ named m ↦ [] | dangling j ↦ j ∷ [] ]
@@ -27,4 +28,4 @@ unfoldable pub closed : Form → Bool
 closed f = each is_named 0 f
 
 unfoldable pub dangling_outcome : List ℕ → ℕ → Outcome
-dangling_outcome row room = with_form Either row (λ s f. needs 14 (leb (length (dangling_set f)) room) (answer (dangling_set f)))
+dangling_outcome row room = with_form Either row (λ s f. needs OutputTooShort (leb (length (dangling_set f)) room) (answer (dangling_set f)))

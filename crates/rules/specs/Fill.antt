@@ -4,10 +4,12 @@ use Rattle.std.proofs.Math.Option.{Option, none as absent, some}
 use Rattle.tree.specs.Form.{free, bound, Form, leaf, node, noted, Decls, undeclared, bare, typed, none, more, pick}
 use Rattle.tree.specs.Tag.{pred}
 use Rattle.form.specs.Lists.{Place, kept, filled, Entry, place_of}
-use Rattle.form.specs.Answer.{Outcome, refusal, with_work, with_form, with_list, needs, finish}
+use Rattle.form.specs.Answer.{Outcome, stop, with_work, with_form, with_list, needs, finish}
 use Rattle.form.specs.declared.answer.Kind.TheVariants.{Predicate}
 use Rattle.form.specs.declared.answer.ListKind.TheVariants.{Places}
 use Rattle.rules.specs.Walk.{Outer, named, dangling, lift, subst}
+use Rattle.form.specs.declared.answer.Refusal.TheVariants.{NotQuantified, TooManyPlaces}
+use Rattle.form.specs.declared.answer.Refusal.{Refusal}
 
 -- a declaration: its name, and its annotation if it has one
 abbrev pub Decl : Type 0
@@ -85,8 +87,8 @@ fill_for ps = elim [ named n ↦ leaf (free n) | dangling j ↦ fill_index (kept
 unfoldable pub fill : ℕ → List Decl → List Place → Form → Form
 fill t ns ps f = quantify t (kept_decls ps ns) (subst (fill_for ps) f)
 
-abbrev pub of_quantified : (ℕ → List Decl → Form → Outcome) → ℕ → Quantified → Outcome
-of_quantified go n = elim [ quantifier t ns f ↦ go t ns f | other ↦ refusal n ]
+abbrev pub of_quantified : (ℕ → List Decl → Form → Outcome) → Refusal → Quantified → Outcome
+of_quantified go r = elim [ quantifier t ns f ↦ go t ns f | other ↦ stop r ]
 
 -- the places of n declarations: those that are missing at the end are kept
 abbrev pub places_for : ℕ → List Entry → List Place
@@ -97,4 +99,4 @@ fill_outcome list row work room =
     with_work work
     (with_form Predicate row
     (λ s f. with_list Places list
-    (λ es. of_quantified (λ t ns b. needs 5 (leb (length es) (length ns)) (finish pred room (fill t ns (places_for (length ns) es) b))) 3 (quantified f))))
+    (λ es. of_quantified (λ t ns b. needs TooManyPlaces (leb (length es) (length ns)) (finish pred room (fill t ns (places_for (length ns) es) b))) NotQuantified (quantified f))))

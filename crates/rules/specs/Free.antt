@@ -6,6 +6,7 @@ use Rattle.form.specs.Answer.{Outcome, with_work, with_form, with_list, needs, f
 use Rattle.form.specs.declared.answer.Kind.TheVariants.{Either}
 use Rattle.form.specs.declared.answer.ListKind.TheVariants.{Pairs}
 use Rattle.rules.specs.Walk.{Outer, named, dangling, subst}
+use Rattle.form.specs.declared.answer.Refusal.TheVariants.{BadNames}
 
 abbrev pub or_name : ℕ → Place → Form
 or_name m = elim [ kept ↦ leaf (free m) | filled e ↦ e ]
@@ -23,4 +24,4 @@ substitute es f = subst (free_for es) f
 
 unfoldable pub free_outcome : List ℕ → List ℕ → ℕ → ℕ → Outcome
 free_outcome list row work room =
-    with_work work (with_form Either row (λ s f. with_list Pairs list (λ es. needs 4 (good_names (map word_of es)) (finish s room (substitute es f)))))
+    with_work work (with_form Either row (λ s f. with_list Pairs list (λ es. needs BadNames (good_names (map word_of es)) (finish s room (substitute es f)))))

@@ -14,7 +14,7 @@ pub data Part : Type 0 where
   empty : Part
 
 abbrev pub of_copy : Outcome → Part
-of_copy = elim [ answer ws ↦ copy ws | stop n p ↦ empty ]
+of_copy = elim [ answer ws ↦ copy ws | stop r ↦ empty ]
 
 abbrev pub lift_found : ℕ → ℕ → Found → Part
 lift_found depth room (found s f) = pick (eqb depth 0 || closed f) base (of_copy (finish s room (lift depth f)))

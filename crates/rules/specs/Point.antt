@@ -3,12 +3,13 @@ use Rattle.std.specs.Prelude.{Bool, List, [], ℕ, eqb, length}
 use Rattle.std.proofs.Math.Option.{Option, none as absent, some}
 use Rattle.tree.specs.Form.{Form, node, none, pick}
 use Rattle.tree.specs.Tag.{pred}
-use Rattle.form.specs.Answer.{Outcome, refusal, with_work, with_form, finish}
+use Rattle.form.specs.Answer.{Outcome, stop, with_work, with_form, finish}
 use Rattle.form.specs.declared.answer.Kind.TheVariants.{Predicate}
 use Rattle.rules.specs.Fill.{Decl, Quantified, quantifier, other, quantified}
 use Rattle.rules.specs.Replacement.{taken, nothing}
 use Rattle.rules.specs.Scan.{Scan, scanned, scan}
 use Rattle.rules.specs.Partial.{no_places, set_place, instantiate_partial}
+use Rattle.form.specs.declared.answer.Refusal.TheVariants.{NothingToRewrite}
 
 -- the polarity of the body: true under 852, false under 851
 abbrev pub polarity : ℕ → Bool
@@ -30,9 +31,9 @@ reduce_quantified = elim [ quantifier t ns f ↦ reduce t ns (scan (length ns) (
 unfoldable pub one_point : Form → Option Form
 one_point f = reduce_quantified (quantified f)
 
--- 9 where there is nothing to rewrite
+-- refused where there is nothing to rewrite
 abbrev pub of_result : ℕ → Option Form → Outcome
-of_result room = elim [ some g ↦ finish pred room g | absent ↦ refusal 9 ]
+of_result room = elim [ some g ↦ finish pred room g | absent ↦ stop NothingToRewrite ]
 
 unfoldable pub point_outcome : List ℕ → ℕ → ℕ → Outcome
 point_outcome row work room = with_work work (with_form Predicate row (λ s f. of_result room (one_point f)))

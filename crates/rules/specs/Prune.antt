@@ -7,6 +7,7 @@ use Rattle.form.specs.Answer.{Outcome, with_form, needs, finish}
 use Rattle.form.specs.declared.answer.Kind.TheVariants.{Predicate}
 use Rattle.rules.specs.Walk.{Outer, named, dangling, each}
 use Rattle.rules.specs.Fill.{Decl, kept_count, fill, of_quantified, quantified}
+use Rattle.form.specs.declared.answer.Refusal.TheVariants.{NotQuantified, NothingToRewrite}
 
 abbrev pub is_not : ℕ → ℕ → Outer → Bool
 is_not i k = elim [ named m ↦ true | dangling j ↦ not (eqb i j) ]
@@ -25,4 +26,4 @@ prune t ns f = fill t ns (used_places ns f) f
 unfoldable pub prune_outcome : List ℕ → ℕ → Outcome
 prune_outcome row room =
     with_form Predicate row
-    (λ s f. of_quantified (λ t ns b. needs 9 (not (eqb (kept_count (used_places ns b)) (length ns))) (finish pred room (prune t ns b))) 3 (quantified f))
+    (λ s f. of_quantified (λ t ns b. needs NothingToRewrite (not (eqb (kept_count (used_places ns b)) (length ns))) (finish pred room (prune t ns b))) NotQuantified (quantified f))

@@ -16,12 +16,6 @@ pub enum Command {
     Named,
 }
 
-#[derive(Clone, Copy)]
-pub enum Numbered {
-    Is(Command),
-    Unknown,
-}
-
 // What stands before the form: an offset, or a list of names, of pairs or of places.
 #[derive(Clone, Copy)]
 pub enum Args {
@@ -33,7 +27,7 @@ pub enum Args {
 }
 
 // The command of a number.
-pub fn of_number(number: u32) -> Numbered
+pub fn of_number(number: u32) -> Option<Command>
     ensures { result ≡ numbered number }
 {
     let all = [
@@ -48,13 +42,12 @@ pub fn of_number(number: u32) -> Numbered
     ];
     let at = number as usize;
     if at == 0 {
-        return Numbered::Unknown;
+        return None;
     }
     if all.len() < at {
-        return Numbered::Unknown;
+        return None;
     }
-    let command = all[at - 1];
-    Numbered::Is(command)
+    Some(all[at - 1])
 }
 
 // What stands before a command's form.

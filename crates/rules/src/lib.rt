@@ -1,4 +1,4 @@
-// The rewritings of document 01 as definitions on trees, with their laws; in code the table of commands alone.
+// The rewritings as definitions on trees, with their laws; in code the table of commands alone.
 #![tactic(auto)]
 
 pub mod command;

@@ -5,14 +5,18 @@ use Rattle.tree.specs.Form.{Form, pick, encode}
 use Rattle.tree.specs.Tag.{Sort}
 use Rattle.form.specs.Decode.{Found, found, missing, form_of}
 use Rattle.form.specs.Break.{break_at}
-use Rattle.form.specs.Answer.{Outcome, answer, stop, refusal, told, written, of_found, with_form, check_outcome}
+use Rattle.form.specs.Answer.{Outcome, answer, stop, told, written, of_found, with_form, check_outcome}
 use Rattle.reader.specs.Internal.Reads.{mark, has_form, Marked}
 use Rattle.form.specs.declared.answer.Kind.{Kind}
-use Rattle.form.specs.declared.answer.Answer.{Answer}
-use Rattle.form.specs.declared.answer.Answer.TheVariants.{Done, No}
+use Rattle.form.specs.Answer.{Answer}
+use Rattle.std.specs.Prelude.{Ok as Done, Err}
 use Rattle.shift.specs.Internal.Items.{Fresh}
+use Rattle.std.specs.Result.{IsErr, IsErrAnd}
+use Rattle.tree.proofs.Residual.{exit-with}
 use Rattle.form.proofs.DecodeLaws.{clash, Ok}
 use Rattle.form.proofs.RowLaws.{found-row}
+use Rattle.form.specs.declared.answer.Refusal.{Refusal}
+use Rattle.form.specs.declared.answer.Refusal.TheVariants.{TooLong, Broken}
 
 -- what is known of a row that the check took: m are its marks, made in n words that held 0
 pub record Checked (kind : Kind) (row m : List ℕ) (n : ℕ) : Type 0 where
@@ -26,7 +30,7 @@ pub record Checked (kind : Kind) (row m : List ℕ) (n : ℕ) : Type 0 where
 
 abbrev Came : ℕ → Found → Answer → Type 0
 Came p (found s f) r = r ≡ Done 0
-Came p missing r = r ≡ No 2 p
+Came p missing r = r ≡ Err (Broken p)
 
 module _ (kind : Kind) (row : List ℕ) where
   -- the answer of the check, taken apart
@@ -71,28 +75,32 @@ marked-fresh kind row m before p v q e k = marked kind row m (length before) bef
 
 -- a row's own refusals, whatever is done with the form
 module _ (kind : Kind) (row : List ℕ) (go : Sort → Form → Outcome) where
-  pub too_long : 8192 < length row → with_form kind row go ≡ refusal 1
+  pub too_long : 8192 < length row → with_form kind row go ≡ stop TooLong
   too_long h = rw (lt-leb (length row) 8192 h)
 
   -- what the check refuses is refused so
-  pub check-refuses : (r : Answer) (k p : ℕ) → r ≡ told (check_outcome kind row) → r ≡ No k p → with_form kind row go ≡ stop k p
+  pub check-refuses : (r : Answer) (k : Refusal) → r ≡ told (check_outcome kind row) → r ≡ Err k → with_form kind row go ≡ stop k
   unfolding check_outcome
-  check-refuses r k p q e = by (leb (length row) 8192) (form_of kind row) q
+  check-refuses r k q e = by (leb (length row) 8192) (form_of kind row) q
     where
-      by : (b : Bool) (o : Found) → r ≡ told (pick b (of_found (break_at kind row) (λ s f. answer []) o) (refusal 1)) → pick b (of_found (break_at kind row) go o) (refusal 1) ≡ stop k p
+      by : (b : Bool) (o : Found) → r ≡ told (pick b (of_found (break_at kind row) (λ s f. answer []) o) (stop TooLong)) → pick b (of_found (break_at kind row) go o) (stop TooLong) ≡ stop k
       by true (found s f) q = absurd (clash cc)
-      by true missing q = let a : 2 ≡ k = cc in let b : break_at kind row ≡ p = cc in rw (a, b)
-      by false o q = let a : 1 ≡ k = cc in let b : 0 ≡ p = cc in rw (a, b)
+      by true missing q = let a : Broken (break_at kind row) ≡ k = cc in rw a
+      by false o q = let a : TooLong ≡ k = cc in rw a
 
   pub form-there : (s : Sort) (f : Form) → length row ≤ 8192 → form_of kind row ≡ found s f → with_form kind row go ≡ go s f
   form-there s f h e = rw (le-leb (length row) 8192 h, e)
 
+-- what `?` answers where a call refused
+pub passed-on : (r : Answer) (k : Refusal) → IsErr r × IsErrAnd r (λ e. e ≡ k) → r ≡ Err k
+passed-on r k h = exit-with h.1
+
 -- a refusal, and an answer passed on
-pub refused : (o : Outcome) (n m : ℕ) (out : List ℕ) → o ≡ refusal n → m ≡ n → (No m 0 ≡ told o) × (out ≡ written o out)
+pub refused : (o : Outcome) (n m : Refusal) (out : List ℕ) → o ≡ stop n → m ≡ n → (Err m ≡ told o) × (out ≡ written o out)
 refused o n m out e q = rw (e, q) (refl, refl)
 
-pub refused-up : (o : Outcome) (k p : ℕ) (r : Answer) (out : List ℕ) → r ≡ No k p → o ≡ stop k p → (r ≡ told o) × (out ≡ written o out)
-refused-up o k p r out q e = rw (e, q) (refl, refl)
+pub refused-up : (o : Outcome) (k : Refusal) (r : Answer) (out : List ℕ) → r ≡ Err k → o ≡ stop k → (r ≡ told o) × (out ≡ written o out)
+refused-up o k r out q e = rw (e, q) (refl, refl)
 
 pub passed : (o p : Outcome) (r : Answer) (out out' : List ℕ) → o ≡ p → (r ≡ told o) × (out' ≡ written o out) → (r ≡ told p) × (out' ≡ written p out)
 passed o p r out out' e h = rw e at h

@@ -1,5 +1,5 @@
 -- Loops over a row and its marks. Assumes nothing.
-use Rattle.std.proofs.Common.{◌≡◌, ℕ, zero, suc, ◌+◌, ◌-◌, ◌<◌, ◌≤◌, Bool, true, false, not, ◌&&◌, eqb, ltb, List, [], ◌∷◌, ◌++◌, length, get_or, drop, set, sym, refl, ap, ◌∙◌, append_assoc, add-zero, sub-one, arith, length-append, length-drop, drop-drop, le-leb}
+use Rattle.std.proofs.Common.{◌≡◌, ℕ, zero, suc, ◌+◌, ◌-◌, ◌<◌, ◌≤◌, Bool, true, false, not, ◌&&◌, eqb, ltb, List, [], ◌∷◌, ◌++◌, length, get_or, drop, set, refl, ap, append_assoc, add-zero, sub-one, arith, length-append, length-drop, drop-drop, le-leb}
 use lib.Seq.{set_out}
 use Rattle.tree.specs.Form.{pick}
 use Rattle.form.proofs.HeadLaws.{here, gone}
@@ -156,21 +156,15 @@ below_in lo hi (w ∷ v ∷ ws) (suc k ∷ ms) z h =
     rw (in-below lo k w v hi z (and_left (ltb v hi) (all_below hi ws) g)) (below_in lo hi ws (drop 1 ms) z (and_right (ltb v hi) (all_below hi ws) g))
 
 -- the pass over the words
-module _ (hi : ℕ) (row : List ℕ) (i : ℕ) (b : Bool) where
-  pub below_more : i < length row → all_below hi row ≡ (b && all_below hi (drop i row)) → all_below hi row ≡ (pick (ltb (get_or row i 0) hi) b false && all_below hi (drop (i + 1) row))
-  unfolding all_below
-  below_more low e = e ∙ rw (here row i low) (go b (ltb (get_or row i 0) hi))
-    where
-      go : (b c : Bool) → (b && (c && all_below hi (drop (i + 1) row))) ≡ (pick c b false && all_below hi (drop (i + 1) row))
-      go true true = refl
-      go true false = refl
-      go false true = refl
-      go false false = refl
-
-  pub below_end : length row ≤ i → all_below hi row ≡ (b && all_below hi (drop i row)) → b ≡ all_below hi row
-  unfolding all_below
-  below_end h e = sym (e ∙ rw (gone row i h) (go b))
-    where
-      go : (b : Bool) → (b && true) ≡ b
-      go true = refl
-      go false = refl
+pub below-push : (hi : ℕ) (ws : List ℕ) (w : ℕ) → all_below hi (ws ++ w ∷ []) ≡ (all_below hi ws && ltb w hi)
+unfolding all_below
+below-push hi [] w = go (ltb w hi)
+  where
+    go : (b : Bool) → (b && true) ≡ b
+    go true = refl
+    go false = refl
+below-push hi (v ∷ ws) w = rw (below-push hi ws w) (go (ltb v hi))
+  where
+    go : (b : Bool) → (b && (all_below hi ws && ltb w hi)) ≡ ((b && all_below hi ws) && ltb w hi)
+    go true = refl
+    go false = refl

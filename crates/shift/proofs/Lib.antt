@@ -1,3 +1,4 @@
+pub mod MarksLaws
 pub mod RowLaws
 pub mod ItemLaws
 pub mod CheckedLaws

@@ -3,11 +3,11 @@ use Rattle.std.proofs.Common.{◌≡◌, ℕ, zero, suc, ◌+◌, ◌-◌, ◌<�
 use mathlib.Core.Option.{none as absent, some}
 use Rattle.tree.specs.Form.{Leaf, free, bound, Form, leaf, pick, between, encode}
 use Rattle.tree.specs.Tag.{Sort}
-use Rattle.form.specs.Answer.{answer, stop, refusal, told, finish, check_outcome}
+use Rattle.form.specs.Answer.{answer, stop, told, finish, check_outcome}
 use Rattle.reader.specs.Internal.Reads.{mark}
 use Rattle.form.specs.declared.answer.Kind.TheVariants.{Either}
-use Rattle.form.specs.declared.answer.Answer.{Answer}
-use Rattle.form.specs.declared.answer.Answer.TheVariants.{No}
+use Rattle.form.specs.Answer.{Answer}
+use Rattle.std.specs.Prelude.{Err}
 use Rattle.form.proofs.DecodeLaws.{clash, Ok}
 use Rattle.form.proofs.HeadLaws.{between_in}
 use Rattle.rules.specs.Walk.{Binding, inside, outside, binding, Outer, named, dangling, walk_index, walk_leaf, walk, up, lift, put, collect_index, collect_leaf, each}
@@ -20,6 +20,8 @@ use Rattle.rules.proofs.LimitLaws.{small, ok-small, fine, walk-length, inside-li
 use Rattle.shift.proofs.CheckedLaws.{Checked, too_long, check-refuses}
 use Rattle.shift.proofs.RowLaws.{ident_of, mark-length, marked-items, walk-items, each-items}
 use Rattle.shift.proofs.WordwiseLaws.{wordwise-items, marks-apart}
+use Rattle.form.specs.declared.answer.Refusal.{Refusal}
+use Rattle.form.specs.declared.answer.Refusal.TheVariants.{TooLong, Captured, OutOfLimits, OutputTooShort}
 
 -- the test of a row's indices
 abbrev pub in_range : ℕ → ℕ → ℕ → Outer → Bool
@@ -190,7 +192,7 @@ down-same n k (dangling j) h =
 -- the loops over the row and its marks, as walks over the tree; the marks were made in n words that held 0
 module _ (s : Sort) (f : Form) (ok : Ok 64 s f) (short : length (encode f) ≤ 8192) (n : ℕ) (marked : length (encode f) ≤ n) (room : ℕ) where
   words-tree : (u d : ℕ) → shift_words (encode f) (mark f 0 0 (replicate n 0)) u d room
-      ≡ pick (each (in_range d (65536 - u)) 0 f) (pick (leb (length (encode f)) room) (answer (encode (walk (moved u d) 0 f))) (refusal 14)) (refusal (low_or_high d))
+      ≡ pick (each (in_range d (65536 - u)) 0 f) (pick (leb (length (encode f)) room) (answer (encode (walk (moved u d) 0 f))) (stop OutputTooShort)) (stop (low_or_high d))
   unfolding shift_words same_length
   words-tree u d =
       let long : length (mark f 0 0 (replicate n 0)) ≡ n = mark-length f 0 n marked in
@@ -207,9 +209,9 @@ module _ (s : Sort) (f : Form) (ok : Ok 64 s f) (short : length (encode f) ≤ 8
   up-tree u =
       let t = each-agree small (in_range 0 (65536 - u)) (fine (up u) (up_leaf u) (up-leaf u)) (up-range u) 0 f (ok-small ok 0) in
       rw (words-tree u 0, inside-limits (up u) (up_leaf u) (up-leaf u) s f ok short, ← t, walk-length (up u) (up_leaf u) (up-leaf u) 0 f)
-      (pick_same (each (in_range 0 (65536 - u)) 0 f) _ _ (refusal 7) (λ b. rw (walk-agree (in_range 0 (65536 - u)) (moved u 0) (up u) (up_same u) 0 f b)))
+      (pick_same (each (in_range 0 (65536 - u)) 0 f) _ _ (stop OutOfLimits) (λ b. rw (walk-agree (in_range 0 (65536 - u)) (moved u 0) (up u) (up_same u) 0 f b)))
 
-  down-finish : (d : ℕ) → finish s room (lower d f) ≡ pick (leb (length (encode f)) room) (answer (encode (lower d f))) (refusal 14)
+  down-finish : (d : ℕ) → finish s room (lower d f) ≡ pick (leb (length (encode f)) room) (answer (encode (lower d f))) (stop OutputTooShort)
   unfolding finish
   down-finish d =
       let t = each-all small (fine (put (fall d)) (down_leaf d) (down-leaf d)) (down-fine d) 0 f (ok-small ok 0) in
@@ -220,7 +222,7 @@ module _ (s : Sort) (f : Form) (ok : Ok 64 s f) (short : length (encode f) ≤ 8
       let t = each-agree small (in_range (suc d) 65536) (reaches (suc d)) (down-range (suc d)) 0 f (ok-small ok 0) in
       rw (words-tree 0 (suc d), ← t, ne_eqb (suc d) 0 (λ e. omega arith)) (go (each (in_range (suc d) 65536) 0 f) refl)
     where
-      go : (b : Bool) → each (in_range (suc d) 65536) 0 f ≡ b → pick b (pick (leb (length (encode f)) room) (answer (encode (walk (moved 0 (suc d)) 0 f))) (refusal 14)) (refusal 6) ≡ of_shifted s room (pick b (some (lower (suc d) f)) absent)
+      go : (b : Bool) → each (in_range (suc d) 65536) 0 f ≡ b → pick b (pick (leb (length (encode f)) room) (answer (encode (walk (moved 0 (suc d)) 0 f))) (stop OutputTooShort)) (stop Captured) ≡ of_shifted s room (pick b (some (lower (suc d) f)) absent)
       go true q = rw (walk-agree (in_range (suc d) 65536) (moved 0 (suc d)) (put (fall (suc d))) (down-same (suc d)) 0 f q) (sym (down-finish (suc d)))
       go false q = refl
 
@@ -231,13 +233,13 @@ module _ (s : Sort) (f : Form) (ok : Ok 64 s f) (short : length (encode f) ≤ 8
 
 -- the whole call
 module _ (row : List ℕ) (z : ℤ) (room : ℕ) where
-  pub shift-long : 8192 < length row → shift_outcome row z room ≡ refusal 1
+  pub shift-long : 8192 < length row → shift_outcome row z room ≡ stop TooLong
   unfolding shift_outcome
   shift-long h = too_long Either row (λ s f. of_shifted s room (shift z f)) h
 
-  pub shift-refused : (r : Answer) (k p : ℕ) → r ≡ told (check_outcome Either row) → r ≡ No k p → shift_outcome row z room ≡ stop k p
+  pub shift-refused : (r : Answer) (k : Refusal) → r ≡ told (check_outcome Either row) → r ≡ Err k → shift_outcome row z room ≡ stop k
   unfolding shift_outcome
-  shift-refused r k p q e = check-refuses Either row (λ s f. of_shifted s room (shift z f)) r k p q e
+  shift-refused r k q e = check-refuses Either row (λ s f. of_shifted s room (shift z f)) r k q e
 
   pub shift-row : (m : List ℕ) (n : ℕ) → length row ≤ n → (x : Checked Either row m n) → (u d : ℕ) → u ≡ up_by z → d ≡ down_by z → shift_words row m u d room ≡ shift_outcome row z room
   unfolding shift_outcome

@@ -1,7 +1,8 @@
 // A row and its marks, item by item: the words that stay, and the names and indices with their depth.
-ghost use Rattle.std.specs.Prelude.{◌≡◌, false, drop, nat_lt};
-ghost use Rattle.tree.specs.Form.{pick};
+ghost use Rattle.std.specs.Prelude.{◌≡◌, drop};
 ghost use Rattle.shift.specs.Internal.Items.{item_at, items, size_of, words_of, all_items, item_in, all_below, store};
+
+use tree::tag::Tag;
 
 // A word that stays, or a name or index: its depth, tag and number.
 #[derive(Clone, Copy)]
@@ -64,42 +65,17 @@ pub fn put_item(out: &mut [u32], i: usize, it: Item)
 fn item_in(lo: u32, hi: u32, it: Item) -> bool
     ensures { result ≡ item_in lo hi it }
 {
-    let Item::Ident(k, t, v) = it else {
-        return true;
-    };
-    if t != 2 {
-        return true;
+    match it {
+        Item::Ident(k, t, v) if t == Tag::BOUND_IDENT && k <= v => lo <= v - k && v < hi,
+        _ => true,
     }
-    if v < k {
-        return true;
-    }
-    if v - k < lo {
-        return false;
-    }
-    v < hi
-}
-
-// Whether words that were below hi still are with one more.
-fn still_below(below: bool, hi: u32, w: u32) -> bool
-    ensures { result ≡ pick (nat_lt w hi) below false }
-{
-    if w < hi {
-        return below;
-    }
-    false
 }
 
 // Whether every word of a row is below hi: one pass to its end, which takes several words at a time.
 pub fn all_below(row: &[u32], hi: u32) -> bool
     ensures { result ≡ all_below hi row.now }
 {
-    let mut below = true;
-    let mut i = 0;
-    while i < row.len() {
-        below = still_below(below, hi, row[i]);
-        i += 1;
-    }
-    below
+    row.iter().fold(true, |below, w| below & (*w < hi))
 }
 
 // Whether every index that dangles does so by at least lo, and is below hi, looked up item by item.

@@ -2,5 +2,6 @@
 #![tactic(auto)]
 
 pub mod items;
+pub mod marks;
 pub mod shift;
 pub mod slots;

@@ -6,54 +6,39 @@ ghost use Rattle.rules.specs.Shift.{shift_outcome};
 ghost use Rattle.shift.specs.Internal.Items.{Fresh, wordwise, store, up_by, down_by, move_word, move_item, move_at, low_or_high, shift_words};
 
 use crate::items::{Item, all_in};
-use form::answer::{Answer, Kind, Limit};
+use crate::marks::with_marks;
+use form::answer::{Answer, Kind, Refusal};
 use tree::tag::Tag;
 
+// How far an offset moves up, and how far down: one of the two is 0.
 fn up_by(offset: i32) -> u32
     ensures { result ≡ up_by offset }
 {
-    if offset < 0 {
-        return 0;
-    }
-    offset as u32
+    offset.max(0).unsigned_abs()
 }
 
 fn down_by(offset: i32) -> u32
     ensures { result ≡ down_by offset }
 {
-    if offset < 0 {
-        let less = -1 - offset;
-        return (less as u32) + 1;
-    }
-    0
+    offset.min(0).unsigned_abs()
 }
 
 // The word moved up and down, as far as words go.
 pub fn move_word(up: u32, down: u32, v: u32) -> u32
     ensures { result ≡ move_word up down v }
 {
-    if 4294967295 - up < v {
-        return 4294967295 - down;
-    }
-    if v + up < down {
-        return 0;
-    }
-    v + up - down
+    v.saturating_add(up).saturating_sub(down)
 }
 
 pub fn move_item(up: u32, down: u32, it: Item) -> Item
     ensures { result ≡ move_item up down it }
 {
-    let Item::Ident(k, t, v) = it else {
-        return it;
-    };
-    if t != 2 {
-        return it;
+    match it {
+        Item::Ident(k, t, v) if t == Tag::BOUND_IDENT && k <= v => {
+            Item::Ident(k, t, move_word(up, down, v))
+        }
+        _ => it,
     }
-    if v < k {
-        return it;
-    }
-    Item::Ident(k, t, move_word(up, down, v))
 }
 
 // The mark of a tag of indices; 0 for any other.
@@ -92,58 +77,55 @@ fn write_moved(row: &[u32], marks: &[u32], up: u32, down: u32, out: &mut [u32])
         return;
     }
     out[0] = row[0];
-    let mut i = 1;
-    while i < row.len() {
+    for i in 1..row.len() {
         out[i] = moved_at(marks[i - 1], row[i - 1], row[i], up, down);
-        i += 1;
     }
 }
 
+// The number that an index which moves up has to be below.
 pub fn top_of(up: u32) -> u32
     ensures { result ≡ 65536 - up }
 {
-    if 65536 < up {
-        return 0;
-    }
-    65536 - up
+    65536u32.saturating_sub(up)
 }
 
-fn low_or_high(down: u32) -> u32
+// Why a row whose indices are not all in range is refused: moved down, one would be captured; moved up, it would be over the limit.
+fn low_or_high(down: u32) -> Refusal
     ensures { result ≡ low_or_high down }
 {
     if down == 0 {
-        return 7;
+        Refusal::OutOfLimits
+    } else {
+        Refusal::Captured
     }
-    6
 }
 
+// Shift of a row that is marked throughout.
 pub fn shift_marked(row: &[u32], marks: &[u32], up: u32, down: u32, out: &mut [u32]) -> Answer
     ensures value { result ≡ told (shift_words row.now marks.now up down (length out.old)) }
     ensures out_after { out.new ≡ written (shift_words row.now marks.now up down (length out.old)) out.old }
 {
     if marks.len() < row.len() {
-        return Answer::No(2, 0);
+        return Err(Refusal::Broken(0));
     }
     if !all_in(row, marks, down, top_of(up)) {
-        return Answer::No(low_or_high(down), 0);
+        return Err(low_or_high(down));
     }
     if out.len() < row.len() {
-        return Answer::No(14, 0);
+        return Err(Refusal::OutputTooShort);
     }
     write_moved(row, marks, up, down, out);
-    Answer::Done(row.len())
+    Ok(row.len())
 }
 
-// Shift with marks of its own.
+// Shift with marks of its own. It stays a function of its own, so that no loop reads the rows through the closure that calls it.
+#[inline(never)]
 fn shift_in(row: &[u32], offset: i32, marks: &mut [u32], out: &mut [u32]) -> Answer
     requires { Fresh row.now marks.old }
     ensures value { result ≡ told (shift_outcome row.now offset (length out.old)) }
     ensures out_after { out.new ≡ written (shift_outcome row.now offset (length out.old)) out.old }
 {
-    let checked = reader::check::mark(row, Kind::Either, marks);
-    let Answer::Done(n) = checked else {
-        return checked;
-    };
+    reader::check::mark(row, Kind::Either, marks)?;
     shift_marked(row, marks, up_by(offset), down_by(offset), out)
 }
 
@@ -152,21 +134,7 @@ pub fn shift_bound_identifiers(row: &[u32], offset: i32, out: &mut [u32]) -> Ans
     ensures value { result ≡ told (shift_outcome row.now offset (length out.old)) }
     ensures out_after { out.new ≡ written (shift_outcome row.now offset (length out.old)) out.old }
 {
-    if row.len() <= 64 {
-        let mut marks = [0u32; 64];
-        return shift_in(row, offset, &mut marks, out);
-    }
-    if row.len() <= 512 {
-        let mut marks = [0u32; 512];
-        return shift_in(row, offset, &mut marks, out);
-    }
-    if row.len() <= 2048 {
-        let mut marks = [0u32; 2048];
-        return shift_in(row, offset, &mut marks, out);
-    }
-    if Limit::WORDS < row.len() {
-        return Answer::No(1, 0);
-    }
-    let mut marks = [0u32; 8192];
-    shift_in(row, offset, &mut marks, out)
+    with_marks(row, out, |marks, out| shift_in(row, offset, marks, out)).unwrap_or(Err(
+        Refusal::TooLong,
+    ))
 }

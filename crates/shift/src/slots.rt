@@ -1,17 +1,8 @@
 // The declarations of a quantifier by slots: which one a word of the body uses.
-ghost use Rattle.std.specs.Prelude.{◌≡◌, ◌-◌};
+ghost use Rattle.std.specs.Prelude.{◌≡◌};
 ghost use Rattle.shift.specs.Internal.Items.{slot_for};
 
 use tree::tag::Tag;
-
-fn less_by(a: u64, b: u64) -> u64
-    ensures { result ≡ a - b }
-{
-    if a < b {
-        return 0;
-    }
-    a - b
-}
 
 // The slot of the declaration that the word v behind a tag t with the mark m uses: 1 for the outermost of n, 0 for one further out, and
 // `other` where it is no index that dangles in the body. No branch depends on the words.
@@ -21,7 +12,7 @@ pub fn slot_of(m: u32, t: u32, v: u32, n: u32, other: u32) -> usize
     let base = std::num::wrapping_sub_u64(m as u64, (n as u64) + 1);
     let word = v as u64;
     let index = std::num::wrapping_sub_u64(word, base);
-    let slot = less_by(n as u64, index);
+    let slot = (n as u64).saturating_sub(index);
     let dangles = (t == Tag::BOUND_IDENT) & (base <= word);
     if dangles {
         return slot as usize;

@@ -1,6 +1,6 @@
 -- No exported call answers over 8,192 words, no position is over 8,192, and only a refusal by 2 has one; so number, length and position can be
 -- read off the code of a call. Assumes nothing.
-use mathlib.Core.Path.{◌≡◌}
+use mathlib.Core.Path.{◌≡◌, refl}
 use mathlib.Core.Bool.{Bool, true, false, ◌&&◌}
 use mathlib.Core.List.{List, [], ◌∷◌, ◌++◌, map}
 use Prim.Native.Nat.{ℕ, ◌+◌, ◌≤◌, ◌/◌, ◌%◌, ◌^◌}
@@ -16,6 +16,9 @@ use Rattle.form.specs.Answer.{Outcome, answer, stop, told, number, length_of, po
 use Rattle.form.specs.declared.answer.Kind.{Kind}
 use Rattle.form.specs.declared.answer.Kind.TheVariants.{Either}
 use Rattle.form.specs.declared.answer.ListKind.TheVariants.{Pairs, Places}
+use Rattle.form.specs.Refusal.{position_of}
+use Rattle.form.specs.declared.answer.Refusal.{Refusal}
+use Rattle.form.specs.declared.answer.Refusal.TheVariants.{TooLong, BadNames, TooManyPlaces, OutputTooShort}
 use Rattle.form.proofs.RowLaws.{row_one}
 use Rattle.rules.specs.Walk.{Binding, inside, outside, binding, collect_index, collect, collect_decls, collect_all}
 use Rattle.rules.specs.Dangling.{index_of, insert, insert_all, dangling_set, dangling_outcome}
@@ -34,11 +37,11 @@ Short o = Settled FewWords o
 -- the upper 32 bits are the number; the lower ones the length of an answer, and the position of a refusal
 pub code_read : (o : Outcome) → Short o → (code_of (told o) / 2 ^ 32 ≡ number (told o)) × (code_of (told o) % 2 ^ 32 ≡ length_of (told o) + position (told o))
 code_read (answer ws) h = (omega (arith, h), omega (arith, h))
-code_read (stop k p) h = let l = h.low in (omega (arith, l), omega (arith, l))
+code_read (stop k) h = let l = h.low in (omega (arith, l), omega (arith, l))
 
 -- the checks
-check-by : (k : ℕ) → 1 ≤ k → (b : Bool) → Short (needs k b (answer []))
-check-by k n b = tested FewWords k n b (answer []) (omega arith)
+check-by : (r : Refusal) → position_of r ≡ 0 → (b : Bool) → Short (needs r b (answer []))
+check-by r n b = tested FewWords r n b (answer []) (omega arith)
 
 pub check-short : (kind : Kind) (row : List ℕ) → Short (check_outcome kind row)
 unfolding check_outcome
@@ -46,15 +49,15 @@ check-short kind row = form-settled FewWords kind row _ (λ s f e. omega arith)
 
 pub names-short : (row : List ℕ) → Short (names_outcome row)
 unfolding names_outcome
-names-short row = tested FewWords 1 (omega arith) (leb (length row) 8192) _ (check-by 4 (omega arith) (good_names row))
+names-short row = tested FewWords TooLong refl (leb (length row) 8192) _ (check-by BadNames refl (good_names row))
 
 pub pairs-short : (row : List ℕ) → Short (pairs_outcome row)
 unfolding pairs_outcome
-pairs-short row = list-settled FewWords Pairs row _ (λ es. check-by 4 (omega arith) (good_names (map word_of es)))
+pairs-short row = list-settled FewWords Pairs row _ (λ es. check-by BadNames refl (good_names (map word_of es)))
 
 pub places-short : (n : ℕ) (row : List ℕ) → Short (places_outcome n row)
 unfolding places_outcome
-places-short n row = list-settled FewWords Places row _ (λ es. check-by 5 (omega arith) (leb n 32 && leb (length es) n))
+places-short n row = list-settled FewWords Places row _ (λ es. check-by TooManyPlaces refl (leb n 32 && leb (length es) n))
 
 -- the commands
 pub outcome-short : (c : Command) (z : ℤ) (list row : List ℕ) (work room : ℕ) → Short (outcome_of c z list row work room)
@@ -110,7 +113,7 @@ mutual
 
 pub dangling-short : (row : List ℕ) (room : ℕ) → Short (dangling_outcome row room)
 unfolding dangling_outcome dangling_set
-dangling-short row room = form-settled FewWords Either row _ (λ s f e. tested FewWords 14 (omega arith) (leb (length (dangling_set f)) room) (answer (dangling_set f)) (set s f e))
+dangling-short row room = form-settled FewWords Either row _ (λ s f e. tested FewWords OutputTooShort refl (leb (length (dangling_set f)) room) (answer (dangling_set f)) (set s f e))
   where
     set : (s : Sort) (f : Form) → row_form s row ≡ one f → length (dangling_set f) ≤ 8192
     set s f e =

@@ -1,7 +1,7 @@
 -- The one number that a call of the static library answers.
 use Rattle.std.specs.Prelude.{List, ℕ, ◌+◌, ◌*◌, ◌^◌, length}
 use Rattle.form.specs.Answer.{number, length_of, position}
-use Rattle.form.specs.declared.answer.Answer.{Answer}
+use Rattle.form.specs.Answer.{Answer}
 use Rattle.rules.specs.Lift.{Part, base, copy, empty}
 use Rattle.places.specs.declared.replacements.Replacements.{Replacements}
 
@@ -9,7 +9,7 @@ use Rattle.places.specs.declared.replacements.Replacements.{Replacements}
 abbrev pub packed : ℕ → ℕ → ℕ
 packed k n = k * 2 ^ 32 + n
 
--- document 01's number (0 for an answer) and its length, or for a refusal the position; one of these is 0
+-- the number of a refusal (0 for an answer), and the length of the answer or the position of the refusal; one of these is 0
 abbrev pub code_of : Answer → ℕ
 code_of a = packed (number a) (length_of a + position a)
 

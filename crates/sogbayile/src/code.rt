@@ -1,16 +1,17 @@
 // An answer as one number.
 ghost use Rattle.std.specs.Prelude.{◌≡◌};
+ghost use Rattle.form.specs.Refusal.{number_of, position_of};
 ghost use Rattle.sogbayile.specs.Code.{packed, code_of};
 ghost use Rattle.sogbayile.specs.Internal.{ShortPart, made_code};
 
-use form::answer::Answer;
+use form::answer::{Answer, Refusal};
 use subst::lift::Made;
 
 // The number of a refusal in the upper 32 bits, and its position in the lower ones.
-pub fn refusal_code(number: u32, position: u32) -> u64
-    ensures { result ≡ packed number position }
+pub fn refusal_code(refusal: Refusal) -> u64
+    ensures { result ≡ packed (number_of refusal) (position_of refusal) }
 {
-    (number as u64) * 4294967296 + (position as u64)
+    u64::from(refusal.number()) * 4294967296 + u64::from(refusal.position())
 }
 
 // The length of an answer, or the number of a refusal in the upper 32 bits and its position in the lower ones.
@@ -18,19 +19,19 @@ pub fn code_of(answer: Answer) -> u64
     ensures { result ≡ code_of answer }
 {
     match answer {
-        Answer::Done(length) => length as u64,
-        Answer::No(number, position) => refusal_code(number, position),
+        Ok(length) => length as u64,
+        Err(refusal) => refusal_code(refusal),
     }
 }
 
 // The row that holds what lift answers in the upper 32 bits, and its length.
-pub(crate) fn part_code(length: usize, made: Made) -> u64
+pub(crate) fn part_code(length: usize, made: Option<Made>) -> u64
     requires { ShortPart length made }
     ensures { result ≡ made_code length made }
 {
     match made {
-        Made::Base => 4294967296 + (length as u64),
-        Made::Copy(n) => 8589934592 + (n as u64),
-        Made::Nothing => 0,
+        Some(Made::Base) => 4294967296 + (length as u64),
+        Some(Made::Copy(n)) => 8589934592 + (n as u64),
+        None => 0,
     }
 }

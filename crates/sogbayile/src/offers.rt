@@ -6,6 +6,17 @@ ghost use Rattle.sogbayile.specs.Code.{packed, places_of};
 use crate::code::refusal_code;
 use places::replacements::Replacements;
 
+// The two arrays of the set, stored.
+fn store(places: Replacements, starts: &mut [usize; 32], ends: &mut [usize; 32])
+    ensures starts_after { starts.new ≡ places.starts }
+    ensures ends_after { ends.new ≡ places.ends }
+{
+    let first = places.starts;
+    let past = places.ends;
+    *starts = first;
+    *ends = past;
+}
+
 // An empty set for n declarations.
 #[unsafe(no_mangle)]
 pub extern "C" fn sgb_places(n: usize, starts: &mut [usize; 32], ends: &mut [usize; 32]) -> u64
@@ -13,13 +24,16 @@ pub extern "C" fn sgb_places(n: usize, starts: &mut [usize; 32], ends: &mut [usi
     ensures starts_after { starts.new ≡ (new_of n).places.starts }
     ensures ends_after { ends.new ≡ (new_of n).places.ends }
 {
-    let made = Replacements::new(n);
-    let places = made.places;
-    let first = places.starts;
-    let past = places.ends;
-    *starts = first;
-    *ends = past;
-    refusal_code(made.number, made.position)
+    match Replacements::new(n) {
+        Ok(made) => {
+            store(made, starts, ends);
+            0
+        }
+        Err(refusal) => {
+            store(Replacements::free(0), starts, ends);
+            refusal_code(refusal)
+        }
+    }
 }
 
 // A predicate row offered to the set; a refusal leaves the set as it is.
@@ -34,18 +48,18 @@ pub extern "C" fn sgb_offer(
     ensures starts_after { starts.new ≡ (offer_answer (places_of starts.old ends.old n) row.now).places.starts }
     ensures ends_after { ends.new ≡ (offer_answer (places_of starts.old ends.old n) row.now).places.ends }
 {
-    let before_starts = *starts;
-    let before_ends = *ends;
+    let first = *starts;
+    let past = *ends;
     let places = Replacements {
-        starts: before_starts,
-        ends: before_ends,
-        n: n,
+        starts: first,
+        ends: past,
+        n,
     };
-    let offered = Replacements::check(places, row);
-    let after = offered.places;
-    let first = after.starts;
-    let past = after.ends;
-    *starts = first;
-    *ends = past;
-    refusal_code(offered.number, offered.position)
+    match places.check(row) {
+        Ok(after) => {
+            store(after, starts, ends);
+            0
+        }
+        Err(refusal) => refusal_code(refusal),
+    }
 }

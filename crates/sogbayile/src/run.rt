@@ -6,7 +6,8 @@ ghost use Rattle.sogbayile.specs.Code.{code_of};
 
 use crate::code::refusal_code;
 use crate::commands::run_command;
-use rules::command::{Numbered, of_number};
+use form::answer::Refusal;
+use rules::command::of_number;
 
 // The answer of the command of that number; 8 where there is none.
 #[unsafe(no_mangle)]
@@ -21,8 +22,8 @@ pub extern "C" fn sgb_run(
     ensures value { result ≡ code_of (told (number_outcome number offset list.now row.now (length work.old) (length out.old))) }
     ensures out_after { out.new ≡ written (number_outcome number offset list.now row.now (length work.old) (length out.old)) out.old }
 {
-    let Numbered::Is(command) = of_number(number) else {
-        return refusal_code(8, 0);
+    let Some(command) = of_number(number) else {
+        return refusal_code(Refusal::NotACommand);
     };
     run_command(command, offset, list, row, work, out)
 }

@@ -15,18 +15,18 @@ use Rattle.form.specs.Decode.{Head, head, flagged, bad, read, no-form, Gots, got
 use Rattle.form.specs.Internal.Heads.{head_at}
 use Rattle.form.specs.Internal.Heads.{starts_leaf}
 use Rattle.form.specs.declared.head.Head as code
-use Rattle.form.specs.declared.head.Head.TheVariants.{Kids, Noted, None}
+use Rattle.form.specs.declared.head.Head.TheVariants.{Kids, Noted}
 use Rattle.form.proofs.DecodeLaws.{clash, high-tag, read-exact, read_at, all_sound, made, flags-exact, flags-at}
 use Rattle.form.proofs.HeadLaws.{gone}
 use Rattle.form.proofs.LeafLaws.{two-words, leaf_room}
 use Rattle.reader.proofs.ReaderLaws.{no_word, node-here}
 use Rattle.spell.specs.Spell.{decimal, spaced, bracket, spell_leaf, spell, spell_decls, spell_all}
 use Rattle.spell.specs.Put.{put}
-use Rattle.spell.specs.Internal.Writes.{Wrote, Printed, PrintedAll, PrintedTail, PrintedNoted}
-use Rattle.spell.specs.declared.print.Ends.{Ends}
-use Rattle.spell.specs.declared.print.Ends.TheVariants.{End, Bad}
+use Rattle.spell.specs.Internal.Writes.{spot, Wrote, Printed, PrintedAll, PrintedTail, PrintedNoted}
 use Rattle.spell.proofs.WriteLaws.{wrote-both, wrote-end, decimal-few, spaced-few}
-use Rattle.spell.proofs.PrintLaws.{bad-printed, all-bad, same_end}
+use Rattle.spell.proofs.PrintLaws.{bad-printed, all-bad, row-is, out-is, same_end}
+use Rattle.std.specs.Prelude.{None, Option, Some}
+use Rattle.spell.specs.declared.print.Spot.{Spot}
 
 -- the bracket, the tag and the words of a node
 abbrev pub opening : ℕ → List ℕ → List ℕ
@@ -73,35 +73,35 @@ made-spell t o ds ks true x l e = rw (l refl) (leaf-spell x t (o ++ ds) (rw (l r
 made-spell t o ds ks false x l e = refl
 
 module _ (s : Sort) (row : List ℕ) (at : ℕ) where
-  pub too-deep : (d o : ℕ) (a b : List ℕ) → d ≡ 0 → Printed at o (decode d s (drop at row)) a b Bad
+  pub too-deep : (d o : ℕ) (a b : List ℕ) → d ≡ 0 → Printed at o (decode d s (drop at row)) a b None
   unfolding decode
   too-deep d o a b e = bad-printed at o _ a b (rw e refl)
 
-  pub past_end : (d o : ℕ) (a b : List ℕ) → length row ≤ at → Printed at o (decode d s (drop at row)) a b Bad
+  pub past_end : (d o : ℕ) (a b : List ℕ) → length row ≤ at → Printed at o (decode d s (drop at row)) a b None
   past_end d o a b h = bad-printed at o _ a b (rw (gone row at h) (no_word d s))
 
   module _ (d t : ℕ) where
-    close-printed : (o ds : List ℕ) (x y p i j k u q : ℕ) (m m₁ m₂ m₃ : List ℕ) (r : Ends) (g : Gots) → decode_all (λ s l. decode d s l) (sorts x y) (drop p row) ≡ g
+    close-printed : (o ds : List ℕ) (x y p i j k u q : ℕ) (m m₁ m₂ m₃ : List ℕ) (r : Option Spot) (g : Gots) → decode_all (λ s l. decode d s l) (sorts x y) (drop p row) ≡ g
         → ((l : List ℕ) → read (own s t) (o ++ (ds ++ l)) ≡ head o ds x y l) → p ≡ at + 1 + (length o + length ds) → Wrote u (opening t (o ++ ds)) m m₁ i
-        → PrintedAll p i g m₁ m₂ r → r ≡ End q j → Wrote j (93 ∷ []) m₂ m₃ k → Printed at u (close t o ds g) m m₃ (End q k)
+        → PrintedAll p i g m₁ m₂ r → r ≡ spot q j → Wrote j (93 ∷ []) m₂ m₃ k → Printed at u (close t o ds g) m m₃ (spot q k)
     unfolding Printed PrintedAll Wrote
     close-printed o ds x y p i j k u q m m₁ m₂ m₃ r (gots ks l) z h e w v c f =
         let (a, n) = all_sound d (sorts x y) (drop p row) ks l z in
         let (b, ok, only) = made d s t o ds x y ks (is_leaf t) refl h n in
-        let ej : j ≡ i + length (spell_all ks) = cc v.0 in
-        let eq : q ≡ p + length (encode_all ks) = cc v.0 in
+        let ej : j ≡ i + length (spell_all ks) = out-is (sym c ∙ v.0) in
+        let eq : q ≡ p + length (encode_all ks) = row-is (sym c ∙ v.0) in
         let all = wrote-both u i k (opening t (o ++ ds)) (spell_all ks ++ (93 ∷ [])) m m₁ m₃ w (wrote-both i j k (spell_all ks) (93 ∷ []) m₁ m₂ m₃ (ej, v.1) f) in
         let sp : opening t (o ++ ds) ++ (spell_all ks ++ (93 ∷ [])) ≡ spell (make t o ds ks) = bracket-is t (o ++ ds) (spell_all ks) ∙ made-spell t o ds ks (is_leaf t) (leaf_at t (get_or o 0 0)) only b in
         let len : length (encode (make t o ds ks)) ≡ suc (length o + (length ds + length (encode_all ks))) = rw (← b, length-append, length-append) refl in
         let ek : k ≡ u + length (spell (make t o ds ks)) = all.0 ∙ ap (λ n. u + length n) sp in
         let en : q ≡ at + length (encode (make t o ds ks)) = omega arith in
-        (cc, all.1 ∙ ap (λ n. put m u n) sp)
+        (same_end _ _ _ _ en ek, all.1 ∙ ap (λ n. put m u n) sp)
     close-printed o ds x y p i j k u q m m₁ m₂ m₃ r no-forms z h e w v c f = absurd (clash cc)
 
-    branch-printed : (z : Head) (x y w p i j k u q : ℕ) (m m₁ m₂ m₃ : List ℕ) (r : Ends) → read (own s t) (drop (at + 1) row) ≡ z → head_at (at + 1) z ≡ Kids p x y w
+    branch-printed : (z : Head) (x y w p i j k u q : ℕ) (m m₁ m₂ m₃ : List ℕ) (r : Option Spot) → read (own s t) (drop (at + 1) row) ≡ z → head_at (at + 1) z ≡ Some (Kids p x y w)
         → Wrote u (opening t (take (p - (at + 1)) (drop (at + 1) row))) m m₁ i
-        → PrintedAll p i (decode_all (λ s l. decode d s l) (sorts x y) (drop p row)) m₁ m₂ r → r ≡ End q j → Wrote j (93 ∷ []) m₂ m₃ k
-        → Printed at u (branch (λ s l. decode d s l) t z) m m₃ (End q k)
+        → PrintedAll p i (decode_all (λ s l. decode d s l) (sorts x y) (drop p row)) m₁ m₂ r → r ≡ spot q j → Wrote j (93 ∷ []) m₂ m₃ k
+        → Printed at u (branch (λ s l. decode d s l) t z) m m₃ (spot q k)
     unfolding head_at
     branch-printed (head o ds x' y' l) x y w p i j k u q m m₁ m₂ m₃ r z e v t' c f =
         let ep : p ≡ at + 1 + (length o + length ds) = cc in
@@ -116,8 +116,8 @@ module _ (s : Sort) (row : List ℕ) (at : ℕ) where
     branch-printed (flagged o n x' y' l) x y w p i j k u q m m₁ m₂ m₃ r z e v t' c f = absurd (clash cc)
     branch-printed bad x y w p i j k u q m m₁ m₂ m₃ r z e v t' c f = absurd (clash cc)
 
-    branch-stop : (z : Head) (x y w p i u : ℕ) (m m₁ m₂ b : List ℕ) (r : Ends) → read (own s t) (drop (at + 1) row) ≡ z → head_at (at + 1) z ≡ Kids p x y w
-        → PrintedAll p i (decode_all (λ s l. decode d s l) (sorts x y) (drop p row)) m₁ m₂ r → r ≡ Bad → Printed at u (branch (λ s l. decode d s l) t z) m b Bad
+    branch-stop : (z : Head) (x y w p i u : ℕ) (m m₁ m₂ b : List ℕ) (r : Option Spot) → read (own s t) (drop (at + 1) row) ≡ z → head_at (at + 1) z ≡ Some (Kids p x y w)
+        → PrintedAll p i (decode_all (λ s l. decode d s l) (sorts x y) (drop p row)) m₁ m₂ r → r ≡ None → Printed at u (branch (λ s l. decode d s l) t z) m b None
     unfolding head_at
     branch-stop (head o ds x' y' l) x y w p i u m m₁ m₂ b r z e v c =
         let ep : p ≡ at + 1 + (length o + length ds) = cc in
@@ -128,13 +128,13 @@ module _ (s : Sort) (row : List ℕ) (at : ℕ) where
     branch-stop (flagged o n x' y' l) x y w p i u m m₁ m₂ b r z e v c = absurd (clash cc)
     branch-stop bad x y w p i u m m₁ m₂ b r z e v c = absurd (clash cc)
 
-    branch-bad : (z : Head) (u : ℕ) (m b : List ℕ) → head_at (at + 1) z ≡ None → Printed at u (branch (λ s l. decode d s l) t z) m b Bad
+    branch-bad : (z : Head) (u : ℕ) (m b : List ℕ) → head_at (at + 1) z ≡ None → Printed at u (branch (λ s l. decode d s l) t z) m b None
     unfolding head_at
     branch-bad (head o ds x y l) u m b e = absurd (clash cc)
     branch-bad (flagged o n x y l) u m b e = absurd (clash cc)
     branch-bad bad u m b e = bad-printed at u no-form m b refl
 
-  within : (k : ℕ) (z : Head) (p x y w : ℕ) → at < length row → read (own s k) (drop (at + 1) row) ≡ z → head_at (at + 1) z ≡ Kids p x y w → (at < p) × (p ≤ length row)
+  within : (k : ℕ) (z : Head) (p x y w : ℕ) → at < length row → read (own s k) (drop (at + 1) row) ≡ z → head_at (at + 1) z ≡ Some (Kids p x y w) → (at < p) × (p ≤ length row)
   unfolding head_at
   within k (head o ds x' y' l) p x y w low q e =
       let ep : p ≡ at + 1 + (length o + length ds) = cc in
@@ -152,8 +152,8 @@ module _ (s : Sort) (row : List ℕ) (at : ℕ) where
     unfolding spell
     noted-bytes o ds ks = rw (← append_assoc (spell_decls ds)) (bracket-is t o (spell_decls ds ++ spell_all ks))
 
-    close-noted : (o : List ℕ) (ds : Decls) (p i u : ℕ) (m m₁ m₂ : List ℕ) (r : Ends) (g : Gots) (b : Bool) → any_typed ds ≡ b → p ≡ at + 1 + length o → Wrote u (opening t o) m m₁ i
-        → pick b (PrintedTail (p + length (encode_decls ds)) i (spell_decls ds) g m₁ m₂ r) (r ≡ Bad) → Printed at u (close_noted t o ds g) m m₂ r
+    close-noted : (o : List ℕ) (ds : Decls) (p i u : ℕ) (m m₁ m₂ : List ℕ) (r : Option Spot) (g : Gots) (b : Bool) → any_typed ds ≡ b → p ≡ at + 1 + length o → Wrote u (opening t o) m m₁ i
+        → pick b (PrintedTail (p + length (encode_decls ds)) i (spell_decls ds) g m₁ m₂ r) (r ≡ None) → Printed at u (close_noted t o ds g) m m₂ r
     unfolding Printed PrintedTail Wrote encode
     close-noted o ds p i u m m₁ m₂ r (gots ks l) true q e w k =
         let all = wrote-both u i (i + length (spell_decls ds ++ (spell_all ks ++ (93 ∷ [])))) (opening t o) (spell_decls ds ++ (spell_all ks ++ (93 ∷ []))) m m₁ m₂ w (refl, k.1) in
@@ -165,13 +165,13 @@ module _ (s : Sort) (row : List ℕ) (at : ℕ) where
     close-noted o ds p i u m m₁ m₂ r (gots ks l) false q e w k = rw q k
     close-noted o ds p i u m m₁ m₂ r no-forms false q e w k = k
 
-    decls-printed : (o : List ℕ) (g : GotDecls) (x y p i u : ℕ) (m m₁ m₂ : List ℕ) (r : Ends) → p ≡ at + 1 + length o → Wrote u (opening t o) m m₁ i
+    decls-printed : (o : List ℕ) (g : GotDecls) (x y p i u : ℕ) (m m₁ m₂ : List ℕ) (r : Option Spot) → p ≡ at + 1 + length o → Wrote u (opening t o) m m₁ i
         → PrintedNoted p i g (λ l. decode_all (λ s l. decode d s l) (sorts x y) l) m₁ m₂ r → Printed at u (with_decls (λ s l. decode d s l) t o x y g) m m₂ r
     unfolding PrintedNoted Printed
     decls-printed o (declared ds l) x y p i u m m₁ m₂ r e w k = close-noted o ds p i u m m₁ m₂ r (decode_all (λ s l. decode d s l) (sorts x y) l) (any_typed ds) refl e w k
     decls-printed o no-decls x y p i u m m₁ m₂ r e w k = k
 
-    branch-noted : (z : Head) (x y w p i u : ℕ) (m m₁ m₂ : List ℕ) (r : Ends) → read (own s t) (drop (at + 1) row) ≡ z → head_at (at + 1) z ≡ Noted p x y w
+    branch-noted : (z : Head) (x y w p i u : ℕ) (m m₁ m₂ : List ℕ) (r : Option Spot) → read (own s t) (drop (at + 1) row) ≡ z → head_at (at + 1) z ≡ Some (Noted p x y w)
         → Wrote u (opening t (take (p - (at + 1)) (drop (at + 1) row))) m m₁ i
         → PrintedNoted p i (decls (λ s l. decode d s l) w (drop p row)) (λ l. decode_all (λ s l. decode d s l) (sorts x y) l) m₁ m₂ r
         → Printed at u (branch (λ s l. decode d s l) t z) m m₂ r
@@ -189,7 +189,7 @@ module _ (s : Sort) (row : List ℕ) (at : ℕ) where
         rw (ex, ey, en, el) (decls-printed o _ x y p i u m m₁ m₂ r ep (rw ew at v) k)
     branch-noted bad x y w p i u m m₁ m₂ r z e v k = absurd (clash cc)
 
-  within-noted : (k : ℕ) (z : Head) (p x y w : ℕ) → at < length row → read (own s k) (drop (at + 1) row) ≡ z → head_at (at + 1) z ≡ Noted p x y w → (at < p) × (p ≤ length row)
+  within-noted : (k : ℕ) (z : Head) (p x y w : ℕ) → at < length row → read (own s k) (drop (at + 1) row) ≡ z → head_at (at + 1) z ≡ Some (Noted p x y w) → (at < p) × (p ≤ length row)
   unfolding head_at
   within-noted k (head o ds x' y' l) p x y w low q e = absurd (clash cc)
   within-noted k (flagged o n' x' y' l) p x y w low q e =
@@ -200,54 +200,54 @@ module _ (s : Sort) (row : List ℕ) (at : ℕ) where
       (omega arith, omega arith)
   within-noted k bad p x y w low q e = absurd (clash cc)
 
-  module _ {h : code.Head} (low : at < length row) (hd : h ≡ head_at (at + 1) (read (own s (get_or row at 0)) (drop (at + 1) row))) where
-    pub no_own : (d o : ℕ) (a b : List ℕ) → (d ≡ 0 → ⊥) → h ≡ None → Printed at o (decode d s (drop at row)) a b Bad
+  module _ {h : Option code.Head} (low : at < length row) (hd : h ≡ head_at (at + 1) (read (own s (get_or row at 0)) (drop (at + 1) row))) where
+    pub no_own : (d o : ℕ) (a b : List ℕ) → (d ≡ 0 → ⊥) → h ≡ None → Printed at o (decode d s (drop at row)) a b None
     no_own zero o a b ne e = absurd (ne refl)
     no_own (suc d) o a b ne e = rw (node-here d s row at low) (branch-bad d (get_or row at 0) _ o a b (sym hd ∙ e))
 
-    pub kids-stop : (d p x y w i u : ℕ) (m m₁ m₂ b : List ℕ) (r : Ends) → (d ≡ 0 → ⊥) → h ≡ Kids p x y w
-        → PrintedAll p i (decode_all (λ s l. decode (d - 1) s l) (sorts x y) (drop p row)) m₁ m₂ r → r ≡ Bad → Printed at u (decode d s (drop at row)) m b Bad
+    pub kids-stop : (d p x y w i u : ℕ) (m m₁ m₂ b : List ℕ) (r : Option Spot) → (d ≡ 0 → ⊥) → h ≡ Some (Kids p x y w)
+        → PrintedAll p i (decode_all (λ s l. decode (d - 1) s l) (sorts x y) (drop p row)) m₁ m₂ r → r ≡ None → Printed at u (decode d s (drop at row)) m b None
     kids-stop zero p x y w i u m m₁ m₂ b r ne e t c = absurd (ne refl)
     kids-stop (suc d) p x y w i u m m₁ m₂ b r ne e t c = rw (node-here d s row at low) (branch-stop d (get_or row at 0) _ x y w p i u m m₁ m₂ b r refl (sym hd ∙ e) (rw sub-one at t) c)
 
-    pub a-form : (d p x y w i j k u q : ℕ) (m m₁ m₂ m₃ : List ℕ) (r : Ends) → (d ≡ 0 → ⊥) → h ≡ Kids p x y w
+    pub a-form : (d p x y w i j k u q : ℕ) (m m₁ m₂ m₃ : List ℕ) (r : Option Spot) → (d ≡ 0 → ⊥) → h ≡ Some (Kids p x y w)
         → Wrote u (opening (get_or row at 0) (take (p - (at + 1)) (drop (at + 1) row))) m m₁ i
-        → PrintedAll p i (decode_all (λ s l. decode (d - 1) s l) (sorts x y) (drop p row)) m₁ m₂ r → r ≡ End q j → Wrote j (93 ∷ []) m₂ m₃ k
-        → Printed at u (decode d s (drop at row)) m m₃ (End q k)
+        → PrintedAll p i (decode_all (λ s l. decode (d - 1) s l) (sorts x y) (drop p row)) m₁ m₂ r → r ≡ spot q j → Wrote j (93 ∷ []) m₂ m₃ k
+        → Printed at u (decode d s (drop at row)) m m₃ (spot q k)
     a-form zero p x y w i j k u q m m₁ m₂ m₃ r ne e v t c f = absurd (ne refl)
     a-form (suc d) p x y w i j k u q m m₁ m₂ m₃ r ne e v t c f =
         rw (node-here d s row at low) (branch-printed d (get_or row at 0) _ x y w p i j k u q m m₁ m₂ m₃ r refl (sym hd ∙ e) v (rw sub-one at t) c f)
 
-    pub a-noted : (d p x y w i u : ℕ) (m m₁ m₂ : List ℕ) (r : Ends) → (d ≡ 0 → ⊥) → h ≡ Noted p x y w
+    pub a-noted : (d p x y w i u : ℕ) (m m₁ m₂ : List ℕ) (r : Option Spot) → (d ≡ 0 → ⊥) → h ≡ Some (Noted p x y w)
         → Wrote u (opening (get_or row at 0) (take (p - (at + 1)) (drop (at + 1) row))) m m₁ i
         → PrintedNoted p i (decls (λ s l. decode (d - 1) s l) w (drop p row)) (λ l. decode_all (λ s l. decode (d - 1) s l) (sorts x y) l) m₁ m₂ r → Printed at u (decode d s (drop at row)) m m₂ r
     a-noted zero p x y w i u m m₁ m₂ r ne e v t = absurd (ne refl)
     a-noted (suc d) p x y w i u m m₁ m₂ r ne e v t = rw (node-here d s row at low) (branch-noted d (get_or row at 0) _ x y w p i u m m₁ m₂ r refl (sym hd ∙ e) v (rw sub-one at t))
 
-    pub flags-within : (p x y w : ℕ) → h ≡ Noted p x y w → (at < p) × (p ≤ length row)
+    pub flags-within : (p x y w : ℕ) → h ≡ Some (Noted p x y w) → (at < p) × (p ≤ length row)
     flags-within p x y w e = within-noted (get_or row at 0) _ p x y w low refl (sym hd ∙ e)
 
-    pub kids-within : (p x y w : ℕ) → h ≡ Kids p x y w → (at < p) × (p ≤ length row)
+    pub kids-within : (p x y w : ℕ) → h ≡ Some (Kids p x y w) → (at < p) × (p ≤ length row)
     kids-within p x y w e = within (get_or row at 0) _ p x y w low refl (sym hd ∙ e)
 
 -- a name or an index
 module _ (row : List ℕ) (at d : ℕ) where
   pub leaf-printed : (o r : ℕ) (a b : List ℕ) → starts_leaf d (drop at row) ≡ true → Wrote o (bracket (get_or row at 0) (get_or row (at + 1) 0 ∷ []) []) a b r
-      → Printed at o (decode d expr (drop at row)) a b (End (at + 2) r)
+      → Printed at o (decode d expr (drop at row)) a b (spot (at + 2) r)
   unfolding decode decode_all read own own_of shape_of expr_tags Printed Wrote encode spell spell_leaf starts_leaf
   leaf-printed o r a b e w = rw (two-words row at d (leaf_room row at d e).1) (go d (get_or row at 0) (get_or row (at + 1) 0) _ (rw (two-words row at d (leaf_room row at d e).1) at e) w)
     where
-      word-printed : (t d w : ℕ) (ws : List ℕ) → is_leaf t ≡ true → leb w 65535 ≡ true → Wrote o (bracket t (w ∷ []) []) a b r → Printed at o (decode (suc d) expr (t ∷ w ∷ ws)) a b (End (at + 2) r)
+      word-printed : (t d w : ℕ) (ws : List ℕ) → is_leaf t ≡ true → leb w 65535 ≡ true → Wrote o (bracket t (w ∷ []) []) a b r → Printed at o (decode (suc d) expr (t ∷ w ∷ ws)) a b (spot (at + 2) r)
       word-printed zero d w ws l e h = absurd (clash cc)
       word-printed (suc zero) d w ws l e h = rw (le-leb 0 w (omega arith), e) (rw h.0, h.1)
       word-printed (suc (suc zero)) d w ws l e h = rw (le-leb 0 w (omega arith), e) (rw h.0, h.1)
       word-printed (suc (suc (suc t))) d w ws l e h = let q = high-tag t in absurd (clash cc)
 
-      both : (t d w : ℕ) (ws : List ℕ) (x y : Bool) → is_leaf t ≡ x → leb w 65535 ≡ y → (x && y) ≡ true → Wrote o (bracket t (w ∷ []) []) a b r → Printed at o (decode (suc d) expr (t ∷ w ∷ ws)) a b (End (at + 2) r)
+      both : (t d w : ℕ) (ws : List ℕ) (x y : Bool) → is_leaf t ≡ x → leb w 65535 ≡ y → (x && y) ≡ true → Wrote o (bracket t (w ∷ []) []) a b r → Printed at o (decode (suc d) expr (t ∷ w ∷ ws)) a b (spot (at + 2) r)
       both t d w ws true true l e k h = word-printed t d w ws l e h
       both t d w ws true false l e k h = absurd (clash cc)
       both t d w ws false y l e k h = absurd (clash cc)
 
-      go : (d t w : ℕ) (ws : List ℕ) → starts_leaf d (t ∷ w ∷ ws) ≡ true → Wrote o (bracket t (w ∷ []) []) a b r → Printed at o (decode d expr (t ∷ w ∷ ws)) a b (End (at + 2) r)
+      go : (d t w : ℕ) (ws : List ℕ) → starts_leaf d (t ∷ w ∷ ws) ≡ true → Wrote o (bracket t (w ∷ []) []) a b r → Printed at o (decode d expr (t ∷ w ∷ ws)) a b (spot (at + 2) r)
       go zero t w ws e h = absurd (clash cc)
       go (suc d) t w ws e h = both t d w ws (is_leaf t) (leb w 65535) refl refl (rw (le-leb 1 (suc d) (omega arith)) at e) h

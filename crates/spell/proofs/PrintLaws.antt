@@ -12,10 +12,10 @@ use Rattle.form.proofs.DecodeLaws.{clash, decode-sound, all_sound, decode-at}
 use Rattle.reader.proofs.ReaderLaws.{no_both}
 use Rattle.spell.specs.Spell.{decimal, spaced, bracket, spell_leaf, spell, spell_decls, spell_all}
 use Rattle.spell.specs.Put.{put}
-use Rattle.spell.specs.Internal.Writes.{Wrote, Printed, PrintedAll}
-use Rattle.spell.specs.declared.print.Ends.{Ends}
-use Rattle.spell.specs.declared.print.Ends.TheVariants.{End, Bad}
+use Rattle.spell.specs.Internal.Writes.{spot, Wrote, Printed, PrintedAll}
 use Rattle.spell.proofs.WriteLaws.{put-append, wrote-both, decimal-few, spaced-few}
+use Rattle.std.specs.Prelude.{None, Option}
+use Rattle.spell.specs.declared.print.Spot.{Spot}
 
 -- a spelling has fewer than 13 bytes a word
 bracket-few : (t : ℕ) (ws ks : List ℕ) → length (bracket t ws ks) ≤ 12 + 11 * length ws + length ks
@@ -73,42 +73,52 @@ mutual
       let b = length-append (encode f) (encode_all fs) in
       omega arith
 
-pub same_end : (x x' y y' : ℕ) → x ≡ x' → y ≡ y' → End x y ≡ End x' y'
+pub row-is : {x x' y y' : ℕ} → spot x y ≡ spot x' y' → x ≡ x'
+row-is {x} {x'} {y} {y'} e =
+    let z : ◌≡◌ {A = Spot} (record { row = x; out = y }) (record { row = x'; out = y' }) = cc in
+    ap (λ s. s.row) z
+
+pub out-is : {x x' y y' : ℕ} → spot x y ≡ spot x' y' → y ≡ y'
+out-is {x} {x'} {y} {y'} e =
+    let z : ◌≡◌ {A = Spot} (record { row = x; out = y }) (record { row = x'; out = y' }) = cc in
+    ap (λ s. s.out) z
+
+pub same_end : (x x' y y' : ℕ) → x ≡ x' → y ≡ y' → spot x y ≡ spot x' y'
 same_end x x' y y' e f = cc
 
 -- an answer taken apart
-pub printed-end : (p o : ℕ) (g : Got) (a b : List ℕ) (r : Ends) (q j : ℕ) → Printed p o g a b r → r ≡ End q j
+pub printed-end : (p o : ℕ) (g : Got) (a b : List ℕ) (r : Option Spot) (q j : ℕ) → Printed p o g a b r → r ≡ spot q j
     → (f : Form) × (x : List ℕ) × (g ≡ got f x) × (q ≡ p + length (encode f)) × (j ≡ o + length (spell f)) × (b ≡ put a o (spell f))
 unfolding Printed
-printed-end p o (got f x) a b r q j t e = (f, x, refl, cc t.0, cc t.0, t.1)
+printed-end p o (got f x) a b r q j t e = (f, x, refl, row-is (sym e ∙ t.0), out-is (sym e ∙ t.0), t.1)
 printed-end p o no-form a b r q j t e = absurd (clash cc)
 
-pub printed-bad : (p o : ℕ) (g : Got) (a b : List ℕ) (r : Ends) → Printed p o g a b r → r ≡ Bad → g ≡ no-form
+pub printed-bad : (p o : ℕ) (g : Got) (a b : List ℕ) (r : Option Spot) → Printed p o g a b r → r ≡ None → g ≡ no-form
 unfolding Printed
 printed-bad p o (got f x) a b r t e = let z = t.0 in absurd (clash cc)
 printed-bad p o no-form a b r t e = refl
 
-pub all_end : (p o : ℕ) (g : Gots) (a b : List ℕ) (r : Ends) (q j : ℕ) → PrintedAll p o g a b r → r ≡ End q j
+pub all_end : (p o : ℕ) (g : Gots) (a b : List ℕ) (r : Option Spot) (q j : ℕ) → PrintedAll p o g a b r → r ≡ spot q j
     → (fs : Forms) × (x : List ℕ) × (g ≡ gots fs x) × (q ≡ p + length (encode_all fs)) × (j ≡ o + length (spell_all fs)) × (b ≡ put a o (spell_all fs))
 unfolding PrintedAll
-all_end p o (gots fs x) a b r q j t e = (fs, x, refl, cc t.0, cc t.0, t.1)
+all_end p o (gots fs x) a b r q j t e = (fs, x, refl, row-is (sym e ∙ t.0), out-is (sym e ∙ t.0), t.1)
 all_end p o no-forms a b r q j t e = absurd (clash cc)
 
-pub all-bad : (p o : ℕ) (g : Gots) (a b : List ℕ) (r : Ends) → PrintedAll p o g a b r → r ≡ Bad → g ≡ no-forms
+pub all-bad : (p o : ℕ) (g : Gots) (a b : List ℕ) (r : Option Spot) → PrintedAll p o g a b r → r ≡ None → g ≡ no-forms
 unfolding PrintedAll
 all-bad p o (gots f x) a b r t e = let z = t.0 in absurd (clash cc)
 all-bad p o no-forms a b r t e = refl
 
-pub bad-printed : (p o : ℕ) (g : Got) (a b : List ℕ) → g ≡ no-form → Printed p o g a b Bad
+pub bad-printed : (p o : ℕ) (g : Got) (a b : List ℕ) → g ≡ no-form → Printed p o g a b None
 unfolding Printed
 bad-printed p o g a b e = rw e refl
 
-bad-printed_all : (p o : ℕ) (g : Gots) (a b : List ℕ) → g ≡ no-forms → PrintedAll p o g a b Bad
+bad-printed_all : (p o : ℕ) (g : Gots) (a b : List ℕ) → g ≡ no-forms → PrintedAll p o g a b None
 unfolding PrintedAll
 bad-printed_all p o g a b e = rw e refl
 
 -- a space and one form more in front, and taken away again
-add-printed : (p q o i j : ℕ) (f : Form) (g : Gots) (a a₁ a' b : List ℕ) (r : Ends) → Wrote o (32 ∷ []) a a₁ i → q ≡ p + length (encode f)
+add-printed : (p q o i j : ℕ) (f : Form) (g : Gots) (a a₁ a' b : List ℕ) (r : Option Spot) → Wrote o (32 ∷ []) a a₁ i → q ≡ p + length (encode f)
     → Wrote i (spell f) a₁ a' j → PrintedAll q j g a' b r → PrintedAll p o (add_form f g) a b r
 unfolding PrintedAll encode spell Wrote
 add-printed p q o i j f (gots fs x) a a₁ a' b r w e v t =
@@ -117,7 +127,7 @@ add-printed p q o i j f (gots fs x) a a₁ a' b r w e v t =
     (t.0 ∙ same_end _ _ _ _ (omega arith) k.0, k.1)
 add-printed p q o i j f no-forms a a₁ a' b r w e v t = t
 
-printed-add : (p o : ℕ) (f : Form) (g : Gots) (a b : List ℕ) (r : Ends) → PrintedAll p o (add_form f g) a b r
+printed-add : (p o : ℕ) (f : Form) (g : Gots) (a b : List ℕ) (r : Option Spot) → PrintedAll p o (add_form f g) a b r
     → PrintedAll (p + length (encode f)) (o + 1 + length (spell f)) g (put (put a o (32 ∷ [])) (o + 1) (spell f)) b r
 unfolding PrintedAll encode spell put
 printed-add p o f (gots fs x) a b r t =
@@ -127,11 +137,11 @@ printed-add p o f (gots fs x) a b r t =
 printed-add p o f no-forms a b r t = t
 
 module _ (d : ℕ) (row : List ℕ) where
-  abbrev All : List Sort → ℕ → ℕ → List ℕ → List ℕ → Ends → Type 0
+  abbrev All : List Sort → ℕ → ℕ → List ℕ → List ℕ → Option Spot → Type 0
   All ss p o a b r = PrintedAll p o (decode_all (λ s l. decode d s l) ss (drop p row)) a b r
 
   -- how far the output grows
-  pub printed-within : (s : Sort) (p o : ℕ) (a b : List ℕ) (r : Ends) (q j : ℕ) → Printed p o (decode d s (drop p row)) a b r → r ≡ End q j
+  pub printed-within : (s : Sort) (p o : ℕ) (a b : List ℕ) (r : Option Spot) (q j : ℕ) → Printed p o (decode d s (drop p row)) a b r → r ≡ spot q j
       → (p ≤ q) × (j + 1 + 13 * (length row - q) ≤ o + 13 * (length row - p))
   printed-within s p o a b r q j t e =
       let (f, x, g, l, m, w) = printed-end p o (decode d s (drop p row)) a b r q j t e in
@@ -140,7 +150,7 @@ module _ (d : ℕ) (row : List ℕ) where
       let h = spell-few f in
       (omega arith, omega arith)
 
-  pub all-within : (ss : List Sort) (p o : ℕ) (a b : List ℕ) (r : Ends) (q j : ℕ) → All ss p o a b r → r ≡ End q j
+  pub all-within : (ss : List Sort) (p o : ℕ) (a b : List ℕ) (r : Option Spot) (q j : ℕ) → All ss p o a b r → r ≡ spot q j
       → (p ≤ q) × (j + 13 * (length row - q) ≤ o + 13 * (length row - p))
   all-within ss p o a b r q j t e =
       let (fs, x, g, l, m, w) = all_end p o (decode_all (λ s l. decode d s l) ss (drop p row)) a b r q j t e in
@@ -150,44 +160,44 @@ module _ (d : ℕ) (row : List ℕ) where
       (omega arith, omega arith)
 
   -- the first of several
-  step : (s : Sort) (ss : List Sort) (p q o i j : ℕ) (a a₁ a' b : List ℕ) (r r' : Ends) → Wrote o (32 ∷ []) a a₁ i
-      → Printed p i (decode d s (drop p row)) a₁ a' r → r ≡ End q j → All ss q j a' b r' → All (s ∷ ss) p o a b r'
+  step : (s : Sort) (ss : List Sort) (p q o i j : ℕ) (a a₁ a' b : List ℕ) (r r' : Option Spot) → Wrote o (32 ∷ []) a a₁ i
+      → Printed p i (decode d s (drop p row)) a₁ a' r → r ≡ spot q j → All ss q j a' b r' → All (s ∷ ss) p o a b r'
   unfolding decode_all Wrote
   step s ss p q o i j a a₁ a' b r r' w t e h =
       let (f, x, g, l, m, k) = printed-end p i (decode d s (drop p row)) a₁ a' r q j t e in
       let y : x ≡ drop q row = decode-at d s row p f x g ∙ ap (λ n. drop n row) (sym l) in
       rw (g, y) (add-printed p q o i j f (decode_all (λ s l. decode d s l) ss (drop q row)) a a₁ a' b r' w l (m, k) h)
 
-  pub all_more : (s : Sort) (n p q o i j : ℕ) (a a₁ a' : List ℕ) (r : Ends) → 0 < n → Wrote o (32 ∷ []) a a₁ i → Printed p i (decode d s (drop p row)) a₁ a' r → r ≡ End q j
-      → (b : List ℕ) (r' : Ends) → All (replicate (n - 1) s) q j a' b r' → All (replicate n s) p o a b r'
+  pub all_more : (s : Sort) (n p q o i j : ℕ) (a a₁ a' : List ℕ) (r : Option Spot) → 0 < n → Wrote o (32 ∷ []) a a₁ i → Printed p i (decode d s (drop p row)) a₁ a' r → r ≡ spot q j
+      → (b : List ℕ) (r' : Option Spot) → All (replicate (n - 1) s) q j a' b r' → All (replicate n s) p o a b r'
   all_more s zero p q o i j a a₁ a' r h w t e b r' k = absurd (omega arith)
   all_more s (suc n) p q o i j a a₁ a' r h w t e b r' k = step s (replicate n s) p q o i j a a₁ a' b r r' w t e (rw sub-one at k)
 
-  pub all-stop : (s : Sort) (n p o i : ℕ) (a a₁ a' b : List ℕ) (r : Ends) → 0 < n → Printed p i (decode d s (drop p row)) a₁ a' r → r ≡ Bad → All (replicate n s) p o a b Bad
+  pub all-stop : (s : Sort) (n p o i : ℕ) (a a₁ a' b : List ℕ) (r : Option Spot) → 0 < n → Printed p i (decode d s (drop p row)) a₁ a' r → r ≡ None → All (replicate n s) p o a b None
   unfolding decode_all
   all-stop s zero p o i a a₁ a' b r h t e = absurd (omega arith)
   all-stop s (suc n) p o i a a₁ a' b r h t e = bad-printed_all p o _ a b (rw (printed-bad p i (decode d s (drop p row)) a₁ a' r t e) refl)
 
-  pub all_none : (s : Sort) (n p o : ℕ) (a : List ℕ) → n ≤ 0 → All (replicate n s) p o a a (End p o)
+  pub all_none : (s : Sort) (n p o : ℕ) (a : List ℕ) → n ≤ 0 → All (replicate n s) p o a a (spot p o)
   unfolding decode_all PrintedAll encode spell put
   all_none s zero p o a h = (same_end _ _ _ _ (omega arith) (omega arith), refl)
   all_none s (suc n) p o a h = absurd (omega arith)
 
   -- some, and then others
-  none-printed : (p q o j : ℕ) (x a a' : List ℕ) (r : Ends) → PrintedAll p o (gots none x) a a' r → r ≡ End q j → (p ≡ q) × (o ≡ j) × (a ≡ a')
+  none-printed : (p q o j : ℕ) (x a a' : List ℕ) (r : Option Spot) → PrintedAll p o (gots none x) a a' r → r ≡ spot q j → (p ≡ q) × (o ≡ j) × (a ≡ a')
   unfolding PrintedAll encode spell put
   none-printed p q o j x a a' r t e =
-      let z : End q j ≡ End (p + 0) (o + 0) = sym e ∙ t.0 in
-      let y : q ≡ p + 0 = cc in
-      let u : j ≡ o + 0 = cc in
+      let z : spot q j ≡ spot (p + 0) (o + 0) = sym e ∙ t.0 in
+      let y : q ≡ p + 0 = row-is z in
+      let u : j ≡ o + 0 = out-is z in
       (omega arith, omega arith, sym t.1)
 
-  both-none : (ss : List Sort) (p q o j : ℕ) (a a' b : List ℕ) (r : Ends) → p ≡ q → o ≡ j → a ≡ a' → All ss q j a' b r → All ss p o a b r
+  both-none : (ss : List Sort) (p q o j : ℕ) (a a' b : List ℕ) (r : Option Spot) → p ≡ q → o ≡ j → a ≡ a' → All ss q j a' b r → All ss p o a b r
   both-none ss p q o j a a' b r e f m h = rw (e, f, m) h
 
-  both-step : (ss ss' : List Sort) (s : Sort) (p q o j : ℕ) (a a' b : List ℕ) (r r' : Ends) (z : Got) → decode d s (drop p row) ≡ z
+  both-step : (ss ss' : List Sort) (s : Sort) (p q o j : ℕ) (a a' b : List ℕ) (r r' : Option Spot) (z : Got) → decode d s (drop p row) ≡ z
       → ((p' o' : ℕ) (a₀ : List ℕ) → All ss p' o' a₀ a' r → All (ss ++ ss') p' o' a₀ b r')
-      → PrintedAll p o (chain z (λ x. decode_all (λ s l. decode d s l) ss x)) a a' r → r ≡ End q j → PrintedAll p o (chain z (λ x. decode_all (λ s l. decode d s l) (ss ++ ss') x)) a b r'
+      → PrintedAll p o (chain z (λ x. decode_all (λ s l. decode d s l) ss x)) a a' r → r ≡ spot q j → PrintedAll p o (chain z (λ x. decode_all (λ s l. decode d s l) (ss ++ ss') x)) a b r'
   unfolding PrintedAll Wrote
   both-step ss ss' s p q o j a a' b r r' (got f x) k ih t e =
       let n = p + length (encode f) in
@@ -198,11 +208,11 @@ module _ (d : ℕ) (row : List ℕ) where
       (ih n (o + 1 + length (spell f)) (put a₁ (o + 1) (spell f)) (rw y at (printed-add p o f (decode_all (λ s l. decode d s l) ss x) a a' r t))))
   both-step ss ss' s p q o j a a' b r r' no-form k ih t e = absurd (clash cc)
 
-  pub both_go : (ss ss' : List Sort) (p q o j : ℕ) (a a' b : List ℕ) (r r' : Ends) → All ss p o a a' r → r ≡ End q j → All ss' q j a' b r' → All (ss ++ ss') p o a b r'
+  pub both_go : (ss ss' : List Sort) (p q o j : ℕ) (a a' b : List ℕ) (r r' : Option Spot) → All ss p o a a' r → r ≡ spot q j → All ss' q j a' b r' → All (ss ++ ss') p o a b r'
   unfolding decode_all
   both_go [] ss' p q o j a a' b r r' t e h = let (x, z, y) = none-printed p q o j (drop p row) a a' r t e in both-none ss' p q o j a a' b r' x z y h
   both_go (s ∷ ss) ss' p q o j a a' b r r' t e h =
       both-step ss ss' s p q o j a a' b r r' (decode d s (drop p row)) refl (λ p' o' a₀ t'. both_go ss ss' p' q o' j a₀ a' b r r' t' e h) t e
 
-  pub both-stop : (ss ss' : List Sort) (p o : ℕ) (a a' b : List ℕ) (r : Ends) → All ss p o a a' r → r ≡ Bad → All (ss ++ ss') p o a b Bad
+  pub both-stop : (ss ss' : List Sort) (p o : ℕ) (a a' b : List ℕ) (r : Option Spot) → All ss p o a a' r → r ≡ None → All (ss ++ ss') p o a b None
   both-stop ss ss' p o a a' b r t e = bad-printed_all p o _ a b (no_both d ss ss' (drop p row) (all-bad p o (decode_all (λ s l. decode d s l) ss (drop p row)) a a' r t e))

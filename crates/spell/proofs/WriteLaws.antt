@@ -5,9 +5,9 @@ use Prim.Native.Nat.{ℕ, zero, suc, ◌+◌, ◌-◌, ◌*◌, ◌≤◌, ◌<�
 use native.Mathlib.Numerals.{sub-one}
 use native.Mathlib.Omega.{arith}
 use lib.Dec.{ltb}
-use Rattle.form.proofs.HeadLaws.{here}
+use Rattle.form.proofs.HeadLaws.{gone, here}
 use borrow.Author.Tests.{lt-ltb, le-ltb}
-use lib.ListN.{length, get_or, take, drop, set, length-append, length-set}
+use lib.ListN.{length, get_or, drop, set, length-append, length-set}
 use lib.Seq.{set_out}
 use mathlib.Core.Bool.{Bool, true, false}
 use Rattle.tree.specs.Form.{pick}
@@ -103,17 +103,15 @@ module _ (o n : ℕ) (a b : List ℕ) where
       (more-digits o p 9 (n / 10) q a b c (λ z. omega arith) (omega arith) (last-digit o 8 (n / 10 / 10) p a b (λ z. omega arith) (omega arith) w) v) u
 
 -- words, each after a space
-pub spaced-more : (row : List ℕ) (end p q k j : ℕ) (a x y : List ℕ) → p < end → end ≤ length row → Wrote q (32 ∷ []) a x k → Wrote k (decimal (get_or row p 0)) x y j
-    → (b : List ℕ) (r : ℕ) → Wrote j (spaced (take (end - (p + 1)) (drop (p + 1) row))) y b r → Wrote q (spaced (take (end - p) (drop p row))) a b r
+pub spaced-more : (ws : List ℕ) (i q k j : ℕ) (a x y : List ℕ) → i < length ws → Wrote q (32 ∷ []) a x k → Wrote k (decimal (get_or ws i 0)) x y j
+    → (b : List ℕ) (r : ℕ) → Wrote j (spaced (drop (i + 1) ws)) y b r → Wrote q (spaced (drop i ws)) a b r
 unfolding spaced
-spaced-more row end p q k j a x y h l v w b r z =
-    let i : p < length row = omega arith in
-    let e : end - p ≡ suc (end - (p + 1)) = omega arith in
-    rw (here row p i, e) (wrote-both q k r (32 ∷ []) _ a x b v (wrote-both k j r _ _ x y b w z))
+spaced-more ws i q k j a x y h v w b r z =
+    rw (here ws i h) (wrote-both q k r (32 ∷ []) _ a x b v (wrote-both k j r _ _ x y b w z))
 
-pub spaced-none : (row : List ℕ) (end p q : ℕ) (a : List ℕ) → end ≤ p → Wrote q (spaced (take (end - p) (drop p row))) a a q
+pub spaced-none : (ws : List ℕ) (i q : ℕ) (a : List ℕ) → length ws ≤ i → Wrote q (spaced (drop i ws)) a a q
 unfolding spaced
-spaced-none row end p q a h = let e : end - p ≡ 0 = omega arith in rw e (wrote_none q a)
+spaced-none ws i q a h = rw (gone ws i h) (wrote_none q a)
 
 pub spaced-few : (ws : List ℕ) → length (spaced ws) ≤ 11 * length ws
 unfolding spaced

@@ -8,6 +8,7 @@ use Rattle.form.specs.Answer.{Outcome, answer, with_form, needs}
 use Rattle.form.specs.declared.answer.Kind.TheVariants.{Either}
 use Rattle.form.specs.declared.answer.ListKind.{ListKind}
 use Rattle.form.specs.declared.answer.ListKind.TheVariants.{Pairs, Places}
+use Rattle.form.specs.declared.answer.Refusal.TheVariants.{OutputTooShort}
 
 -- the digits of n, at most so many: those of its tenth, then the last
 unfoldable pub digits : ℕ → ℕ → List ℕ
@@ -78,10 +79,10 @@ spell_no k p = 91 ∷ 110 ∷ 111 ∷ 32 ∷ (decimal k ++ ending k p)
 
 -- printing a row that is one form: its spelling, if it fits
 unfoldable pub print_outcome : List ℕ → ℕ → Outcome
-print_outcome row room = with_form Either row (λ s f. needs 14 (leb (length (spell f)) room) (answer (spell f)))
+print_outcome row room = with_form Either row (λ s f. needs OutputTooShort (leb (length (spell f)) room) (answer (spell f)))
 
 unfoldable pub print_no : ℕ → ℕ → ℕ → Outcome
-print_no k p room = needs 14 (leb (length (spell_no k p)) room) (answer (spell_no k p))
+print_no k p room = needs OutputTooShort (leb (length (spell_no k p)) room) (answer (spell_no k p))
 
 -- the late 8 of a form: whether a group's bytes are the spelling of the form that its row is
 unfoldable pub same_bytes : List ℕ → List ℕ → Bool

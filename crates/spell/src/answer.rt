@@ -1,41 +1,29 @@
 // Printing the answer to a line: a form, or a refusal.
 ghost use Rattle.std.specs.Prelude.{◌≡◌, ◌+◌, ◌*◌, ◌^◌, ◌≤◌, ◌<◌, length};
 ghost use Rattle.form.specs.Answer.{told, written};
-ghost use Rattle.spell.specs.Put.{put};
 ghost use Rattle.spell.specs.Spell.{print_outcome, ending, spell_no, print_no};
 ghost use Rattle.spell.specs.Internal.Writes.{Wrote};
 
 use crate::decimal::{put_byte, put_decimal};
-use crate::whole::{Spelled, print_row};
+use crate::whole::print_row;
 use broken::position::broken_at;
-use form::answer::{Answer, Kind};
+use form::answer::{Answer, Kind, Refusal};
 
-// The bytes, stored at the front of the output.
-fn copy(bytes: &[u8], out: &mut [u8])
-    requires { length bytes.now ≤ length out.old }
-    ensures { out.new ≡ put out.old 0 bytes.now }
-{
-    let mut i: usize = 0;
-    while i < bytes.len() {
-        out[i] = bytes[i];
-        i += 1;
-    }
-}
-
-// The spelling is printed to a buffer first, as a refusal leaves the output as it was.
-fn print_form_in(row: &[u32], bytes: &mut [u8], out: &mut [u8]) -> Answer
-    requires { (length row.now ≤ 8192) × (13 * length row.now ≤ length bytes.old) }
+// The spelling is printed to a buffer of so many bytes first, as a refusal leaves the output as it was.
+fn print_through<const BYTES: usize>(row: &[u32], out: &mut [u8]) -> Answer
+    requires { (length row.now ≤ 8192) × (13 * length row.now ≤ BYTES) × (BYTES ≤ 106496) }
     ensures value { result ≡ told (print_outcome row.now (length out.old)) }
     ensures out_after { out.new ≡ written (print_outcome row.now (length out.old)) out.old }
 {
-    let Spelled::Bytes(n) = print_row(row, bytes) else {
-        return Answer::No(2, broken_at(row, Kind::Either));
+    let mut bytes = [0u8; BYTES];
+    let Some(n) = print_row(row, &mut bytes) else {
+        return Err(Refusal::Broken(broken_at(row, Kind::Either)));
     };
     if out.len() < n {
-        return Answer::No(14, 0);
+        return Err(Refusal::OutputTooShort);
     }
-    copy(&bytes[..n], out);
-    Answer::Done(n)
+    out[..n].copy_from_slice(&bytes[..n]);
+    Ok(n)
 }
 
 // The spelling of the form that the row is.
@@ -43,23 +31,13 @@ pub fn print_form(row: &[u32], out: &mut [u8]) -> Answer
     ensures value { result ≡ told (print_outcome row.now (length out.old)) }
     ensures out_after { out.new ≡ written (print_outcome row.now (length out.old)) out.old }
 {
-    if row.len() <= 64 {
-        let mut bytes = [0u8; 832];
-        return print_form_in(row, &mut bytes, out);
+    match row.len() {
+        0..=64 => print_through::<832>(row, out),
+        65..=512 => print_through::<6656>(row, out),
+        513..=2048 => print_through::<26624>(row, out),
+        2049..=8192 => print_through::<106496>(row, out),
+        _ => Err(Refusal::TooLong),
     }
-    if row.len() <= 512 {
-        let mut bytes = [0u8; 6656];
-        return print_form_in(row, &mut bytes, out);
-    }
-    if row.len() <= 2048 {
-        let mut bytes = [0u8; 26624];
-        return print_form_in(row, &mut bytes, out);
-    }
-    if 8192 < row.len() {
-        return Answer::No(1, 0);
-    }
-    let mut bytes = [0u8; 106496];
-    print_form_in(row, &mut bytes, out)
 }
 
 // The position of a refusal by 2, and the bracket.
@@ -95,8 +73,8 @@ pub fn print_no(k: u32, p: u32, out: &mut [u8]) -> Answer
     let mut none = [0u8; 1];
     let n = put_no(&mut none, k, p);
     if out.len() < n {
-        return Answer::No(14, 0);
+        return Err(Refusal::OutputTooShort);
     }
     put_no(out, k, p);
-    Answer::Done(n)
+    Ok(n)
 }

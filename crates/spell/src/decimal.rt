@@ -1,5 +1,5 @@
 // Bytes and decimal words, written at a position of the output. Nothing is written past its end; positions are counted on.
-ghost use Rattle.std.specs.Prelude.{[], ◌∷◌, ◌+◌, ◌-◌, ◌*◌, ◌^◌, ◌<◌, ◌≤◌, length, take, drop};
+ghost use Rattle.std.specs.Prelude.{[], ◌∷◌, ◌+◌, ◌*◌, ◌^◌, ◌<◌, length};
 ghost use Rattle.spell.specs.Spell.{digits, decimal, spaced};
 ghost use Rattle.spell.specs.Internal.Writes.{Wrote};
 
@@ -51,17 +51,15 @@ pub(crate) fn put_decimal(out: &mut [u8], o: usize, n: u32) -> usize
     put_digits(out, o, n, 10)
 }
 
-// The words of the row from `at` to `end`, each after a space.
-pub(crate) fn put_spaced(row: &[u32], out: &mut [u8], at: usize, end: usize, o: usize) -> usize
-    requires { (at ≤ end) × (end ≤ length row.now) × (o + 11 * (end - at) < 2 ^ 64) }
-    ensures { Wrote o (spaced (take (end - at) (drop at row.now))) out.old out.new result }
+// Words, each after a space.
+pub(crate) fn put_spaced(words: &[u32], out: &mut [u8], o: usize) -> usize
+    requires { o + 11 * length words.now < 2 ^ 64 }
+    ensures { Wrote o (spaced words.now) out.old out.new result }
 {
-    let mut p = at;
     let mut q = o;
-    while p < end {
+    for word in words {
         q = put_byte(out, q, b' ');
-        q = put_decimal(out, q, row[p]);
-        p += 1;
+        q = put_decimal(out, q, *word);
     }
     q
 }

@@ -1,118 +1,76 @@
-// Whether a group's bytes are the spelling of the form that its row is. The spelling is printed to a buffer at least as long as the bytes.
-ghost use Rattle.std.specs.Prelude.{◌≡◌, ◌≤◌, length, take};
-ghost use Rattle.spell.specs.Spell.{same_bytes, fits_form, fits_list, fits_names};
+// Whether a group's bytes are the spelling of the form, the list or the names that its row is.
+ghost use Rattle.std.specs.Prelude.{◌≡◌, ◌≤◌, length};
+ghost use Rattle.spell.specs.Spell.{fits_form, fits_list, fits_names};
+ghost use Rattle.spell.specs.Internal.Writes.{PrintedAs, fits};
 
 use crate::entries::{print_list, print_names};
-use crate::whole::{Spelled, print_row};
-use form::answer::ListKind;
+use crate::whole::print_row;
+use form::answer::{Limit, ListKind};
 
-// Whether the bytes begin with the text.
-fn same(text: &[u8], bytes: &[u8]) -> bool
-    requires { length text.now ≤ length bytes.now }
-    ensures { result ≡ same_bytes text.now (take (length text.now) bytes.now) }
-{
-    let mut i: usize = 0;
-    while i < text.len() {
-        if text[i] != bytes[i] {
-            return false;
-        }
-        i += 1;
-    }
-    true
+// What a row is printed as.
+#[derive(Clone, Copy)]
+enum Reading {
+    OneForm,
+    Entries(ListKind),
+    Names,
 }
 
-fn fits_form_in(text: &[u8], row: &[u32], bytes: &mut [u8]) -> bool
-    requires { (length text.now ≤ 65535) × (length text.now ≤ length bytes.old) }
-    ensures { result ≡ fits_form text.now row.now }
+fn print_as(reading: Reading, row: &[u32], bytes: &mut [u8]) -> Option<usize>
+    requires { length row.now ≤ 8192 }
+    ensures { PrintedAs reading row.now bytes.old bytes.new result }
 {
-    if 8192 < row.len() {
+    match reading {
+        Reading::OneForm => print_row(row, bytes),
+        Reading::Entries(kind) => print_list(row, bytes, kind),
+        Reading::Names => Some(print_names(row, bytes)),
+    }
+}
+
+// The spelling is printed to a buffer of so many bytes, at least as many as the text has.
+fn fits_within<const BYTES: usize>(text: &[u8], row: &[u32], reading: Reading) -> bool
+    requires { (length text.now ≤ BYTES) × (BYTES ≤ 65535) }
+    ensures { result ≡ fits reading text.now row.now }
+{
+    if Limit::WORDS < row.len() {
         return false;
     }
-    let Spelled::Bytes(n) = print_row(row, bytes) else {
+    let mut bytes = [0u8; BYTES];
+    let Some(n) = print_as(reading, row, &mut bytes) else {
         return false;
     };
-    if n != text.len() {
-        return false;
-    }
-    same(text, bytes)
+    n == text.len() && text == &bytes[..n]
 }
 
+// Whether the text is the spelling, which is printed to a buffer that is not much longer than the text.
+fn is_spelling(text: &[u8], row: &[u32], reading: Reading) -> bool
+    ensures { result ≡ fits reading text.now row.now }
+{
+    match text.len() {
+        0..=256 => fits_within::<256>(text, row, reading),
+        257..=2048 => fits_within::<2048>(text, row, reading),
+        2049..=12288 => fits_within::<12288>(text, row, reading),
+        12289..=65535 => fits_within::<65535>(text, row, reading),
+        _ => false,
+    }
+}
+
+// Whether the text is the spelling of the one form that the row is.
 pub fn fits_form(text: &[u8], row: &[u32]) -> bool
     ensures { result ≡ fits_form text.now row.now }
 {
-    if text.len() <= 256 {
-        let mut bytes = [0u8; 256];
-        return fits_form_in(text, row, &mut bytes);
-    }
-    if text.len() <= 2048 {
-        let mut bytes = [0u8; 2048];
-        return fits_form_in(text, row, &mut bytes);
-    }
-    if text.len() <= 12288 {
-        let mut bytes = [0u8; 12288];
-        return fits_form_in(text, row, &mut bytes);
-    }
-    if 65535 < text.len() {
-        return false;
-    }
-    let mut bytes = [0u8; 65535];
-    fits_form_in(text, row, &mut bytes)
+    is_spelling(text, row, Reading::OneForm)
 }
 
-fn fits_list_in(text: &[u8], row: &[u32], kind: ListKind, bytes: &mut [u8]) -> bool
-    requires { (length text.now ≤ 65535) × (length text.now ≤ length bytes.old) }
-    ensures { result ≡ fits_list kind text.now row.now }
-{
-    if 8192 < row.len() {
-        return false;
-    }
-    let Spelled::Bytes(n) = print_list(row, bytes, kind) else {
-        return false;
-    };
-    if n != text.len() {
-        return false;
-    }
-    same(text, bytes)
-}
-
+// Whether the text is the spelling of the list that the row is.
 pub fn fits_list(text: &[u8], row: &[u32], kind: ListKind) -> bool
     ensures { result ≡ fits_list kind text.now row.now }
 {
-    if text.len() <= 1024 {
-        let mut bytes = [0u8; 1024];
-        return fits_list_in(text, row, kind, &mut bytes);
-    }
-    if 65535 < text.len() {
-        return false;
-    }
-    let mut bytes = [0u8; 65535];
-    fits_list_in(text, row, kind, &mut bytes)
+    is_spelling(text, row, Reading::Entries(kind))
 }
 
-fn fits_names_in(text: &[u8], row: &[u32], bytes: &mut [u8]) -> bool
-    requires { (length text.now ≤ 65535) × (length text.now ≤ length bytes.old) }
-    ensures { result ≡ fits_names text.now row.now }
-{
-    if 8192 < row.len() {
-        return false;
-    }
-    let n = print_names(row, bytes);
-    if n != text.len() {
-        return false;
-    }
-    same(text, bytes)
-}
-
+// Whether the text is the spelling of the row as a list of names.
 pub fn fits_names(text: &[u8], row: &[u32]) -> bool
     ensures { result ≡ fits_names text.now row.now }
 {
-    if text.len() <= 256 {
-        let mut bytes = [0u8; 256];
-        return fits_names_in(text, row, &mut bytes);
-    }
-    if 65535 < text.len() {
-        return false;
-    }
-    let mut bytes = [0u8; 65535];
-    fits_names_in(text, row, &mut bytes)
+    is_spelling(text, row, Reading::Names)
 }

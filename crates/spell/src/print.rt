@@ -1,243 +1,211 @@
 // The printers of expressions and of predicates, which call one another over the word row and write its spelling.
-ghost use Rattle.std.specs.Prelude.{[], ◌∷◌, ◌++◌, ◌+◌, ◌-◌, ◌*◌, ◌^◌, ◌<◌, ◌≤◌, length, get_or, take, drop, replicate};
-ghost use Rattle.tree.specs.Tag.{expr, pred, sorts};
-ghost use Rattle.form.specs.Decode.{decode, decode_all, decl_at, decls};
+ghost use Rattle.std.specs.Prelude.{◌≡◌, [], ◌∷◌, ◌++◌, ◌+◌, ◌-◌, ◌*◌, ◌^◌, ◌<◌, ◌≤◌, length, get_or, take, drop, replicate};
+ghost use Rattle.tree.specs.Form.{pick};
+ghost use Rattle.tree.specs.Tag.{expr, pred, own, sorts};
+ghost use Rattle.form.specs.Decode.{read, decode, decode_all, decl_at, decls};
+ghost use Rattle.form.specs.Internal.Heads.{head_at};
 ghost use Rattle.spell.specs.Spell.{decimal, spaced, bracket};
 ghost use Rattle.spell.specs.Internal.Writes.{Wrote, Printed, PrintedAll, PrintedDecl, PrintedDecls, PrintedNoted};
 
 use crate::decimal::{put_byte, put_decimal, put_spaced};
 use form::answer::Limit;
-use form::head::{Head, Word, asked, expr_head, is_leaf, pred_head};
+use form::head::{Head, asked, expr_head, is_leaf, pred_head};
 
-// Where a part ends, in the row and in the output, or that it is no such part.
+// A place of the row, and the place of the output at which what stands there is written.
 #[derive(Clone, Copy)]
-pub enum Ends {
-    End(usize, usize),
-    Bad,
+pub struct Spot {
+    pub row: usize,
+    pub out: usize,
 }
 
-// The bracket, the tag at `at` and the words up to `end`.
-fn put_head(row: &[u32], out: &mut [u8], at: usize, end: usize, o: usize) -> usize
-    requires { (at < end) × (end ≤ length row.now) × (o + 11 * (end - at) < 2 ^ 64) }
-    ensures { Wrote o (91 ∷ (decimal (get_or row.now at 0) ++ spaced (take (end - (at + 1)) (drop (at + 1) row.now)))) out.old out.new result }
+// The bracket, the tag at the spot and the words up to `end`.
+fn put_head(row: &[u32], out: &mut [u8], at: Spot, end: usize) -> usize
+    requires { (at.row < end) × (end ≤ length row.now) × (at.out + 11 * (end - at.row) < 2 ^ 64) }
+    ensures { Wrote at.out (91 ∷ (decimal (get_or row.now at.row 0) ++ spaced (take (end - (at.row + 1)) (drop (at.row + 1) row.now)))) out.old out.new result }
 {
-    let p = put_byte(out, o, b'[');
-    let q = put_decimal(out, p, row[at]);
-    put_spaced(row, out, at + 1, end, q)
+    let p = put_byte(out, at.out, b'[');
+    let q = put_decimal(out, p, row[at.row]);
+    put_spaced(&row[at.row + 1..end], out, q)
 }
 
-// An expression at `at`, written at `o`.
-#[cycle(print_child_print_decl_print_decls_print_expr_print_exprs_print_kids_print_noted_print_pred_print_preds)]
-pub(crate) fn print_expr(row: &[u32], out: &mut [u8], at: usize, depth: u32, o: usize) -> Ends
-    requires { o + 13 * (length row.now - at) < 2 ^ 64 }
-    ensures { Printed at o (decode depth expr (drop at row.now)) out.old out.new result }
+// What stands after the tag of an expression, or of a predicate.
+fn node_head(row: &[u32], at: usize, tag: u32, expression: bool) -> Option<Head>
+    ensures { result ≡ head_at at (read (own (pick expression expr pred) tag) (drop at row.now)) }
 {
-    if depth == 0 {
-        return Ends::Bad;
+    if expression {
+        return expr_head(row, at, tag);
     }
-    if row.len() <= at {
-        return Ends::Bad;
-    }
-    let tag = row[at];
-    let head = expr_head(row, at + 1, tag);
-    match head {
-        Head::Kids(p, preds, exprs, binds) => {
-            let i = put_head(row, out, at, p, o);
-            let Ends::End(q, j) = print_kids(row, out, p, preds, exprs, depth - 1, i) else {
-                return Ends::Bad;
-            };
-            Ends::End(q, put_byte(out, j, b']'))
-        }
-        Head::Noted(p, preds, exprs, binds) => {
-            let i = put_head(row, out, at, p, o);
-            print_noted(row, out, p, preds, exprs, binds, depth - 1, i)
-        }
-        Head::None => Ends::Bad,
-    }
+    pred_head(row, at, tag)
 }
 
-// A predicate at `at`, written at `o`.
-#[cycle(print_child_print_decl_print_decls_print_expr_print_exprs_print_kids_print_noted_print_pred_print_preds)]
-pub(crate) fn print_pred(row: &[u32], out: &mut [u8], at: usize, depth: u32, o: usize) -> Ends
-    requires { o + 13 * (length row.now - at) < 2 ^ 64 }
-    ensures { Printed at o (decode depth pred (drop at row.now)) out.old out.new result }
+// An expression, or a predicate: where it ends.
+#[cycle(printers)]
+pub(crate) fn print_node(
+    row: &[u32],
+    out: &mut [u8],
+    at: Spot,
+    expression: bool,
+    depth: u32,
+) -> Option<Spot>
+    requires { at.out + 13 * (length row.now - at.row) < 2 ^ 64 }
+    ensures { Printed at.row at.out (decode depth (pick expression expr pred) (drop at.row row.now)) out.old out.new result }
 {
     if depth == 0 {
-        return Ends::Bad;
+        return None;
     }
-    if row.len() <= at {
-        return Ends::Bad;
+    if row.len() <= at.row {
+        return None;
     }
-    let tag = row[at];
-    let head = pred_head(row, at + 1, tag);
+    let head = node_head(row, at.row + 1, row[at.row], expression)?;
     match head {
-        Head::Kids(p, preds, exprs, binds) => {
-            let i = put_head(row, out, at, p, o);
-            let Ends::End(q, j) = print_kids(row, out, p, preds, exprs, depth - 1, i) else {
-                return Ends::Bad;
-            };
-            Ends::End(q, put_byte(out, j, b']'))
+        Head::Kids(p, preds, exprs, _) => {
+            let i = put_head(row, out, at, p);
+            let kids = print_kids(row, out, Spot { row: p, out: i }, preds, exprs, depth - 1)?;
+            Some(Spot {
+                row: kids.row,
+                out: put_byte(out, kids.out, b']'),
+            })
         }
         Head::Noted(p, preds, exprs, binds) => {
-            let i = put_head(row, out, at, p, o);
-            print_noted(row, out, p, preds, exprs, binds, depth - 1, i)
+            let i = put_head(row, out, at, p);
+            print_noted(
+                row,
+                out,
+                Spot { row: p, out: i },
+                preds,
+                exprs,
+                binds,
+                depth - 1,
+            )
         }
-        Head::None => Ends::Bad,
     }
 }
 
-// A declaration with its flag at `at`, after a space: a name and 0, or a name, 1 and an annotation.
-#[cycle(print_child_print_decl_print_decls_print_expr_print_exprs_print_kids_print_noted_print_pred_print_preds)]
-fn print_decl(row: &[u32], out: &mut [u8], at: usize, depth: u32, o: usize) -> Ends
-    requires { o + 1 + 13 * (length row.now - at) < 2 ^ 64 }
-    ensures { PrintedDecl at o (decl_at (λ s l. decode depth s l) (drop at row.now)) out.old out.new result }
+// A declaration with its flag, after a space: a name and 0, or a name, 1 and an annotation.
+#[cycle(printers)]
+fn print_decl(row: &[u32], out: &mut [u8], at: Spot, depth: u32) -> Option<Spot>
+    requires { at.out + 1 + 13 * (length row.now - at.row) < 2 ^ 64 }
+    ensures { PrintedDecl at.row at.out (decl_at (λ s l. decode depth s l) (drop at.row row.now)) out.old out.new result }
 {
-    let Word::Is(w) = asked(row, at, 0, Limit::NAME) else {
-        return Ends::Bad;
-    };
-    let Word::Is(flag) = asked(row, at + 1, 0, 1) else {
-        return Ends::Bad;
-    };
-    let i = put_spaced(row, out, at, at + 2, o);
+    asked(row, at.row, 0, Limit::NAME)?;
+    let flag = asked(row, at.row + 1, 0, 1)?;
+    let end = at.row + 2;
+    let i = put_spaced(&row[at.row..end], out, at.out);
     if flag == 0 {
-        return Ends::End(at + 2, i);
+        return Some(Spot { row: end, out: i });
     }
     let k = put_byte(out, i, b' ');
-    print_child(row, out, at + 2, depth, k)
+    print_child(row, out, Spot { row: end, out: k }, true, depth)
 }
 
 // n declarations with flags.
-#[cycle(print_child_print_decl_print_decls_print_expr_print_exprs_print_kids_print_noted_print_pred_print_preds)]
-fn print_decls(row: &[u32], out: &mut [u8], at: usize, n: u32, depth: u32, o: usize) -> Ends
-    requires { o + 1 + 13 * (length row.now - at) < 2 ^ 64 }
-    ensures { PrintedDecls at o (decls (λ s l. decode depth s l) n (drop at row.now)) out.old out.new result }
+#[cycle(printers)]
+fn print_decls(row: &[u32], out: &mut [u8], at: Spot, n: u32, depth: u32) -> Option<Spot>
+    requires { at.out + 1 + 13 * (length row.now - at.row) < 2 ^ 64 }
+    ensures { PrintedDecls at.row at.out (decls (λ s l. decode depth s l) n (drop at.row row.now)) out.old out.new result }
 {
-    let mut p = at;
-    let mut i = o;
-    let mut left = n;
-    while 0 < left {
-        let Ends::End(q, j) = print_decl(row, out, p, depth, i) else {
-            return Ends::Bad;
-        };
-        p = q;
-        i = j;
-        left -= 1;
+    let mut spot = at;
+    for _ in 0..n {
+        spot = print_decl(row, out, spot, depth)?;
     }
-    Ends::End(p, i)
+    Some(spot)
 }
 
 // Declarations with flags, one of which at least has an annotation, the children under them, and the bracket.
-#[cycle(print_child_print_decl_print_decls_print_expr_print_exprs_print_kids_print_noted_print_pred_print_preds)]
+#[cycle(printers)]
 fn print_noted(
     row: &[u32],
     out: &mut [u8],
-    at: usize,
+    at: Spot,
     preds: u32,
     exprs: u32,
     binds: u32,
     depth: u32,
-    o: usize,
-) -> Ends
-    requires { o + 1 + 13 * (length row.now - at) < 2 ^ 64 }
-    ensures { PrintedNoted at o (decls (λ s l. decode depth s l) binds (drop at row.now)) (λ l. decode_all (λ s l. decode depth s l) (sorts preds exprs) l) out.old out.new result }
+) -> Option<Spot>
+    requires { at.out + 1 + 13 * (length row.now - at.row) < 2 ^ 64 }
+    ensures { PrintedNoted at.row at.out (decls (λ s l. decode depth s l) binds (drop at.row row.now)) (λ l. decode_all (λ s l. decode depth s l) (sorts preds exprs) l) out.old out.new result }
 {
-    let Ends::End(p, i) = print_decls(row, out, at, binds, depth, o) else {
-        return Ends::Bad;
-    };
-    if p - at == 2 * (binds as usize) {
-        return Ends::Bad;
+    let declared = print_decls(row, out, at, binds, depth)?;
+    if declared.row - at.row == 2 * (binds as usize) {
+        return None;
     }
-    let Ends::End(s, k) = print_preds(row, out, p, preds, depth, i) else {
-        return Ends::Bad;
-    };
-    let Ends::End(q, j) = print_exprs(row, out, s, exprs, depth, k) else {
-        return Ends::Bad;
-    };
-    Ends::End(q, put_byte(out, j, b']'))
+    let kids = print_kids(row, out, declared, preds, exprs, depth)?;
+    Some(Spot {
+        row: kids.row,
+        out: put_byte(out, kids.out, b']'),
+    })
 }
 
 // So many predicates, then so many expressions, each after a space.
-#[cycle(print_child_print_decl_print_decls_print_expr_print_exprs_print_kids_print_noted_print_pred_print_preds)]
+#[cycle(printers)]
 fn print_kids(
     row: &[u32],
     out: &mut [u8],
-    at: usize,
+    at: Spot,
     preds: u32,
     exprs: u32,
     depth: u32,
-    o: usize,
-) -> Ends
-    requires { o + 1 + 13 * (length row.now - at) < 2 ^ 64 }
-    ensures { PrintedAll at o (decode_all (λ s l. decode depth s l) (sorts preds exprs) (drop at row.now)) out.old out.new result }
+) -> Option<Spot>
+    requires { at.out + 1 + 13 * (length row.now - at.row) < 2 ^ 64 }
+    ensures { PrintedAll at.row at.out (decode_all (λ s l. decode depth s l) (sorts preds exprs) (drop at.row row.now)) out.old out.new result }
 {
-    let Ends::End(p, i) = print_preds(row, out, at, preds, depth, o) else {
-        return Ends::Bad;
-    };
-    print_exprs(row, out, p, exprs, depth, i)
+    let spot = print_nodes(row, out, at, preds, false, depth)?;
+    print_nodes(row, out, spot, exprs, true, depth)
 }
 
-// A name or an index at `at`, written at `o`.
-fn put_leaf(row: &[u32], out: &mut [u8], at: usize, o: usize) -> usize
-    requires { (at + 1 < length row.now) × (o + 26 < 2 ^ 64) }
-    ensures { Wrote o (bracket (get_or row.now at 0) (get_or row.now (at + 1) 0 ∷ []) []) out.old out.new result }
+// A name or an index.
+fn put_leaf(row: &[u32], out: &mut [u8], at: Spot) -> usize
+    requires { (at.row + 1 < length row.now) × (at.out + 26 < 2 ^ 64) }
+    ensures { Wrote at.out (bracket (get_or row.now at.row 0) (get_or row.now (at.row + 1) 0 ∷ []) []) out.old out.new result }
 {
-    let p = put_byte(out, o, b'[');
-    let q = put_decimal(out, p, row[at]);
+    let p = put_byte(out, at.out, b'[');
+    let q = put_decimal(out, p, row[at.row]);
     let i = put_byte(out, q, b' ');
-    let j = put_decimal(out, i, row[at + 1]);
+    let j = put_decimal(out, i, row[at.row + 1]);
     put_byte(out, j, b']')
 }
 
-// An expression at `at`, written at `o`: a name or an index, the common case, without a call.
-#[cycle(print_child_print_decl_print_decls_print_expr_print_exprs_print_kids_print_noted_print_pred_print_preds)]
-fn print_child(row: &[u32], out: &mut [u8], at: usize, depth: u32, o: usize) -> Ends
-    requires { o + 13 * (length row.now - at) < 2 ^ 64 }
-    ensures { Printed at o (decode depth expr (drop at row.now)) out.old out.new result }
+// An expression, or a predicate: a name or an index, the common case, without a call.
+#[cycle(printers)]
+fn print_child(row: &[u32], out: &mut [u8], at: Spot, expression: bool, depth: u32) -> Option<Spot>
+    requires { at.out + 13 * (length row.now - at.row) < 2 ^ 64 }
+    ensures { Printed at.row at.out (decode depth (pick expression expr pred) (drop at.row row.now)) out.old out.new result }
 {
-    if is_leaf(row, at, depth) {
-        return Ends::End(at + 2, put_leaf(row, out, at, o));
+    if expression && is_leaf(row, at.row, depth) {
+        return Some(Spot {
+            row: at.row + 2,
+            out: put_leaf(row, out, at),
+        });
     }
-    print_expr(row, out, at, depth, o)
+    print_node(row, out, at, expression, depth)
 }
 
-// n expressions, each after a space.
-#[cycle(print_child_print_decl_print_decls_print_expr_print_exprs_print_kids_print_noted_print_pred_print_preds)]
-fn print_exprs(row: &[u32], out: &mut [u8], at: usize, n: u32, depth: u32, o: usize) -> Ends
-    requires { o + 1 + 13 * (length row.now - at) < 2 ^ 64 }
-    ensures { PrintedAll at o (decode_all (λ s l. decode depth s l) (replicate n expr) (drop at row.now)) out.old out.new result }
+// n expressions, or n predicates, each after a space.
+#[cycle(printers)]
+fn print_nodes(
+    row: &[u32],
+    out: &mut [u8],
+    at: Spot,
+    n: u32,
+    expression: bool,
+    depth: u32,
+) -> Option<Spot>
+    requires { at.out + 1 + 13 * (length row.now - at.row) < 2 ^ 64 }
+    ensures { PrintedAll at.row at.out (decode_all (λ s l. decode depth s l) (replicate n (pick expression expr pred)) (drop at.row row.now)) out.old out.new result }
 {
-    let mut p = at;
-    let mut i = o;
-    let mut left = n;
-    while 0 < left {
-        let k = put_byte(out, i, b' ');
-        let Ends::End(q, j) = print_child(row, out, p, depth, k) else {
-            return Ends::Bad;
-        };
-        p = q;
-        i = j;
-        left -= 1;
+    let mut spot = at;
+    for _ in 0..n {
+        let k = put_byte(out, spot.out, b' ');
+        spot = print_child(
+            row,
+            out,
+            Spot {
+                row: spot.row,
+                out: k,
+            },
+            expression,
+            depth,
+        )?;
     }
-    Ends::End(p, i)
-}
-
-// n predicates, each after a space.
-#[cycle(print_child_print_decl_print_decls_print_expr_print_exprs_print_kids_print_noted_print_pred_print_preds)]
-fn print_preds(row: &[u32], out: &mut [u8], at: usize, n: u32, depth: u32, o: usize) -> Ends
-    requires { o + 1 + 13 * (length row.now - at) < 2 ^ 64 }
-    ensures { PrintedAll at o (decode_all (λ s l. decode depth s l) (replicate n pred) (drop at row.now)) out.old out.new result }
-{
-    let mut p = at;
-    let mut i = o;
-    let mut left = n;
-    while 0 < left {
-        let k = put_byte(out, i, b' ');
-        let Ends::End(q, j) = print_pred(row, out, p, depth, k) else {
-            return Ends::Bad;
-        };
-        p = q;
-        i = j;
-        left -= 1;
-    }
-    Ends::End(p, i)
+    Some(spot)
 }

@@ -2,67 +2,75 @@
 use mathlib.Core.Path.{◌≡◌, refl, ap, sym, ◌∙◌}
 use mathlib.Core.Bool.{Bool, true, false, ◌&&◌}
 use mathlib.Core.List.{List, [], ◌∷◌}
-use Prim.Native.Nat.{ℕ, ◌+◌, ◌-◌, ◌≤◌, ◌<◌}
+use Prim.Native.Nat.{ℕ, suc, ◌+◌, ◌-◌, ◌≤◌, ◌<◌}
 use native.Mathlib.Omega.{arith}
-use borrow.Author.Tests.{eq-eqb, ne_eqb, le-leb, lt-leb, leb-true, ltb-true, lt-ltb, le-ltb}
+use borrow.Author.Tests.{le-leb, lt-leb, leb-true, ltb-true, lt-ltb, le-ltb}
 use lib.Dec.{leb, ltb, eqb}
-use lib.ListN.{length, get_or, drop, replicate, length-drop}
+use lib.ListN.{length, replicate}
 use Rattle.tree.specs.Form.{Leaf, free, bound, Form, leaf, pick, between, encode}
 use Rattle.tree.specs.Tag.{Sort}
 use Rattle.form.specs.Lists.{distinct, good_names}
-use Rattle.form.specs.Answer.{stop, refusal, told, finish, check_outcome}
+use Rattle.form.specs.Answer.{stop, told, finish, check_outcome}
 use Rattle.reader.specs.Internal.Reads.{mark}
 use Rattle.form.specs.declared.answer.Kind.TheVariants.{Either}
-use Rattle.form.specs.declared.answer.Answer.{Answer}
-use Rattle.form.specs.declared.answer.Answer.TheVariants.{No}
+use Rattle.form.specs.Answer.{Answer}
+use Rattle.std.specs.Prelude.{Option, Some, None, Err, option_map, position, nat_eq, cond, not}
+use Rattle.std.specs.List.{position_or_len}
+use Rattle.std.proofs.Common.{ltb-false}
 use Rattle.form.proofs.DecodeLaws.{Ok}
-use Rattle.form.proofs.HeadLaws.{between_in, here, gone}
+use Rattle.form.proofs.HeadLaws.{between_in}
 use Rattle.rules.specs.Walk.{Binding, inside, outside, binding, Outer, named, dangling, walk_index, walk_leaf, walk, up, put}
 use Rattle.rules.specs.Bind.{bind_name, bind_for, bind, bind_outcome}
 use Rattle.shift.specs.Internal.Items.{size_of, words_of, item_in, move_word, same_length}
 use Rattle.subst.specs.Internal.Binding.{seek_name, spot_item, bound_item, bound_words, bind_words}
 use Rattle.shift.specs.declared.items.Item.{Item}
 use Rattle.shift.specs.declared.items.Item.TheVariants.{Plain, Ident}
-use Rattle.subst.specs.declared.bind.Spot.{Spot}
-use Rattle.subst.specs.declared.bind.Spot.TheVariants.{At, Nowhere}
 use Rattle.rules.proofs.WalkLaws.{binding-inside, binding-back, and_left, and_right, each-agree, walk-agree}
 use Rattle.rules.proofs.LimitLaws.{fine_leaf, fine, tight, ok-tight, walk-length, inside-limits}
 use Rattle.shift.proofs.CheckedLaws.{Checked, check-refuses}
 use Rattle.shift.proofs.RowLaws.{ident_of, marked-items, walk-items, each-items}
 use Rattle.shift.proofs.ShiftLaws.{in_range, range-leaf, range-word, same_test, between-high}
+use Rattle.form.specs.declared.answer.Refusal.{Refusal}
+use Rattle.form.specs.declared.answer.Refusal.TheVariants.{TooLong, BadNames}
 
--- the names, one after another
-module _ (ns : List ℕ) (m i : ℕ) where
-  module _ (low : i < length ns) where
-    pub seek-here : get_or ns i 0 ≡ m → At (length ns - 1 - i) ≡ seek_name (drop i ns) m
-    unfolding seek_name
-    seek-here e = rw (here ns i low, eq-eqb (get_or ns i 0) m e) (ap At (let l = length-drop (i + 1) ns in omega arith))
+-- the first place of the name tells how many follow it
+module _ (p l : ℕ) where
+  abbrev left-of : ℕ → ℕ → Option ℕ
+  left-of p l = option_map (λ i. l - 1 - i) (cond (ltb p l) (Some p) None)
 
-    pub seek-on : (get_or ns i 0 ≡ m → ⊥) → seek_name (drop i ns) m ≡ seek_name (drop (i + 1) ns) m
-    unfolding seek_name
-    seek-on e = rw (here ns i low, ne_eqb (get_or ns i 0) m e)
+  seek-later : (b : Bool) → ltb p l ≡ b → left-of p l ≡ left-of (1 + p) (suc l)
+  seek-later true e = let h = ltb-true p l e in rw (lt-ltb p l h, lt-ltb (1 + p) (suc l) (omega arith)) (ap Some (omega arith))
+  seek-later false e = let h = ltb-false p l e in rw (le-ltb p l h, le-ltb (1 + p) (suc l) (omega arith)) refl
 
-  pub seek-end : length ns ≤ i → seek_name (drop i ns) m ≡ Nowhere
-  unfolding seek_name
-  seek-end h = rw (gone ns i h)
+  seek-step : (b : Bool) (s : Option ℕ) → s ≡ left-of p l → pick b (Some l) s ≡ left-of (cond (not b) (1 + p) 0) (suc l)
+  seek-step true s h = rw (lt-ltb 0 (suc l) (omega arith)) (ap Some (omega arith))
+  seek-step false s h = h ∙ seek-later (ltb p l) refl
+
+pub seek-place : (ns : List ℕ) (m : ℕ) → seek_name ns m ≡ option_map (λ i. length ns - 1 - i) (position (λ n. nat_eq n m) ns)
+unfolding seek_name
+seek-place [] m = refl
+seek-place (n ∷ ns) m = seek-step (position_or_len (λ n. nat_eq n m) ns) (length ns) (eqb n m) (seek_name ns m) (seek-place ns m)
+
+pub seek-by : (ns : List ℕ) (m : ℕ) (r : Option ℕ) → r ≡ position (λ n. nat_eq n m) ns → seek_name ns m ≡ option_map (λ i. length ns - 1 - i) r
+seek-by ns m r e = rw e (seek-place ns m)
 
 -- what becomes of a name, on the tree and in the row
-abbrev spot_leaf : ℕ → ℕ → Spot → Leaf
-spot_leaf k m (At b) = bound (0 + (b + k))
-spot_leaf k m Nowhere = free m
+abbrev spot_leaf : ℕ → ℕ → Option ℕ → Leaf
+spot_leaf k m (Some b) = bound (0 + (b + k))
+spot_leaf k m None = free m
 
-abbrev spot_move : ℕ → ℕ → Spot → Form
-spot_move k m (At b) = leaf (bound (move_word b 0 k))
-spot_move k m Nowhere = leaf (free m)
+abbrev spot_move : ℕ → ℕ → Option ℕ → Form
+spot_move k m (Some b) = leaf (bound (move_word b 0 k))
+spot_move k m None = leaf (free m)
 
-abbrev Low : ℕ → Spot → Type 0
-Low n (At b) = b < n
-Low n Nowhere = Unit {0}
+abbrev Low : ℕ → Option ℕ → Type 0
+Low n (Some b) = b < n
+Low n None = Unit {0}
 
-low_step : (n m : ℕ) (ns : List ℕ) (b : Bool) (z : Spot) → Low (length ns) z → Low (length (n ∷ ns)) (pick b (At (length ns)) z)
+low_step : (n m : ℕ) (ns : List ℕ) (b : Bool) (z : Option ℕ) → Low (length ns) z → Low (length (n ∷ ns)) (pick b (Some (length ns)) z)
 low_step n m ns true z h = omega arith
-low_step n m ns false (At b) h = omega arith
-low_step n m ns false Nowhere h = tt
+low_step n m ns false (Some b) h = omega arith
+low_step n m ns false None h = tt
 
 seek-low : (ns : List ℕ) (m : ℕ) → Low (length ns) (seek_name ns m)
 unfolding seek_name
@@ -70,7 +78,7 @@ seek-low [] m = tt
 seek-low (n ∷ ns) m = low_step n m ns (eqb n m) (seek_name ns m) (seek-low ns m)
 
 name-step : (k m : ℕ) (ns : List ℕ) (b : Bool) → walk (up k) 0 (bind_name ns m) ≡ leaf (spot_leaf k m (seek_name ns m))
-    → walk (up k) 0 (pick b (leaf (bound (length ns))) (bind_name ns m)) ≡ leaf (spot_leaf k m (pick b (At (length ns)) (seek_name ns m)))
+    → walk (up k) 0 (pick b (leaf (bound (length ns))) (bind_name ns m)) ≡ leaf (spot_leaf k m (pick b (Some (length ns)) (seek_name ns m)))
 unfolding walk
 name-step k m ns true h = refl
 name-step k m ns false h = h
@@ -93,10 +101,10 @@ abbrev moved : List ℕ → ℕ → Outer → Form
 moved ns k (named m) = spot_move k m (seek_name ns m)
 moved ns k (dangling j) = leaf (bound (move_word (length ns) 0 (k + j)))
 
-moved-spot : (k m : ℕ) (z : Spot) → words_of (spot_item k 1 m z) ≡ encode (spot_move k m z)
+moved-spot : (k m : ℕ) (z : Option ℕ) → words_of (spot_item k 1 m z) ≡ encode (spot_move k m z)
 unfolding words_of encode
-moved-spot k m (At b) = refl
-moved-spot k m Nowhere = refl
+moved-spot k m (Some b) = refl
+moved-spot k m None = refl
 
 moved-index : (ns : List ℕ) (k i : ℕ) (z : Binding) → binding k i ≡ z → words_of (pick (ltb i k) (Ident k 2 i) (Ident k 2 (move_word (length ns) 0 i))) ≡ encode (walk_index (moved ns) k i z)
 unfolding encode words_of
@@ -114,10 +122,10 @@ moved_word : (ns : List ℕ) (w : ℕ) → bound_words ns (Plain w) ≡ w ∷ []
 unfolding words_of bound_item
 moved_word ns w = refl
 
-keep-spot : (k t v : ℕ) (z : Spot) → length (words_of (spot_item k t v z)) ≡ 2
+keep-spot : (k t v : ℕ) (z : Option ℕ) → length (words_of (spot_item k t v z)) ≡ 2
 unfolding words_of
-keep-spot k t v (At b) = refl
-keep-spot k t v Nowhere = refl
+keep-spot k t v (Some b) = refl
+keep-spot k t v None = refl
 
 keep-ident : (ns : List ℕ) (k t v : ℕ) (b c : Bool) → length (words_of (pick b (spot_item k t v (seek_name ns v)) (pick c (Ident k t v) (Ident k t (move_word (length ns) 0 v))))) ≡ 2
 unfolding words_of
@@ -131,14 +139,14 @@ keeps ns (Plain w) = refl
 keeps ns (Ident k t v) = keep-ident ns k t v (eqb t 1) (ltb v k)
 
 -- within the limits, and the same
-spot-fine : (n k m : ℕ) (z : Spot) → n ≤ 32 → Low n z → between 0 65535 m ≡ true → k ≤ 2048 → fine_leaf (spot_leaf k m z) ≡ true
-spot-fine n k m (At b) h l e g = between_in 0 65535 (0 + (b + k)) (omega arith) (omega arith)
-spot-fine n k m Nowhere h l e g = e
+spot-fine : (n k m : ℕ) (z : Option ℕ) → n ≤ 32 → Low n z → between 0 65535 m ≡ true → k ≤ 2048 → fine_leaf (spot_leaf k m z) ≡ true
+spot-fine n k m (Some b) h l e g = between_in 0 65535 (0 + (b + k)) (omega arith) (omega arith)
+spot-fine n k m None h l e g = e
 
-spot-same : (n k m : ℕ) (z : Spot) → n ≤ 32 → Low n z → k ≤ 2048 → spot_move k m z ≡ leaf (spot_leaf k m z)
+spot-same : (n k m : ℕ) (z : Option ℕ) → n ≤ 32 → Low n z → k ≤ 2048 → spot_move k m z ≡ leaf (spot_leaf k m z)
 unfolding move_word
-spot-same n k m (At b) h l g = ap (λ z. leaf (bound z)) (omega arith)
-spot-same n k m Nowhere h l g = refl
+spot-same n k m (Some b) h l g = ap (λ z. leaf (bound z)) (omega arith)
+spot-same n k m None h l g = refl
 
 module _ (ns : List ℕ) (few : length ns ≤ 32) where
   bind-range : (k : ℕ) (x : Outer) → tight 2048 k x ≡ true → in_range 0 (65536 - length ns) k x ≡ fine (put (bind_for ns)) (bind_leaf ns) (bind-leaf ns) k x
@@ -178,20 +186,20 @@ good-few ns e = leb-true (length ns) 32 (and_left (leb (length ns) 32) (distinct
 
 -- the whole call
 module _ (ns row : List ℕ) (room : ℕ) where
-  pub bind-too-long : 8192 < length row → bind_outcome ns row room ≡ refusal 1
+  pub bind-too-long : 8192 < length row → bind_outcome ns row room ≡ stop TooLong
   unfolding bind_outcome
   bind-too-long h = rw (lt-leb (length row) 8192 h)
 
-  pub bind-refused : (r : Answer) (k p : ℕ) → r ≡ told (check_outcome Either row) → r ≡ No k p → bind_outcome ns row room ≡ stop k p
+  pub bind-refused : (r : Answer) (k : Refusal) → r ≡ told (check_outcome Either row) → r ≡ Err k → bind_outcome ns row room ≡ stop k
   unfolding bind_outcome
-  bind-refused r k p q e = check-refuses Either row _ r k p q e
+  bind-refused r k q e = check-refuses Either row _ r k q e
 
   module _ (m : List ℕ) (n : ℕ) (x : Checked Either row m n) where
-    pub bind-long : 8192 < length ns → bind_outcome ns row room ≡ refusal 1
+    pub bind-long : 8192 < length ns → bind_outcome ns row room ≡ stop TooLong
     unfolding bind_outcome
     bind-long h = rw (le-leb (length row) 8192 x.short, x.is_found, lt-leb (length ns) 8192 h)
 
-    pub bind-names : length ns ≤ 8192 → good_names ns ≡ false → bind_outcome ns row room ≡ refusal 4
+    pub bind-names : length ns ≤ 8192 → good_names ns ≡ false → bind_outcome ns row room ≡ stop BadNames
     unfolding bind_outcome
     bind-names h g = rw (le-leb (length row) 8192 x.short, x.is_found, le-leb (length ns) 8192 h, g)
 

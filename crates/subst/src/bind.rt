@@ -5,31 +5,22 @@ ghost use Rattle.rules.specs.Bind.{bind_outcome};
 ghost use Rattle.shift.specs.Internal.Items.{Fresh, items, rewritten, store};
 ghost use Rattle.subst.specs.Internal.Binding.{seek_name, bound_item, bound_words, bind_words};
 
-use form::answer::{Answer, Kind, Limit};
+use form::answer::{Answer, Kind, Limit, Refusal};
 use shift::items::{Item, all_in, item_at, put_item, size_of};
+use shift::marks::with_marks;
 use shift::shift::{move_word, top_of};
+use tree::tag::Tag;
 
-// How many names follow the one that is sought, or that it is not there.
-#[derive(Clone, Copy)]
-pub enum Spot {
-    At(u32),
-    Nowhere,
-}
-
-fn seek(names: &[u32], m: u32) -> Spot
+// How many names follow the one that is sought, where it is there.
+fn seek(names: &[u32], m: u32) -> Option<u32>
     requires { length names.now ≤ 32 }
     ensures { result ≡ seek_name names.now m }
 {
-    let mut i = 0;
-    while i < names.len() {
-        if names[i] == m {
-            return Spot::At((names.len() - 1 - i) as u32);
-        }
-        i += 1;
-    }
-    Spot::Nowhere
+    let i = names.iter().position(|name| *name == m)?;
+    Some((names.len() - 1 - i) as u32)
 }
 
+// A name that is found becomes its index, and an index that dangles passes the new declarations.
 fn bound_item(names: &[u32], it: Item) -> Item
     requires { length names.now ≤ 32 }
     ensures { result ≡ bound_item names.now it }
@@ -37,11 +28,11 @@ fn bound_item(names: &[u32], it: Item) -> Item
     let Item::Ident(k, t, v) = it else {
         return it;
     };
-    if t == 1 {
-        let Spot::At(b) = seek(names, v) else {
+    if t == Tag::FREE_IDENT {
+        let Some(b) = seek(names, v) else {
             return it;
         };
-        return Item::Ident(k, 2, move_word(b, 0, k));
+        return Item::Ident(k, Tag::BOUND_IDENT, move_word(b, 0, k));
     }
     if v < k {
         return it;
@@ -68,13 +59,13 @@ fn bind_marked(row: &[u32], marks: &[u32], names: &[u32], out: &mut [u32]) -> An
     ensures out_after { out.new ≡ written (bind_words names.now row.now marks.now (length out.old)) out.old }
 {
     if !all_in(row, marks, 0, top_of(names.len() as u32)) {
-        return Answer::No(7, 0);
+        return Err(Refusal::OutOfLimits);
     }
     if out.len() < row.len() {
-        return Answer::No(14, 0);
+        return Err(Refusal::OutputTooShort);
     }
     write_bound(row, marks, names, out);
-    Answer::Done(row.len())
+    Ok(row.len())
 }
 
 // Bind with marks of its own.
@@ -83,15 +74,12 @@ fn bind_in(names: &[u32], row: &[u32], marks: &mut [u32], out: &mut [u32]) -> An
     ensures value { result ≡ told (bind_outcome names.now row.now (length out.old)) }
     ensures out_after { out.new ≡ written (bind_outcome names.now row.now (length out.old)) out.old }
 {
-    let checked = reader::check::mark(row, Kind::Either, marks);
-    let Answer::Done(n) = checked else {
-        return checked;
-    };
+    reader::check::mark(row, Kind::Either, marks)?;
     if Limit::WORDS < names.len() {
-        return Answer::No(1, 0);
+        return Err(Refusal::TooLong);
     }
     if !reader::lists::good_names(names) {
-        return Answer::No(4, 0);
+        return Err(Refusal::BadNames);
     }
     bind_marked(row, marks, names, out)
 }
@@ -101,21 +89,7 @@ pub fn bind_idents(names: &[u32], row: &[u32], out: &mut [u32]) -> Answer
     ensures value { result ≡ told (bind_outcome names.now row.now (length out.old)) }
     ensures out_after { out.new ≡ written (bind_outcome names.now row.now (length out.old)) out.old }
 {
-    if row.len() <= 64 {
-        let mut marks = [0u32; 64];
-        return bind_in(names, row, &mut marks, out);
-    }
-    if row.len() <= 512 {
-        let mut marks = [0u32; 512];
-        return bind_in(names, row, &mut marks, out);
-    }
-    if row.len() <= 2048 {
-        let mut marks = [0u32; 2048];
-        return bind_in(names, row, &mut marks, out);
-    }
-    if Limit::WORDS < row.len() {
-        return Answer::No(1, 0);
-    }
-    let mut marks = [0u32; 8192];
-    bind_in(names, row, &mut marks, out)
+    with_marks(row, out, |marks, out| bind_in(names, row, marks, out)).unwrap_or(Err(
+        Refusal::TooLong,
+    ))
 }

@@ -4,73 +4,52 @@ ghost use Rattle.rules.specs.Lift.{lift_part, part_words, part_at, work_after};
 ghost use Rattle.shift.specs.Internal.Items.{Fresh};
 ghost use Rattle.subst.specs.Internal.Lifting.{made_of, chosen, chosen_at};
 
-use form::answer::{Answer, Kind, Limit};
+use form::answer::Kind;
 use shift::items::all_in;
+use shift::marks::with_marks;
 use shift::shift::shift_marked;
 
-// Which part is the answer: all of the base, the first words of the work row, or none.
+// Which part is the answer: all of the base, or the first words of the work row.
 #[derive(Clone, Copy)]
 pub enum Made {
     Base,
     Copy(usize),
-    Nothing,
 }
 
-// The copy with marks of its own.
-fn copy_in(base: &[u32], depth: u32, marks: &mut [u32], work: &mut [u32]) -> Made
+// The copy with marks of its own. It stays a function of its own, so that no loop reads the rows through the closure that calls it.
+#[inline(never)]
+fn copy_in(base: &[u32], depth: u32, marks: &mut [u32], work: &mut [u32]) -> Option<Made>
     requires { Fresh base.now marks.old }
     ensures value { result ≡ made_of (lift_part base.now depth (length work.old)) }
     ensures work_after { work.new ≡ work_after (lift_part base.now depth (length work.old)) work.old }
 {
     if !reader::check::mark_form(base, Kind::Either, marks) {
-        return Made::Nothing;
+        return None;
     }
-    if depth == 0 {
-        return Made::Base;
+    if depth == 0 || all_in(base, marks, 0, 0) {
+        return Some(Made::Base);
     }
-    if all_in(base, marks, 0, 0) {
-        return Made::Base;
-    }
-    let Answer::Done(m) = shift_marked(base, marks, depth, 0, work) else {
-        return Made::Nothing;
-    };
-    Made::Copy(m)
+    let m = shift_marked(base, marks, depth, 0, work).ok()?;
+    Some(Made::Copy(m))
 }
 
-// Makes the copy, where one is needed and can be had, at the start of the work row.
-pub fn make_copy(base: &[u32], depth: u32, work: &mut [u32]) -> Made
+// Makes the copy, where one is needed and can be had, at the start of the work row; None where no part is the answer.
+pub fn make_copy(base: &[u32], depth: u32, work: &mut [u32]) -> Option<Made>
     ensures value { result ≡ made_of (lift_part base.now depth (length work.old)) }
     ensures work_after { work.new ≡ work_after (lift_part base.now depth (length work.old)) work.old }
 {
-    if base.len() <= 64 {
-        let mut marks = [0u32; 64];
-        return copy_in(base, depth, &mut marks, work);
-    }
-    if base.len() <= 512 {
-        let mut marks = [0u32; 512];
-        return copy_in(base, depth, &mut marks, work);
-    }
-    if Limit::WORDS < base.len() {
-        return Made::Nothing;
-    }
-    let mut marks = [0u32; 8192];
-    copy_in(base, depth, &mut marks, work)
+    with_marks(base, work, |marks, work| copy_in(base, depth, marks, work)).flatten()
 }
 
 // The choice, which only reads both rows.
-fn choose<'a>(base: &'a [u32], work: &'a [u32], made: Made) -> &'a [u32]
+fn choose<'a>(base: &'a [u32], work: &'a [u32], made: Option<Made>) -> &'a [u32]
     ensures { (result.now ≡ chosen base.now work.now made) × (result.ref_ptr ≡ chosen_at base.entry.ref_ptr work.entry.ref_ptr made) }
 {
     match made {
-        Made::Base => base,
-        Made::Copy(n) => {
-            if n <= work.len() {
-                &work[..n]
-            } else {
-                &work[..0]
-            }
-        }
-        Made::Nothing => &base[..0],
+        Some(Made::Base) => base,
+        Some(Made::Copy(n)) if n <= work.len() => &work[..n],
+        Some(Made::Copy(_)) => &work[..0],
+        None => &base[..0],
     }
 }
 

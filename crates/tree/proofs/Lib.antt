@@ -1,3 +1,4 @@
 pub mod Pairs
+pub mod Residual
 pub mod Ranges
 pub mod TagTable

@@ -1,4 +1,4 @@
--- A second listing of document 01's tags, each written out, and that the table of specs/Tag.antt says the same of every tag below 1,000
+-- A second listing of the tags, each written out, and that the table of specs/Tag.antt says the same of every tag below 1,000
 -- and has no tag above. Assumes nothing.
 use mathlib.Core.Path.{◌≡◌, ap, sym}
 use mathlib.Core.Bool.{Bool, true, false, ◌&&◌}

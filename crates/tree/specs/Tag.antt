@@ -1,4 +1,4 @@
--- The tags of expressions and of predicates, and what follows each in a row: document 01's list.
+-- The tags of expressions and of predicates, and what follows each in a row.
 use Rattle.std.specs.Prelude.{List, [], ◌∷◌, ◌++◌, ℕ, leb, replicate}
 use Rattle.tree.specs.Form.{pick}
 use Rattle.tree.specs.declared.tag.Shape.{Shape}

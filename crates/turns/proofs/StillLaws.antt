@@ -12,10 +12,11 @@ use lib.ListN.{length, take, drop, length-append}
 use lib.Seq.{length-take-le, take-nil, drop-drop, take-append_seam, take_at, drop-append-le}
 use Rattle.tree.specs.Form.{pick}
 use Rattle.form.specs.Break.{break_at}
-use Rattle.form.specs.Answer.{Outcome, answer, stop, refusal, of_found, needs}
+use Rattle.form.specs.Answer.{Outcome, answer, stop, of_found, needs}
 use Rattle.form.specs.Decode.{Found, found, missing, form_of}
 use Rattle.form.specs.declared.answer.Kind.TheVariants.{Either}
 use Rattle.form.proofs.DecodeLaws.{clash}
+use Rattle.form.specs.Refusal.{number_of, position_of}
 use Rattle.spell.specs.Put.{put}
 use Rattle.spell.specs.Spell.{spell, spell_no, print_outcome, print_no}
 use Rattle.spell.proofs.AnswerLaws.{put_front}
@@ -30,12 +31,13 @@ use Rattle.turns.proofs.OutputLaws.{Keeps, piece-keeps, none_left}
 use Rattle.turns.proofs.PieceLaws.{Case, is-line, is-skipped, is-long, is-dropped, is_last, is-empty, is-unread, case-of}
 use Rattle.turns.proofs.PutLaws.{put-none, put-eq}
 use Rattle.turns.proofs.TurnLaws.{moved-are, pending-long}
+use Rattle.form.specs.declared.answer.Refusal.TheVariants.{TooLong, OutputTooShort}
 
 -- an answer with its newline has at most 131,073 bytes
 abbrev Few : Outcome → Type 0
 Few o = length (with_newline o) ≤ 131073
 
-few-needs : (bs : List ℕ) (b : Bool) → leb (length bs) 131072 ≡ b → Few (needs 14 b (answer bs))
+few-needs : (bs : List ℕ) (b : Bool) → leb (length bs) 131072 ≡ b → Few (needs OutputTooShort b (answer bs))
 few-needs bs true e = let h = leb-true (length bs) 131072 e in rw (length-append bs (10 ∷ [])) (omega arith)
 few-needs bs false e = omega arith
 
@@ -43,11 +45,12 @@ few-printed : (o : Outcome) → Few (printed 131072 o)
 unfolding print_outcome print_no
 few-printed (answer ws) = go (leb (length ws) 8192) (form_of Either ws)
   where
-    go : (b : Bool) (x : Found) → Few (pick b (of_found (break_at Either ws) (λ s f. needs 14 (leb (length (spell f)) 131072) (answer (spell f))) x) (refusal 1))
+    go : (b : Bool) (x : Found) → Few (pick b (of_found (break_at Either ws) (λ s f. needs OutputTooShort (leb (length (spell f)) 131072) (answer (spell f))) x) (stop TooLong))
     go true (found s f) = few-needs (spell f) (leb (length (spell f)) 131072) refl
     go true missing = omega arith
     go false x = omega arith
-few-printed (stop k p) = few-needs (spell_no k p) (leb (length (spell_no k p)) 131072) refl
+few-printed (stop r) =
+    few-needs (spell_no (number_of r) (position_of r)) (leb (length (spell_no (number_of r) (position_of r))) 131072) refl
 
 answer-few : (line : List ℕ) → length (answer_to line) ≤ 131073
 unfolding answer_to reply_outcome

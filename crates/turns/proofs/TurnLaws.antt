@@ -4,13 +4,13 @@ use mathlib.Core.Bool.{Bool, true, false, ◌&&◌}
 use mathlib.Core.List.{List, [], ◌∷◌, ◌++◌}
 use Prim.Native.Nat.{ℕ, zero, suc, ◌+◌, ◌-◌, ◌≤◌, ◌<◌}
 use native.Mathlib.Omega.{arith}
-use borrow.Author.Tests.{le-leb, lt-leb, eq-eqb, ne_eqb, leb-true, eqb-true, ltb-true}
+use borrow.Author.Tests.{le-leb, lt-leb, leb-true, eqb-true, ltb-true}
 use lib.Dec.{leb, ltb, eqb}
 use lib.ListN.{length, take, drop, set, length-append, length-drop}
 use lib.Seq.{length-take-le, take-take}
 use Rattle.tree.specs.Form.{pick}
 use Rattle.form.specs.Answer.{Outcome, told, written}
-use Rattle.form.specs.declared.answer.Answer.{Answer}
+use Rattle.form.specs.Answer.{Answer}
 use Rattle.form.proofs.DecodeLaws.{clash}
 use Rattle.spell.specs.Put.{put}
 use Rattle.reply.specs.Reply.{reply_outcome}
@@ -120,18 +120,6 @@ skipped-inside s bs r n e q = rw (← e, q) at (next-within s bs)
 
 -- rows and states that fit
 module _ (list form work result : ℕ) where
-  pub rows-list : (list ≡ 8192 → ⊥) → false ≡ rows_fit list form work result
-  rows-list h = rw (ne_eqb list 8192 h)
-
-  pub rows-form : list ≡ 8192 → (form ≡ 8192 → ⊥) → false ≡ rows_fit list form work result
-  rows-form a h = rw (eq-eqb list 8192 a, ne_eqb form 8192 h)
-
-  pub rows-work : list ≡ 8192 → form ≡ 8192 → (work ≡ 16384 → ⊥) → false ≡ rows_fit list form work result
-  rows-work a b h = rw (eq-eqb list 8192 a, eq-eqb form 8192 b, ne_eqb work 16384 h)
-
-  pub rows-result : list ≡ 8192 → form ≡ 8192 → work ≡ 16384 → eqb result 8192 ≡ rows_fit list form work result
-  rows-result a b c = rw (eq-eqb list 8192 a, eq-eqb form 8192 b, eq-eqb work 16384 c)
-
   pub rows_are : rows_fit list form work result ≡ true → (list ≡ 8192) × (form ≡ 8192) × (work ≡ 16384) × (result ≡ 8192)
   rows_are e =
       let (a, f) = and_both (eqb list 8192) (eqb form 8192 && (eqb work 16384 && eqb result 8192)) e in
@@ -140,15 +128,6 @@ module _ (list form work result : ℕ) where
       (eqb-true list 8192 a, eqb-true form 8192 b, eqb-true work 16384 c, eqb-true result 8192 d)
 
 module _ (st : State) (input output : ℕ) where
-  pub fits-order : st.end < st.start → false ≡ fits st input output
-  fits-order h = rw (lt-leb st.start st.end h)
-
-  pub fits-input : st.start ≤ st.end → input < st.end → false ≡ fits st input output
-  fits-input a h = rw (le-leb st.start st.end a, lt-leb st.end input h)
-
-  pub fits-output : st.start ≤ st.end → st.end ≤ input → leb st.used output ≡ fits st input output
-  fits-output a b = rw (le-leb st.start st.end a, le-leb st.end input b)
-
   pub fits-are : fits st input output ≡ true → (st.start ≤ st.end) × (st.end ≤ input) × (st.used ≤ output)
   fits-are e =
       let (a, f) = and_both (leb st.start st.end) (leb st.end input && leb st.used output) e in
@@ -234,12 +213,6 @@ module _ (st : State) (input list form work result output : List ℕ) (t : Turn)
 
 -- moving the bytes down
 module _ (st : State) (input : ℕ) where
-  pub move-order : st.end < st.start → false ≡ movable st input
-  move-order h = rw (lt-leb st.start st.end h)
-
-  pub move-end : st.start ≤ st.end → leb st.end input ≡ movable st input
-  move-end h = rw (le-leb st.start st.end h)
-
   pub moved-are : movable st input ≡ true → (st.start ≤ st.end) × (st.end ≤ input)
   moved-are e =
       let (a, b) = and_both (leb st.start st.end) (leb st.end input) e in (leb-true st.start st.end a, leb-true st.end input b)
@@ -272,6 +245,3 @@ module _ (st : State) (input got : ℕ) where
       → record { start = st.start; end = st.end + got; used = st.used; skipping = st.skipping; ended = st.ended } ≡ read_state st input got
   unfolding read_state
   read_more n h = rw (le-leb got (input - st.end) h, le-leb 1 got (positive got n))
-
-  pub read_past : (got ≡ 0 → ⊥) → input < st.end → ending st ≡ read_state st input got
-  read_past n h = let p = positive got n in read-over (omega arith)

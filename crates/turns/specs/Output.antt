@@ -6,7 +6,7 @@ use Rattle.reply.specs.Reply.{reply_outcome}
 
 abbrev pub with_newline : Outcome → List ℕ
 with_newline (answer bs) = bs ++ (10 ∷ [])
-with_newline (stop k p) = []
+with_newline (stop r) = []
 
 -- with the program's rows, and room for 131,072 bytes
 unfoldable pub answer_to : List ℕ → List ℕ

@@ -33,10 +33,8 @@ fn after(st: State, n: usize, skipping: bool) -> State
 {
     State {
         start: st.start + n,
-        end: st.end,
-        used: st.used,
-        skipping: skipping,
-        ended: st.ended,
+        skipping,
+        ..st
     }
 }
 
@@ -97,28 +95,13 @@ fn next_step(input: &[u8], st: State) -> Step
 fn are_rows(list: usize, form: usize, work: usize, res: usize) -> bool
     ensures { result ≡ rows_fit list form work res }
 {
-    if list != 8192 {
-        return false;
-    }
-    if form != 8192 {
-        return false;
-    }
-    if work != 16384 {
-        return false;
-    }
-    res == 8192
+    list == 8192 && form == 8192 && work == 16384 && res == 8192
 }
 
 fn is_fit(st: State, input: usize, output: usize) -> bool
     ensures { result ≡ fits st input output }
 {
-    if st.end < st.start {
-        return false;
-    }
-    if input < st.end {
-        return false;
-    }
-    st.used <= output
+    st.start <= st.end && st.end <= input && st.used <= output
 }
 
 // What is done in the next turn, by the lengths of the rows.
@@ -151,7 +134,7 @@ fn end_of(answer: Answer, used: usize, room: usize) -> usize
     requires { used ≤ room }
     ensures { Ending answer used room result }
 {
-    let Answer::Done(n) = answer else {
+    let Ok(n) = answer else {
         return used;
     };
     if room - used < n {
@@ -166,11 +149,8 @@ fn replied(st: State, end: usize) -> Turn
     ensures { result ≡ Turn.On (with_used st (end + 1)) }
 {
     Turn::On(State {
-        start: st.start,
-        end: st.end,
         used: end + 1,
-        skipping: st.skipping,
-        ended: st.ended,
+        ..st
     })
 }
 

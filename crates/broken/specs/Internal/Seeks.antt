@@ -1,5 +1,5 @@
 -- What must still come of a node as the code holds it, and what the search for the break answers.
-use Rattle.std.specs.Prelude.{◌≡◌, Bool, true, false, ◌&&◌, List, [], ◌∷◌, ℕ, zero, suc, ◌+◌, ◌-◌, ◌≤◌, ◌<◌, leb, eqb, get_or, drop}
+use Rattle.std.specs.Prelude.{◌≡◌, Bool, true, false, ◌&&◌, List, [], ◌∷◌, ℕ, zero, suc, ◌+◌, ◌-◌, ◌≤◌, ◌<◌, leb, eqb, get_or, drop, Option, Some, None, Result, Ok, Err, is_ok}
 use Rattle.tree.specs.Form.{pick, between}
 use Rattle.tree.specs.Tag.{Sort, expr, pred}
 use Rattle.form.specs.Break.{Next, word, note, parts, never, low_flag, decls_next, next_of, own_in, Open, rest, least, least_all, break_from}
@@ -10,18 +10,14 @@ use Rattle.form.specs.declared.answer.ListKind.TheVariants.{Pairs, Places}
 use Rattle.broken.specs.declared.due.Due.{Due}
 use Rattle.broken.specs.declared.due.Due.TheVariants.{Kids, Ask, Note, Wrong}
 use Rattle.broken.specs.declared.due.Then.{Then}
-use Rattle.broken.specs.declared.due.Then.TheVariants.{Nothing, Exprs, Preds, Count, Declared, Names, NotedDeclared, Noted, Flag, FirstFlag, Decl, FirstDecl}
-use Rattle.broken.specs.declared.seek.Sought.{Sought}
-use Rattle.broken.specs.declared.seek.OwnSought.{OwnSought}
-use Rattle.broken.specs.declared.seek.Start.{Start}
-use Rattle.broken.specs.declared.seek.Start.TheVariants.{At, Other}
+use Rattle.broken.specs.declared.due.Then.TheVariants.{Nothing, Exprs, Preds, Count, Declared, Names, NotedDeclared, Noted, Flag, Decl}
 
--- after a flag, and the flag of a name where no annotation came
+-- after a flag, and the flag of a name, where an annotation came before or none did
 abbrev pub after_flag : Bool → ℕ → ℕ → ℕ → Next
 after_flag came n e flag = pick (eqb flag 0) (decls_next came n 1 e) (note (decls_next true n 1 e))
 
-abbrev pub first_flag : ℕ → ℕ → Next
-first_flag n e = word (low_flag false n) 1 (λ f. after_flag false n e f)
+abbrev pub flag_next : Bool → ℕ → ℕ → Next
+flag_next came n e = word (low_flag came n) 1 (λ f. after_flag came n e f)
 
 unfoldable pub next_then : Then → ℕ → Next
 next_then Nothing w = parts 0 0 0
@@ -32,10 +28,8 @@ next_then Declared w = word 1 32 (λ n. parts n 1 1)
 next_then (Names e) w = parts w 1 e
 next_then NotedDeclared w = word 1 32 (λ n. decls_next false n 1 1)
 next_then (Noted e) w = decls_next false w 1 e
-next_then (Flag n e) w = word 0 1 (λ f. after_flag true n e f)
-next_then (FirstFlag n e) w = first_flag n e
-next_then (Decl n e) w = after_flag true n e w
-next_then (FirstDecl n e) w = after_flag false n e w
+next_then (Flag came n e) w = flag_next came n e
+next_then (Decl came n e) w = after_flag came n e w
 
 unfoldable pub next_due : Due → Next
 next_due (Kids n p e) = parts n p e
@@ -96,31 +90,37 @@ pub record Reaches (named : Bool) (row : List ℕ) (at d : ℕ) (o : Next) (need
   pub up : at ≤ p
   pub room : p + (least d o' + need) ≤ 8192
 
+-- what the search answers: where a part ends, or where the row breaks
+abbrev pub Sought : Type 0
+Sought = Result ℕ ℕ
+
+abbrev pub place_of : Sought → ℕ
+place_of = elim [ Ok p ↦ p | Err p ↦ p ]
+
 -- the search from `at` on answers r: where the rest of a node is there, the break is the one from its end on
 pub record Seeks (named : Bool) (row : List ℕ) (at d : ℕ) (o : Next) (need : ℕ) (r : Sought) : Type 0 where
   pub breaks : (z : ℕ → Next) (x : Open) → least_all x ≡ need
-      → break_from named z at (rest d o x) (drop at row) ≡ pick r.ok (break_from named z r.at x (drop r.at row)) r.at
-  pub rises : at ≤ r.at
-  pub low : r.at ≤ 8192
-  pub room : r.ok ≡ true → r.at + need ≤ 8192
+      → break_from named z at (rest d o x) (drop at row) ≡ pick (is_ok r) (break_from named z (place_of r) x (drop (place_of r) row)) (place_of r)
+  pub rises : at ≤ place_of r
+  pub low : place_of r ≤ 8192
+  pub room : is_ok r ≡ true → place_of r + need ≤ 8192
 
--- the search for own words answers r: it has come to what must come after them, or it has found the break
-pub record SeeksOwn (row : List ℕ) (at d : ℕ) (o : Next) (need : ℕ) (r : OwnSought) : Type 0 where
-  pub reaches : r.ok ≡ true → (named : Bool) → Reaches named row at d o need r.at (next_due r.due)
-  pub ended : r.ok ≡ true → is_own (next_due r.due) ≡ false
-  pub stops : r.ok ≡ false → (named : Bool) → Seeks named row at d o need (record { ok = false; at = r.at })
+-- the search for own words has come to what must come after them, or it has found the break
+abbrev pub SeeksOwn : List ℕ → ℕ → ℕ → Next → ℕ → Result (ℕ × Due) ℕ → Type 0
+SeeksOwn row at d o need (Ok x) = ((named : Bool) → Reaches named row at d o need x.0 (next_due x.1)) × (is_own (next_due x.1) ≡ false)
+SeeksOwn row at d o need (Err p) = (named : Bool) → Seeks named row at d o need (Err p)
 
--- the children of a node may be sought from p on
-abbrev pub Starts : List ℕ → ℕ → ℕ → Next → ℕ → Start → Type 0
-Starts row at d o need (At p ps es) = (at + (least d o + need) ≤ 8192) × ((named : Bool) → Reaches named row at d o need p (parts 0 ps es))
-Starts row at d o need Other = Unit {0}
+-- the children of a node may be sought from a place on
+abbrev pub Starts : List ℕ → ℕ → ℕ → Next → ℕ → Option (ℕ × ℕ × ℕ) → Type 0
+Starts row at d o need (Some x) = (at + (least d o + need) ≤ 8192) × ((named : Bool) → Reaches named row at d o need x.0 (parts 0 x.1 x.2))
+Starts row at d o need None = Unit {0}
 
 -- the search for a child of the sort whose tag stands at `at` answers r: where the child is there, the break is the one from its end on
 pub record SeeksChild (named : Bool) (row : List ℕ) (at d : ℕ) (s : Sort) (need : ℕ) (r : Sought) : Type 0 where
   pub breaks : (z : ℕ → Next) (x : Open) → least_all x ≡ need
       → pick (leb (at + 1 + (least d (next_of (own_in named s (get_or row at 0))) + need)) 8192) (break_from named z (at + 1) (rest d (next_of (own_in named s (get_or row at 0))) x) (drop (at + 1) row)) at
-      ≡ pick r.ok (break_from named z r.at x (drop r.at row)) r.at
-  pub rises : at ≤ r.at
-  pub passes : r.ok ≡ true → at < r.at
-  pub low : r.at ≤ 8192
-  pub room : r.ok ≡ true → r.at + need ≤ 8192
+      ≡ pick (is_ok r) (break_from named z (place_of r) x (drop (place_of r) row)) (place_of r)
+  pub rises : at ≤ place_of r
+  pub passes : is_ok r ≡ true → at < place_of r
+  pub low : place_of r ≤ 8192
+  pub room : is_ok r ≡ true → place_of r + need ≤ 8192

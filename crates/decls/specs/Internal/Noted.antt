@@ -1,16 +1,14 @@
 -- The declarations of a quantified row: how many, where those with flags end, and the words of those that are kept.
-use Rattle.std.specs.Prelude.{Bool, true, false, not, ◌&&◌, List, [], ◌∷◌, ◌++◌, ℕ, zero, suc, ◌+◌, ◌*◌, leb, ltb, eqb, length, get_or}
+use Rattle.std.specs.Prelude.{Bool, true, false, not, ◌&&◌, List, [], ◌∷◌, ◌++◌, ℕ, zero, suc, ◌+◌, ◌*◌, leb, ltb, eqb, length, get_or, Some, None, Option}
 use Rattle.tree.specs.Form.{pick, any_typed, encode_decls}
 use Rattle.form.specs.Decode.{GotDecls, declared, no-decls}
-use Rattle.form.specs.declared.head.Step.{Step}
-use Rattle.form.specs.declared.head.Step.TheVariants.{End, Bad}
 use Rattle.places.specs.Internal.Positions.{part_words}
 use Rattle.replace.specs.Internal.Pieces.{part}
 
 -- where the declarations that were read at a position end, if one of them at least has an annotation
-unfoldable pub end_decls : ℕ → GotDecls → Step
-end_decls at (declared ds r) = pick (any_typed ds) (End (at + length (encode_decls ds))) Bad
-end_decls at no-decls = Bad
+unfoldable pub end_decls : ℕ → GotDecls → Option ℕ
+end_decls at (declared ds r) = pick (any_typed ds) (Some (at + length (encode_decls ds))) None
+end_decls at no-decls = None
 
 -- the second word of a row that begins with a quantifier's tag; 0 for any other
 unfoldable pub count_in : List ℕ → ℕ

@@ -1,6 +1,6 @@
 -- Membership by words. The element stands in the row as it is; a part of it is shifted where it is written. No index of the shifted element
 -- is below the number of declarations, so that a part fills a place exactly if its side of the value is the index of a free one.
-use Rattle.std.specs.Prelude.{◌≡◌, Bool, true, ◌||◌, List, [], ◌∷◌, ◌++◌, map, ℕ, suc, ◌+◌, ◌-◌, ◌≤◌, ◌<◌, leb, ltb, eqb, length, get_or, take, drop, set, replicate}
+use Rattle.std.specs.Prelude.{◌≡◌, Bool, true, ◌||◌, Option as Maybe, Some, None, List, [], ◌∷◌, ◌++◌, map, ℕ, suc, ◌+◌, ◌-◌, ◌≤◌, ◌<◌, leb, ltb, eqb, length, get_or, take, drop, set, replicate}
 use Rattle.std.proofs.Math.Option.{Option, none as absent, some}
 use Rattle.tree.specs.Form.{Form, node, noted, Forms, none, more, pick, count, encode, encode_decls, encode_all}
 use Rattle.tree.specs.Tag.{expr, pred}
@@ -21,11 +21,9 @@ use Rattle.rules.specs.Member.{is_free, any_filled, member_of, membership}
 use Rattle.places.specs.Internal.Positions.{Beside, form_marks, MarkedAt}
 use Rattle.places.specs.Internal.Wrote.{Wrote}
 use Rattle.places.specs.declared.sides.Sides.{Sides}
-use Rattle.places.specs.declared.sides.Index.{Index}
-use Rattle.places.specs.declared.sides.Index.TheVariants.{Bound, Unbound}
 use Rattle.member.specs.declared.member.Comprehension.{Comprehension}
+use Rattle.replace.specs.declared.pieces.Source.{Source}
 use Rattle.member.specs.declared.member.Membership.{Membership}
-use Rattle.member.specs.declared.member.Membership.TheVariants.{In, Not}
 
 -- the places that parts fill, each by its side of the element, and the parts that are left
 pub data Shares : Type 0 where
@@ -34,17 +32,18 @@ pub data Shares : Type 0 where
 abbrev pub keep_part : Form × Form → Shares → Shares
 keep_part p (shares ps qs) = shares ps (p ∷ qs)
 
--- the free place of n that an index names; n where it names none
-abbrev pub spot_at : ℕ → List Place → Option ℕ → ℕ
-spot_at n ps (some i) = pick (ltb i n) (pick (is_free (get_or ps (n - 1 - i) kept)) (n - 1 - i) n) n
-spot_at n ps absent = n
+-- the free place of n that an index names
+abbrev pub spot_at : ℕ → List Place → Option ℕ → Maybe ℕ
+spot_at n ps (some i) = pick (ltb i n) (pick (is_free (get_or ps (n - 1 - i) kept)) (Some (n - 1 - i)) None) None
+spot_at n ps absent = None
 
-abbrev pub share_next : ℕ → ℕ → Form × Form → List Place → (List Place → Shares) → Shares
-share_next n j p ps later = pick (ltb j n) (later (set ps j (filled p.1))) (keep_part p (later ps))
+abbrev pub share_next : Maybe ℕ → Form × Form → List Place → (List Place → Shares) → Shares
+share_next (Some j) p ps later = later (set ps j (filled p.1))
+share_next None p ps later = keep_part p (later ps)
 
 unfoldable pub share : ℕ → List (Form × Form) → List Place → Shares
 share n [] ps = shares ps []
-share n (p ∷ rest) ps = share_next n (spot_at n ps (index_of p.0)) p ps (λ qs. share n rest qs)
+share n (p ∷ rest) ps = share_next (spot_at n ps (index_of p.0)) p ps (λ qs. share n rest qs)
 
 -- equalities whose right sides are shifted up by u
 abbrev pub equalities : ℕ → List (Form × Form) → Forms
@@ -77,9 +76,9 @@ abbrev pub with_place : Table → ℕ → ℕ → ℕ → Table
 with_place t j s e = record { words = set t.words j 1; starts = set t.starts j s; ends = set t.ends j e; n = t.n }
 
 -- the free place of the table that an index names
-abbrev pub spot_in : Table → Index → ℕ
-spot_in t (Bound i) = pick (ltb i t.n) (pick (eqb (get_or t.words (t.n - 1 - i) 0) 0) (t.n - 1 - i) t.n) t.n
-spot_in t Unbound = t.n
+abbrev pub spot_in : Table → Maybe ℕ → Maybe ℕ
+spot_in t (Some i) = pick (ltb i t.n) (pick (eqb (get_or t.words (t.n - 1 - i) 0) 0) (Some (t.n - 1 - i)) None) None
+spot_in t None = None
 
 -- a part as an equality, its right side shifted up by u
 abbrev pub shifted_words : List ℕ → List ℕ → ℕ → Sides → List ℕ
@@ -135,9 +134,9 @@ pub record SetIn (row : List ℕ) (c : Comprehension) : Type 0 where
   pub shape : (f : Form) → decode 64 pred row ≡ got f [] → (r : Form) × (f ≡ node 107 [] [] (more element (more r none)))
   pub is : (f : Form) → decode 64 pred row ≡ got f [] → membership f ≡ some (member_of element decls guard value)
 
-unfoldable pub SetTold : List ℕ → Membership → Type 0
-SetTold row (In c) = SetIn row c
-SetTold row Not = (f : Form) → decode 64 pred row ≡ got f [] → membership f ≡ absent
+unfoldable pub SetTold : List ℕ → Maybe Comprehension → Type 0
+SetTold row (Some c) = SetIn row c
+SetTold row None = (f : Form) → decode 64 pred row ≡ got f [] → membership f ≡ absent
 
 -- guard and equalities as the body, with the places in the table
 unfoldable pub BodyTold : List ℕ → List ℕ → ℕ → ℕ → Form → List ℕ → Shares → Table → ℕ → List ℕ → Type 0
@@ -199,3 +198,13 @@ unshifted n g v e = join_all 351 g (equalities 0 (left_parts (share n (parts v e
 
 unfoldable pub Unshifted : List ℕ → Comprehension → ℕ → List ℕ → Type 0
 Unshifted row c end work = (x : SetIn row c) → take end work ≡ encode (unshifted c.n x.guard x.value x.element)
+
+-- the same of the code's structs: of a membership that was found, of its work row, and of a body with n declarations round it
+abbrev pub SetOf : Membership → Type 0
+SetOf m = SetIn m.row.now m.set
+
+abbrev pub MemberingOf : Membership → ℕ → Type 0
+MemberingOf m work = Membering m.row.now m.marks.now m.set work
+
+abbrev pub FillingOf : ℕ → Source → Type 0
+FillingOf n b = Filling n b.list.now b.list_marks.now b.table.now b.row.now b.marks.now

@@ -11,7 +11,10 @@ use Rattle.replace.specs.Internal.Pieces.{planned, down_plan, placed_row}
 use Rattle.decls.specs.Internal.Noted.{decls_end}
 use Rattle.decls.specs.Internal.Used.{cleared_in}
 use Rattle.rounds.specs.Internal.Round.{round_head, round_from, round_fits}
+use Rattle.replace.specs.Internal.Partial.{partial_row}
+use Rattle.replace.specs.declared.pieces.Source.{Source}
 use Rattle.member.specs.Internal.Member.{with_place}
+use Rattle.form.specs.declared.answer.Refusal.TheVariants.{OutOfLimits}
 
 -- well-formed declarations ds with flags stand in a row from word 2 on
 pub record FlaggedIn (row : List ℕ) (ds : List Decl) : Type 0 where
@@ -53,4 +56,14 @@ unfoldable pub round_row : List ℕ → Bool → Bool → List ℕ → Table →
 round_row ds joins clear notes t row lm body marks room =
     let keep = take t.n t.words in
     let from = round_from 852 joins clear body in
-    needs 7 (round_fits 852 keep ds joins clear notes body) (placed_row false (round_head 852 keep ds joins clear notes body) t 0 row lm (drop from body) (drop from marks) room)
+    needs OutOfLimits (round_fits 852 keep ds joins clear notes body) (placed_row false (round_head 852 keep ds joins clear notes body) t 0 row lm (drop from body) (drop from marks) room)
+
+-- the same of the code's struct
+abbrev pub notes_of : Source → ℕ → List ℕ
+notes_of b j = filled_notes b.table.now j b.list.now b.list_marks.now b.row.now b.marks.now
+
+abbrev pub round_of : List ℕ → Bool → Bool → List ℕ → Source → ℕ → Outcome
+round_of ds joins clear notes b room = round_row ds joins clear notes b.table.now b.list.now b.list_marks.now b.row.now b.marks.now room
+
+abbrev pub plain_of : List ℕ → List ℕ → Source → ℕ → Outcome
+plain_of front stay b room = partial_row false 852 front stay b.table.now 0 b.list.now b.list_marks.now b.row.now b.marks.now room

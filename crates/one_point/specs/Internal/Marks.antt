@@ -1,5 +1,5 @@
 -- The marks of what the scan leaves of a body, made where its words are written.
-use Rattle.std.specs.Prelude.{◌≡◌, Bool, true, false, List, ℕ, ◌+◌, ◌-◌, ◌*◌, ◌^◌, ◌≤◌, ◌<◌, eqb, length, get_or, drop, replicate}
+use Rattle.std.specs.Prelude.{Option as Maybe, Some, None, ◌≡◌, Bool, true, List, ℕ, ◌+◌, ◌-◌, ◌*◌, ◌^◌, ◌≤◌, ◌<◌, eqb, length, get_or, drop, replicate}
 use Rattle.std.proofs.Math.Option.{Option, none as absent, some}
 use Rattle.tree.specs.Form.{Form, Forms, pick}
 use Rattle.tree.specs.Tag.{pred}
@@ -59,7 +59,7 @@ raise_mark k m = pick (eqb m 0) 0 (m + k)
 abbrev pub CanRaise : ℕ → List ℕ → Type 0
 CanRaise k ms = (i : ℕ) → get_or ms i 0 + k < 2 ^ 32
 
--- the marks of what was written at pos, unless nothing was
-abbrev pub RestMarks : List ℕ → ℕ → Bool → List ℕ → List ℕ → Type 0
-RestMarks out pos true ms ms' = ms' ≡ ms
-RestMarks out pos false ms ms' = MarksTold (λ f. scanned nothing (some f)) pos (decode 65 pred (drop pos out)) ms ms'
+-- the marks of what was written at pos, if anything was
+abbrev pub RestMarks : List ℕ → ℕ → Maybe ℕ → List ℕ → List ℕ → Type 0
+RestMarks out pos None ms ms' = ms' ≡ ms
+RestMarks out pos (Some e) ms ms' = MarksTold (λ f. scanned nothing (some f)) pos (decode 65 pred (drop pos out)) ms ms'

@@ -1,7 +1,7 @@
 -- Declarations with annotations of which one is replaced: the head that is kept, and the head that is joined with the body's own.
-use Rattle.std.specs.Prelude.{◌≡◌, Bool, true, false, not, ◌&&◌, List, [], ◌∷◌, ◌++◌, map, ℕ, ◌+◌, ◌-◌, ◌*◌, ◌≤◌, ◌<◌, eqb, leb, ltb, length, get_or, take, drop, set, replicate}
+use Rattle.std.specs.Prelude.{Option, Some, None, ◌≡◌, Bool, true, false, not, ◌&&◌, List, [], ◌∷◌, ◌++◌, map, ℕ, ◌+◌, ◌-◌, ◌*◌, ◌≤◌, ◌<◌, eqb, leb, ltb, length, get_or, take, drop, set, replicate}
 use Rattle.tree.specs.Form.{pick, encode_decls}
-use Rattle.form.specs.Answer.{Outcome, refusal}
+use Rattle.form.specs.Answer.{Outcome, stop}
 use Rattle.reader.specs.declared.lists.Table.{Table}
 use Rattle.shift.specs.Internal.Items.{items, rewritten, store}
 use Rattle.rules.specs.Fill.{unnoted, unlisted}
@@ -12,6 +12,7 @@ use Rattle.decls.specs.Internal.Used.{cleared_in}
 use Rattle.one_point.specs.Internal.Reduce.{operator_in, decls_in, one_table, placed_outcome, is_simple, target_of, named_row, Putting}
 use Rattle.one_point.specs.declared.joined.Joining.{Joining}
 use Rattle.one_point.specs.declared.joined.Joining.TheVariants.{Apart, Unused, Used}
+use Rattle.form.specs.declared.answer.Refusal.TheVariants.{OutOfLimits}
 
 -- a row that holds the declarations of a head, each with its flag, from the third word on
 pub record Flags (head row : List ℕ) : Type 0 where
@@ -62,15 +63,14 @@ front_words head = encode_decls (unlisted (take (get_or head 1 0 - 1) (decls_in 
 abbrev pub joined_head : List ℕ → ℕ → List ℕ → List ℕ
 joined_head head k ws = (operator_in head + 10) ∷ (get_or head 1 0 - 1 + k) ∷ (front_words head ++ ws)
 
--- the joined head as it is written; 0 where it has more words than a form
-pub record WroteJoined (head : List ℕ) (k : ℕ) (ws : List ℕ) (r : ℕ) (l : List ℕ) : Type 0 where
-  pub low : r ≤ length l
-  pub none : r ≡ 0 → 8192 < length (joined_head head k ws)
-  pub some : (r ≡ 0 → ⊥) → take r l ≡ joined_head head k ws
+-- the joined head as it is written, unless it has more words than a form
+abbrev pub WroteJoined : List ℕ → ℕ → List ℕ → Option ℕ → List ℕ → Type 0
+WroteJoined head k ws (Some e) l = (e ≤ length l) × (take e l ≡ joined_head head k ws)
+WroteJoined head k ws None l = 8192 < length (joined_head head k ws)
 
 unfoldable pub joined_row : List ℕ → ℕ → List ℕ → List ℕ → List ℕ → List ℕ → List ℕ → ℕ → ℕ → Outcome
 joined_row head k ws part pm body marks start room =
-    pick (leb (length (joined_head head k ws)) 8192) (under_row false (joined_head head k ws) 1 part pm body marks start room) (refusal 7)
+    pick (leb (length (joined_head head k ws)) 8192) (under_row false (joined_head head k ws) 1 part pm body marks start room) (stop OutOfLimits)
 
 -- whether all words are 1
 unfoldable pub all_ones : List ℕ → Bool

@@ -1,5 +1,6 @@
 -- The parts of an equality, by the words at two positions: as many expressions stand at the one as at the other.
-use Rattle.std.specs.Prelude.{◌≡◌, Bool, true, false, List, ◌∷◌, ◌++◌, ℕ, ◌+◌, ◌-◌, ltb, length, take, drop}
+use Rattle.std.specs.Prelude.{Option, Some, None, ◌≡◌, List, ◌∷◌, ◌++◌, ℕ, ◌+◌, ◌-◌, ltb, length, take, drop}
+use Rattle.std.specs.Option.{IsSomeAnd}
 use Rattle.tree.specs.Form.{Form, pick, count, encode, encode_all}
 use Rattle.rules.specs.Replacement.{Taken, taken, nothing}
 use Rattle.rules.specs.Scan.{Scans, scans, present, copied, offer_parts}
@@ -9,30 +10,25 @@ use Rattle.places.specs.Internal.Wrote.{Wrote}
 use Rattle.one_point.specs.declared.parts.Search.{Search}
 use Rattle.places.specs.declared.sides.Sides.{Sides}
 use Rattle.places.specs.declared.sides.Replacement.{Replacement}
-use Rattle.places.specs.declared.sides.Replacement.TheVariants.{Is, Not}
 
 -- the rule of Places, with all places free
-abbrev pub accept_by : ℕ → List ℕ → Replacement → Replacement
-accept_by n row (Is i s e) = pick (ltb i n) (pick (above_words i (take (e - s) (drop s row))) (Is i s e) Not) Not
-accept_by n row Not = Not
+abbrev pub accept_by : ℕ → List ℕ → Option Replacement → Option Replacement
+accept_by n row (Some r) = pick (ltb r.target n) (pick (above_words r.target (take (r.end - r.start) (drop r.start row))) (Some r) None) None
+accept_by n row None = None
 
-unfoldable pub accept_words : ℕ → Sides → List ℕ → Replacement
+unfoldable pub accept_words : ℕ → Sides → List ℕ → Option Replacement
 accept_words n s row = accept_by n row (replacement_words s row)
 
 abbrev pub equal_words : List ℕ → Sides → List ℕ
 equal_words row s = 101 ∷ (take (s.middle - s.left) (drop s.left row) ++ take (s.end - s.right) (drop s.right row))
 
-abbrev pub is_taken : Replacement → Bool
-is_taken (Is i s e) = true
-is_taken Not = false
-
 -- the target that was taken, and where its replacement stands
-unfoldable pub TookIs : List ℕ → Taken → Replacement → Type 0
-TookIs row (taken i e) r = (s : ℕ) × (t : ℕ) × (r ≡ Is i s t) × (t ≡ s + length (encode e)) × (drop s row ≡ encode e ++ drop t row)
-TookIs row nothing r = r ≡ Not
+unfoldable pub TookIs : List ℕ → Taken → Option Replacement → Type 0
+TookIs row (taken i e) r = IsSomeAnd r (λ x. (x.target ≡ i) × (x.end ≡ x.start + length (encode e)) × (drop x.start row ≡ encode e ++ drop x.end row))
+TookIs row nothing r = r ≡ None
 
 -- what is left of the parts, written at w after k others
-unfoldable pub PartsTold : List ℕ → ℕ → List ℕ → ℕ → Scans → Replacement → ℕ → ℕ → List ℕ → Type 0
+unfoldable pub PartsTold : List ℕ → ℕ → List ℕ → ℕ → Scans → Option Replacement → ℕ → ℕ → List ℕ → Type 0
 PartsTold row w out k (scans x gs) found end m out' = TookIs row x found × Wrote w out (encode_all (present gs)) end out' × (m ≡ k + count (present gs))
 
 -- the same of parts that are copied

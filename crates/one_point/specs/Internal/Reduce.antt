@@ -1,17 +1,13 @@
 -- What the parts of one point answer after the scan: the head of the reduced form, its one filled place, and the reduced body.
-use Rattle.std.specs.Prelude.{◌≡◌, Bool, true, false, ◌||◌, ◌&&◌, not, List, [], ◌∷◌, map, ℕ, suc, ◌≤◌, ◌<◌, ◌+◌, ◌-◌, ◌*◌, eqb, ltb, length, get_or, take, drop, set, replicate}
+use Rattle.std.specs.Prelude.{Option as Maybe, Some, None, ◌≡◌, Bool, true, false, ◌||◌, ◌&&◌, not, List, [], ◌∷◌, map, ℕ, suc, ◌≤◌, ◌<◌, ◌+◌, ◌-◌, ◌*◌, eqb, ltb, length, get_or, take, drop, set, replicate, None}
 use Rattle.std.proofs.Math.Option.{Option, none as absent, some}
 use Rattle.tree.specs.Form.{Form, pick, encode, encode_decls}
 use Rattle.tree.specs.Tag.{expr, pred, own}
 use Rattle.form.specs.Decode.{read, Got, got, no-form, decode, GotDecls, declared, no-decls, decls, Whole, one, not-one, whole}
 use Rattle.form.specs.Internal.Heads.{head_at}
-use Rattle.form.specs.declared.head.Step.{Step}
-use Rattle.form.specs.declared.head.Step.TheVariants.{End, Bad}
 use Rattle.form.specs.declared.head.Head.{Head}
-use Rattle.form.specs.declared.head.Head.TheVariants.{Kids, Noted, None as NoHead}
-use Rattle.form.specs.Answer.{Outcome, refusal, finish}
-use Rattle.form.specs.declared.answer.Answer.{Answer}
-use Rattle.form.specs.declared.answer.Answer.TheVariants.{Done, No}
+use Rattle.form.specs.declared.head.Head.TheVariants.{Kids, Noted}
+use Rattle.form.specs.Answer.{Answer, Outcome, stop, finish, told, written}
 use Rattle.reader.specs.Internal.Reads.{mark, decls_within}
 use Rattle.reader.specs.declared.lists.Table.{Table}
 use Rattle.replace.specs.Internal.Pieces.{are_names, depth_left}
@@ -22,23 +18,18 @@ use Rattle.rules.specs.Replacement.{above}
 use Rattle.rules.specs.Scan.{scan}
 use Rattle.rules.specs.Partial.{no_places, set_place, instantiate_partial}
 use Rattle.rules.specs.Point.{polarity, reduce, of_result}
-use Rattle.one_point.specs.declared.one_point_inference.Quantifier.{Quantifier}
-use Rattle.one_point.specs.declared.one_point_inference.Quantifier.TheVariants.{Of, None}
+use Rattle.form.specs.declared.answer.Refusal.TheVariants.{Broken}
 
 abbrev pub is_quantifier : ℕ → Bool
 is_quantifier t = eqb t 851 || eqb t 852
 
 -- where the body of a quantified predicate begins: behind the head that the row begins with, whose annotations are expressions
-abbrev pub body_after : Step → Quantifier
-body_after (End p) = Of p
-body_after Bad = None
+abbrev pub headed : List ℕ → Maybe Head → Maybe ℕ
+headed row (Some (Kids p x y n)) = Some p
+headed row (Some (Noted p x y n)) = end_decls p (decls_within 63 0 n (drop p row))
+headed row None = None
 
-abbrev pub headed : List ℕ → Head → Quantifier
-headed row (Kids p x y n) = Of p
-headed row (Noted p x y n) = body_after (end_decls p (decls_within 63 0 n (drop p row)))
-headed row NoHead = None
-
-unfoldable pub quantifier_in : List ℕ → Quantifier
+unfoldable pub quantifier_in : List ℕ → Maybe ℕ
 quantifier_in row = pick (eqb (count_in row) 0) None (headed row (head_at 1 (read (own pred (get_or row 0 0)) (drop 1 row))))
 
 -- the operator of a head, 851 or 852, and its declarations: the words from the third on, or what they say where the declarations have flags
@@ -85,8 +76,8 @@ placed_form t ns i e g = instantiate_partial t ns (set_place (length ns) i e (no
 
 abbrev pub placed_in : ℕ → List Decl → ℕ → ℕ → Got → Got → Outcome
 placed_in t ns i room (got e x) (got g y) = finish pred room (placed_form t ns i e g)
-placed_in t ns i room (got e x) no-form = refusal 2
-placed_in t ns i room no-form b = refusal 2
+placed_in t ns i room (got e x) no-form = stop (Broken 0)
+placed_in t ns i room no-form b = stop (Broken 0)
 
 unfoldable pub placed_outcome : ℕ → List Decl → ℕ → List ℕ → List ℕ → ℕ → Outcome
 placed_outcome t ns i part rest room = placed_in t ns i room (decode 63 expr part) (decode 63 pred rest)
@@ -131,17 +122,27 @@ pub record RestMarking (rest ms : List ℕ) : Type 0 where
 abbrev pub empty_word : ℕ → ℕ
 empty_word t = pick (eqb t 852) 610 611
 
-abbrev pub reduced_in : ℕ → List Decl → ℕ → Whole → Outcome
-reduced_in t ns room (one f) = of_result room (reduce t ns (scan (length ns) (polarity t) f))
-reduced_in t ns room not-one = refusal 2
+-- the words of what is left of a body: those of the work row up to where it ends, or the word of an emptied one
+abbrev pub rest_words : ℕ → Maybe ℕ → List ℕ → List ℕ
+rest_words t (Some e) work = take e work
+rest_words t None work = empty_word t ∷ []
 
--- what a body that is read d deep becomes
-unfoldable pub body_outcome : ℕ → ℕ → List Decl → List ℕ → ℕ → Outcome
+abbrev pub reduced_in : ℕ → List Decl → ℕ → Whole → Maybe Outcome
+reduced_in t ns room (one f) = Some (of_result room (reduce t ns (scan (length ns) (polarity t) f)))
+reduced_in t ns room not-one = None
+
+-- what a body that is read d deep becomes; nothing where it is no predicate so deep
+unfoldable pub body_outcome : ℕ → ℕ → List Decl → List ℕ → ℕ → Maybe Outcome
 body_outcome d t ns body room = reduced_in t ns room (whole (decode d pred body))
 
-abbrev pub is_bad : Answer → Bool
-is_bad (Done n) = false
-is_bad (No k p) = eqb k 2
+-- as the code answers it, and the output row afterwards
+abbrev pub told_if : Maybe Outcome → Maybe Answer
+told_if (Some o) = Some (told o)
+told_if None = None
+
+abbrev pub written_if : Maybe Outcome → List ℕ → List ℕ
+written_if (Some o) out = written o out
+written_if None out = out
 
 -- a body can be read d deep, with new marks for what is left of it
 pub record Reading (d : ℕ) (body ms : List ℕ) : Type 0 where

@@ -1,7 +1,8 @@
 -- What the scan answers and writes, by what is read at its position.
-use Rattle.std.specs.Prelude.{◌≡◌, Bool, true, false, List, ◌++◌, ℕ, ◌+◌, ◌-◌, ◌*◌, ◌≤◌, ◌<◌, length, drop, replicate}
+use Rattle.std.specs.Prelude.{Option as Maybe, Some, None, is_none, ◌≡◌, Bool, true, false, List, ◌++◌, ℕ, ◌+◌, ◌-◌, ◌*◌, ◌≤◌, ◌<◌, length, drop, replicate}
+use Rattle.std.specs.Option.{IsSomeAnd, unwrap_or}
 use Rattle.std.proofs.Math.Option.{Option, none as absent, some}
-use Rattle.tree.specs.Form.{Form, Forms, none, pick, count, encode, encode_all}
+use Rattle.tree.specs.Form.{Form, Forms, none, count, encode, encode_all}
 use Rattle.tree.specs.Tag.{expr, pred}
 use Rattle.form.specs.Decode.{Got, got, no-form, Gots, gots, no-forms, decode, decode_all}
 use Rattle.rules.specs.Split.{equal}
@@ -10,8 +11,6 @@ use Rattle.places.specs.Internal.Wrote.{Wrote}
 use Rattle.one_point.specs.Internal.Writes.{left_words, is_gone, Neat, Neats}
 use Rattle.rules.specs.Replacement.{Taken, taken, nothing}
 use Rattle.one_point.specs.Internal.Parts.{TookIs}
-use Rattle.form.specs.declared.head.Step.{Step}
-use Rattle.form.specs.declared.head.Step.TheVariants.{End, Bad}
 use Rattle.places.specs.declared.sides.Replacement.{Replacement}
 use Rattle.one_point.specs.declared.scanned.Scanned.{Scanned}
 use Rattle.one_point.specs.declared.children.Stopped.{Stopped}
@@ -22,20 +21,20 @@ NeatLeft absent = Unit {0}
 
 -- what is left of a node, written at pos, and the equality taken
 unfoldable pub Left : List ℕ → ℕ → List ℕ → Scan → Scanned → List ℕ → Type 0
-Left row pos out (scanned x g) r out' = TookIs row x r.found × (r.gone ≡ is_gone g) × Wrote pos out (left_words g) r.end out' × NeatLeft g
+Left row pos out (scanned x g) r out' = TookIs row x r.found × (is_none r.end ≡ is_gone g) × Wrote pos out (left_words g) (unwrap_or r.end pos) out' × NeatLeft g
 
 -- a form at `at` became what a scan leaves of it, written at pos
 pub record Became (row : List ℕ) (at : ℕ) (f : Form) (pos : ℕ) (out : List ℕ) (z : Scan) (r : Scanned) (out' : List ℕ) : Type 0 where
   pub next : r.next ≡ at + length (encode f)
   pub left : Left row pos out z r out'
-  pub short : r.end ≤ pos + 2 * length (encode f)
+  pub short : unwrap_or r.end pos ≤ pos + 2 * length (encode f)
 
 -- what a scan tells of what is read at `at`: whether it is a predicate, and what became of it
-unfoldable pub Told : (Form → Scan) → List ℕ → ℕ → ℕ → List ℕ → Got → Scanned → List ℕ → Type 0
-Told z row at pos out (got f x) r out' = (r.ok ≡ true) × Became row at f pos out (z f) r out'
-Told z row at pos out no-form r out' = r.ok ≡ false
+unfoldable pub Told : (Form → Scan) → List ℕ → ℕ → ℕ → List ℕ → Got → Maybe Scanned → List ℕ → Type 0
+Told z row at pos out (got f x) r out' = IsSomeAnd r (λ s. Became row at f pos out (z f) s out')
+Told z row at pos out no-form r out' = r ≡ None
 
-abbrev pub ScanTold : (Form → Scan) → List ℕ → ℕ → ℕ → ℕ → List ℕ → Scanned → List ℕ → Type 0
+abbrev pub ScanTold : (Form → Scan) → List ℕ → ℕ → ℕ → ℕ → List ℕ → Maybe Scanned → List ℕ → Type 0
 ScanTold z row d at pos out r out' = Told z row at pos out (decode d pred (drop at row)) r out'
 
 -- there is room for what the scan leaves of what stands at `at`
@@ -60,9 +59,8 @@ pub record Sided (row : List ℕ) (at right next : ℕ) : Type 0 where
   pub other-end : next ≡ right + length (encode other)
 
 -- what the scan of an equality tells, by its sides
-pub record SidesTold (row : List ℕ) (at right next n pos : ℕ) (out : List ℕ) (r : Scanned) (out' : List ℕ) : Type 0 where
-  pub ok : r.ok ≡ true
-  pub became : (x : Sided row at right next) → Became row at (equal x.left x.other) pos out (scan n true (equal x.left x.other)) r out'
+abbrev pub SidesTold : List ℕ → ℕ → ℕ → ℕ → ℕ → ℕ → List ℕ → Scanned → List ℕ → Type 0
+SidesTold row at right next n pos out r out' = (x : Sided row at right next) → Became row at (equal x.left x.other) pos out (scan n true (equal x.left x.other)) r out'
 
 -- what follows a child: copied where the child took an equality, else scanned
 unfoldable pub next_scan : Taken → Scan → Form → Scan
@@ -87,15 +85,17 @@ is_read no-forms = false
 unfoldable pub are_kids : List ℕ → ℕ → ℕ → ℕ → Bool
 are_kids row d at n = is_read (read_kids row d at n)
 
-unfoldable pub end_of_all : ℕ → Gots → Step
-end_of_all at (gots fs x) = End (at + length (encode_all fs))
-end_of_all at no-forms = Bad
+unfoldable pub end_of_all : ℕ → Gots → Maybe ℕ
+end_of_all at (gots fs x) = Some (at + length (encode_all fs))
+end_of_all at no-forms = None
 
-abbrev pub one_more : ℕ → Bool → ℕ
-one_more k gone = pick gone k (k + 1)
+-- the count of children of which something is left, with one more child
+abbrev pub one_more : ℕ → Maybe ℕ → ℕ
+one_more k (Some e) = k + 1
+one_more k None = k
 
 -- what is left of children, written at w after k others; and children that are copied
-unfoldable pub KidsTold : List ℕ → Forms → ℕ → List ℕ → ℕ → Scans → Replacement → ℕ → ℕ → List ℕ → Type 0
+unfoldable pub KidsTold : List ℕ → Forms → ℕ → List ℕ → ℕ → Scans → Maybe Replacement → ℕ → ℕ → List ℕ → Type 0
 KidsTold row fs w out k (scans x gs) found e m out' =
     TookIs row x found × Wrote w out (encode_all (present gs)) e out' × (m ≡ k + count (present gs)) × Neats (present gs) × (e ≤ w + 2 * length (encode_all fs))
 

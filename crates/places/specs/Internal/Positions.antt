@@ -1,18 +1,17 @@
 -- Forms by their positions in a row: where they end, how many stand one after another, and their marks.
-use Rattle.std.specs.Prelude.{ℕ, ◌+◌, ◌*◌, ◌≤◌, length, get_or, drop, replicate, ◌≡◌, Bool, ◌&&◌, List, [], ◌++◌, eqb}
+use Rattle.std.specs.Prelude.{ℕ, ◌+◌, ◌*◌, ◌≤◌, length, get_or, drop, replicate, ◌≡◌, Bool, ◌&&◌, List, [], ◌++◌, eqb, Some, None, Option}
+use Rattle.std.specs.Option.{unwrap_or}
 use Rattle.tree.specs.Form.{encode, Form, Forms, encode_all, none, more}
 use Rattle.form.specs.Decode.{Got, got, no-form, Gots, gots, no-forms, decode, decode_all}
-use Rattle.form.specs.declared.head.Step.{Step}
-use Rattle.form.specs.declared.head.Step.TheVariants.{End, Bad}
 use Rattle.tree.specs.Tag.{expr}
 use Rattle.rules.specs.Split.{parts_all}
 use Rattle.places.specs.declared.sides.Sides.{Sides}
 use Rattle.reader.specs.Internal.Reads.{mark}
 
 -- where the form that was read at a position ends
-unfoldable pub end_at : ℕ → Got → Step
-end_at at (got f x) = End (at + length (encode f))
-end_at at no-form = Bad
+unfoldable pub end_at : ℕ → Got → Option ℕ
+end_at at (got f x) = Some (at + length (encode f))
+end_at at no-form = None
 
 abbrev pub read_all : ℕ → List ℕ → Gots
 read_all n ws = decode_all (λ s l. decode 64 s l) (replicate n expr) ws
@@ -40,10 +39,9 @@ parts_at row p q n = parts_of (read_all n (drop p row)) (read_all n (drop q row)
 unfoldable pub both_pairs : List ℕ → ℕ → ℕ → Bool
 both_pairs row p q = eqb (get_or row p 0) 201 && eqb (get_or row q 0) 201
 
--- where the expressions at p and q end
-abbrev pub end_or : ℕ → Step → ℕ
-end_or p (End e) = e
-end_or p Bad = p
+-- where the expressions at p and q end; where none stands, p and q themselves
+abbrev pub end_or : ℕ → Option ℕ → ℕ
+end_or p e = unwrap_or e p
 
 unfoldable pub part_words : List ℕ → ℕ → ℕ → Sides
 part_words row p q =

@@ -9,6 +9,7 @@ use Rattle.replace.specs.Internal.Pieces.{filled_words, kept_head}
 use Rattle.rules.specs.Prune.{prune_outcome}
 use Rattle.decls.specs.Internal.Noted.{noted_head}
 use Rattle.decls.specs.Internal.Used.{used_words}
+use Rattle.form.specs.declared.answer.Refusal.TheVariants.{NothingToRewrite, OutputTooShort}
 
 -- of the words of declarations, from the outermost on, those that are inside index j and not 0
 unfoldable pub falls_at : List ℕ → ℕ → ℕ
@@ -31,13 +32,13 @@ fall_item ws (Ident k t v) = let b = k - length ws in Ident k t (pick (eqb t 2) 
 abbrev pub fallen_words : List ℕ → Item → List ℕ
 fallen_words ws x = words_of (fall_item ws x)
 
--- the head of what is left, and the row from a position on without the declarations whose word is not 0; and the answer: 9 where no word is
-unfoldable pub dropped_row : List ℕ → List ℕ → List ℕ → List ℕ → ℕ → List ℕ
-dropped_row head ws row marks at = head ++ rewritten (fallen_words ws) (items (drop at row) (drop at marks))
+-- the head of what is left, and the body without the declarations whose word is not 0; and the answer: nothing to rewrite where no word is
+unfoldable pub dropped_row : List ℕ → List ℕ → List ℕ → List ℕ → List ℕ
+dropped_row head ws body marks = head ++ rewritten (fallen_words ws) (items body marks)
 
-unfoldable pub dropped_outcome : List ℕ → List ℕ → List ℕ → List ℕ → ℕ → ℕ → Outcome
-dropped_outcome head ws row marks at room =
-    needs 9 (not (eqb (filled_words ws) 0)) (needs 14 (leb (length (dropped_row head ws row marks at)) room) (answer (dropped_row head ws row marks at)))
+unfoldable pub dropped_outcome : List ℕ → List ℕ → List ℕ → List ℕ → ℕ → Outcome
+dropped_outcome head ws body marks room =
+    needs NothingToRewrite (not (eqb (filled_words ws) 0)) (needs OutputTooShort (leb (length (dropped_row head ws body marks)) room) (answer (dropped_row head ws body marks)))
 
 -- the head of what is left, by the first word of the row
 unfoldable pub left_head : List ℕ → List ℕ → List ℕ
@@ -51,4 +52,4 @@ pub record Pruning (row marks : List ℕ) (n start : ℕ) : Type 0 where
   pub long : length row ≤ length marks
   pub more : start < length row
   pub is-apart : apart n (drop start row) (drop start marks) ≡ true
-  pub prunes : (ws : List ℕ) (room : ℕ) → ws ≡ used_words n (items (drop start row) (drop start marks)) → dropped_outcome (left_head ws row) ws row marks start room ≡ prune_outcome row room
+  pub prunes : (ws : List ℕ) (room : ℕ) → ws ≡ used_words n (items (drop start row) (drop start marks)) → dropped_outcome (left_head ws row) ws (drop start row) (drop start marks) room ≡ prune_outcome row room

@@ -1,10 +1,10 @@
 -- What the readers answer, by what is read at a position of the row; and the marks of a form: at the tag of each name and index one
 -- more than the number of declarations that are open there.
-use Rattle.std.specs.Prelude.{◌≡◌, List, [], ◌∷◌, ℕ, suc, ◌+◌, ◌-◌, ◌*◌, ◌^◌, ◌<◌, Bool, true, false, ◌&&◌, leb, eqb, length, set, take, drop, replicate}
+use Rattle.std.specs.Prelude.{◌≡◌, List, [], ◌∷◌, ℕ, suc, ◌+◌, Bool, true, false, ◌&&◌, leb, eqb, length, set, take, replicate, Some, None, Option as Maybe}
 use Rattle.std.proofs.Math.Option.{Option, none as absent, some}
-use Rattle.tree.specs.Form.{Form, leaf, node, noted, Decls, undeclared, bare, typed, names_of, any_typed, Forms, none, more, pick, member, encode, encode_decls, encode_all}
-use Rattle.form.specs.Decode.{Got, got, no-form, Gots, gots, no-forms, GotDecl, got_bare, got_typed, no-decl, GotDecls, declared, no-decls, is_leaf, decode, decode_all, decls, Found, found, missing}
-use Rattle.tree.specs.Tag.{Sort, expr, sorts, shape_of}
+use Rattle.tree.specs.Form.{Form, leaf, node, noted, Decls, undeclared, bare, typed, names_of, any_typed, Forms, none, more, pick, encode, encode_decls, encode_all}
+use Rattle.form.specs.Decode.{Got, got, no-form, Gots, gots, no-forms, GotDecl, got_bare, got_typed, no-decl, GotDecls, declared, no-decls, is_leaf, decode, decls, Found, found, missing}
+use Rattle.tree.specs.Tag.{Sort, expr, shape_of}
 use Rattle.form.specs.Break.{break_at}
 use Rattle.form.specs.Lists.{Place, kept, filled, Entry, entry, word_of, entry_words, distinct}
 use Rattle.form.specs.declared.answer.Kind.{Kind}
@@ -12,10 +12,6 @@ use Rattle.form.specs.declared.answer.Kind.TheVariants.{Expression, Predicate, E
 use Rattle.tree.specs.declared.tag.Shape.{Shape}
 use Rattle.tree.specs.declared.tag.Shape.TheVariants.{Unknown, Plain, Name, Value, Exprs, Preds, Apply, Compr, Quant, NotedCompr, NotedQuant}
 use Rattle.reader.specs.declared.lists.Table.{Table}
-use Rattle.form.specs.declared.head.Head.{Head}
-use Rattle.form.specs.declared.head.Head.TheVariants.{Kids, Noted, None}
-use Rattle.form.specs.declared.head.Step.{Step}
-use Rattle.form.specs.declared.head.Step.TheVariants.{End, Bad}
 
 -- the list l with the marks of a form that stands at `at` under u declarations
 unfoldable mutual
@@ -38,47 +34,28 @@ unfoldable pub mark_tag : ℕ → ℕ → ℕ → List ℕ → List ℕ
 mark_tag t at u l = pick (is_leaf t) (set l at (suc u)) l
 
 -- a reader at `at` answers r and leaves the marks b, where they were a
-unfoldable pub Told : ℕ → ℕ → Got → List ℕ → List ℕ → Step → Type 0
-Told at u (got f x) a b r = (r ≡ End (at + length (encode f))) × (b ≡ mark f at u a)
-Told at u no-form a b r = r ≡ Bad
+unfoldable pub Told : ℕ → ℕ → Got → List ℕ → List ℕ → Maybe ℕ → Type 0
+Told at u (got f x) a b r = (r ≡ Some (at + length (encode f))) × (b ≡ mark f at u a)
+Told at u no-form a b r = r ≡ None
 
-unfoldable pub ToldAll : ℕ → ℕ → Gots → List ℕ → List ℕ → Step → Type 0
-ToldAll at u (gots fs x) a b r = (r ≡ End (at + length (encode_all fs))) × (b ≡ mark_all fs at u a)
-ToldAll at u no-forms a b r = r ≡ Bad
+unfoldable pub ToldAll : ℕ → ℕ → Gots → List ℕ → List ℕ → Maybe ℕ → Type 0
+ToldAll at u (gots fs x) a b r = (r ≡ Some (at + length (encode_all fs))) × (b ≡ mark_all fs at u a)
+ToldAll at u no-forms a b r = r ≡ None
 
 -- a declaration with its flag; several; several, one of which at least has an annotation, and what k reads after them
-unfoldable pub ToldDecl : ℕ → ℕ → GotDecl → List ℕ → List ℕ → Step → Type 0
-ToldDecl at u (got_bare w x) a b r = (r ≡ End (at + 2)) × (b ≡ a)
-ToldDecl at u (got_typed w f x) a b r = (r ≡ End (at + 2 + length (encode f))) × (b ≡ mark f (at + 2) u a)
-ToldDecl at u no-decl a b r = r ≡ Bad
+unfoldable pub ToldDecl : ℕ → ℕ → GotDecl → List ℕ → List ℕ → Maybe ℕ → Type 0
+ToldDecl at u (got_bare w x) a b r = (r ≡ Some (at + 2)) × (b ≡ a)
+ToldDecl at u (got_typed w f x) a b r = (r ≡ Some (at + 2 + length (encode f))) × (b ≡ mark f (at + 2) u a)
+ToldDecl at u no-decl a b r = r ≡ None
 
-unfoldable pub ToldDecls : ℕ → ℕ → GotDecls → List ℕ → List ℕ → Step → Type 0
-ToldDecls at u (declared ds x) a b r = (r ≡ End (at + length (encode_decls ds))) × (b ≡ mark_decls ds at u a)
-ToldDecls at u no-decls a b r = r ≡ Bad
+unfoldable pub ToldDecls : ℕ → ℕ → GotDecls → List ℕ → List ℕ → Maybe ℕ → Type 0
+ToldDecls at u (declared ds x) a b r = (r ≡ Some (at + length (encode_decls ds))) × (b ≡ mark_decls ds at u a)
+ToldDecls at u no-decls a b r = r ≡ None
 
-unfoldable pub ToldNoted : ℕ → ℕ → GotDecls → (List ℕ → Gots) → List ℕ → List ℕ → Step → Type 0
+unfoldable pub ToldNoted : ℕ → ℕ → GotDecls → (List ℕ → Gots) → List ℕ → List ℕ → Maybe ℕ → Type 0
 ToldNoted at u (declared ds x) k a b r =
-    pick (any_typed ds) (ToldAll (at + length (encode_decls ds)) (u + length (names_of ds)) (k x) (mark_decls ds at u a) b r) (r ≡ Bad)
-ToldNoted at u no-decls k a b r = r ≡ Bad
-
--- the same by the head that was read, under u declarations and at most d deep; after a head without annotations nothing is read
-unfoldable pub ToldOther : Head → ℕ → ℕ → List ℕ → List ℕ → List ℕ → Step → Type 0
-ToldOther (Noted p x y w) d u row a b r =
-    ToldNoted p u (decls (λ s l. decode d s l) w (drop p row)) (λ l. decode_all (λ s l. decode d s l) (sorts x y) l) a b r
-ToldOther (Kids p x y w) d u row a b r = r ≡ Bad
-ToldOther None d u row a b r = r ≡ Bad
-
--- the declarations of that head can be counted: the number that is open in a form of depth d is a word
-unfoldable pub Fits : Head → ℕ → ℕ → Type 0
-Fits (Noted p x y w) d u = u + w + 32 * d < 2 ^ 32
-Fits (Kids p x y w) d u = Unit {0}
-Fits None d u = Unit {0}
-
--- how many of n words are left after that head
-unfoldable pub words_after : Head → ℕ → ℕ
-words_after (Noted p x y w) n = n - p
-words_after (Kids p x y w) n = 0
-words_after None n = 0
+    pick (any_typed ds) (ToldAll (at + length (encode_decls ds)) (u + length (names_of ds)) (k x) (mark_decls ds at u a) b r) (r ≡ None)
+ToldNoted at u no-decls k a b r = r ≡ None
 
 -- no form is read where the depth or the number of open declarations is over 65,535
 unfoldable pub decode_in : ℕ → ℕ → Sort → List ℕ → Got
@@ -140,13 +117,17 @@ unfoldable pub mark_entries : List Entry → ℕ → List ℕ → List ℕ
 mark_entries [] at l = l
 mark_entries (e ∷ es) at l = mark_entries es (at + length (entry_words e)) (mark_entry e at l)
 
-unfoldable pub ToldEntry : ℕ → Option (Entry × List ℕ) → List ℕ → List ℕ → Step → Type 0
-ToldEntry at (some x) a b r = (r ≡ End (at + length (entry_words x.0))) × (b ≡ mark_entry x.0 at a)
-ToldEntry at absent a b r = r ≡ Bad
+unfoldable pub ToldEntry : ℕ → Option (Entry × List ℕ) → List ℕ → List ℕ → Maybe ℕ → Type 0
+ToldEntry at (some x) a b r = (r ≡ Some (at + length (entry_words x.0))) × (b ≡ mark_entry x.0 at a)
+ToldEntry at absent a b r = r ≡ None
 
 -- the table of n entries whose rows are lent
 abbrev pub table_of : ℕ → List ℕ → List ℕ → List ℕ → Table
 table_of n ws ss es = record { words = ws; starts = ss; ends = es; n = n }
+
+-- a table as if it had no entries; and one that has none
+abbrev pub emptied : Table → Table
+emptied t = table_of 0 t.words t.starts t.ends
 
 unfoldable pub empty_table : Table
 empty_table = table_of 0 (replicate 32 0) (replicate 32 0) (replicate 32 0)
@@ -166,9 +147,6 @@ ListingFrom at absent t u a b ok = ok ≡ false
 
 abbrev pub Listing : Option (List Entry) → Table → Table → List ℕ → List ℕ → Bool → Type 0
 Listing o t u a b ok = ListingFrom 0 o t u a b ok
-
-unfoldable pub member_of : ℕ → List ℕ → Bool
-member_of m ns = member m ns
 
 -- whether the first n words, of at most 32, can be names of one list
 unfoldable pub good_words : ℕ → List ℕ → Bool

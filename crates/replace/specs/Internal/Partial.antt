@@ -7,6 +7,7 @@ use Rattle.reader.specs.declared.lists.Table.{Table}
 use Rattle.shift.specs.Internal.Items.{items, rewritten}
 use Rattle.rules.specs.Split.{is_nil}
 use Rattle.replace.specs.Internal.Pieces.{planned, head_words, down_plan, placed_row}
+use Rattle.form.specs.declared.answer.Refusal.TheVariants.{OutOfLimits}
 
 -- whether the body's own quantifier joins the front: nothing stays, there is a front, and the operator is the same
 unfoldable pub joins : ℕ → List ℕ → List ℕ → List ℕ → Bool
@@ -45,4 +46,4 @@ unfoldable pub partial_row : Bool → ℕ → List ℕ → List ℕ → Table �
 partial_row sure t front stay tb d list lm row marks room =
     let from = inner_end t front stay row in
     let hd = partial_head t front stay row in
-    needs 7 (head_fits (length front) (length stay) from (length row)) (placed_row (leb (length hd) 34 && sure) hd tb d list lm (drop from row) (drop from marks) room)
+    needs OutOfLimits (head_fits (length front) (length stay) from (length row)) (placed_row (leb (length hd) 34 && sure) hd tb d list lm (drop from row) (drop from marks) room)

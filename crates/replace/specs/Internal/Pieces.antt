@@ -1,6 +1,6 @@
 -- What stands for each item of a form: the item itself, an index, or a part of the list row whose dangling indices are moved. A plan says
 -- which. Nothing here is needed to read a public contract.
-use Rattle.std.specs.Prelude.{◌≡◌, Bool, true, false, ◌&&◌, List, [], ◌∷◌, ◌++◌, ℕ, zero, suc, ◌+◌, ◌-◌, ◌/◌, ◌≤◌, ◌<◌, max, leb, ltb, eqb, length, get_or, take, drop}
+use Rattle.std.specs.Prelude.{◌≡◌, Bool, true, false, ◌&&◌, List, [], ◌∷◌, ◌++◌, ℕ, zero, suc, ◌+◌, ◌-◌, ◌/◌, ◌≤◌, ◌<◌, max, leb, ltb, eqb, length, get_or, take, drop, Result, Ok, Err}
 use Rattle.tree.specs.Form.{pick, between}
 use Rattle.tree.specs.Tag.{expr}
 use Rattle.form.specs.Decode.{decode, whole, form_of}
@@ -16,6 +16,10 @@ use Rattle.replace.specs.declared.pieces.Piece.{Piece}
 use Rattle.replace.specs.declared.pieces.Piece.TheVariants.{Same, Index, Part}
 use Rattle.replace.specs.declared.pieces.Plan.{Plan}
 use Rattle.replace.specs.declared.pieces.Rule.{Rule}
+use Rattle.replace.specs.declared.pieces.Target.{Target}
+use Rattle.replace.specs.declared.pieces.Target.TheVariants.{Places, Names}
+use Rattle.form.specs.declared.answer.Refusal.TheVariants.{OutOfLimits, OutputTooShort}
+use Rattle.form.specs.declared.answer.Refusal.{Refusal}
 
 -- the words from s up to e
 unfoldable pub part : ℕ → ℕ → List ℕ → List ℕ
@@ -85,13 +89,17 @@ longest starts ends (suc n) = max (longest starts ends n) (get_or ends n 0 - get
 unfoldable pub half : ℕ → ℕ
 half n = n - n / 2
 
--- the refusal of n words in a row of so many: 7 where a form never has so many, 14 where the row is shorter; 0 for none
-unfoldable pub length_refusal : ℕ → ℕ → ℕ
-length_refusal n room = pick (leb n 8192) (pick (leb n room) 0 14) 7
+-- the check of n words in a row of so many: a form never has more than 8,192
+unfoldable pub checked_length : ℕ → ℕ → Result (Unit {0}) Refusal
+checked_length n room = pick (leb n 8192) (pick (leb n room) (Ok (tt {0})) (Err OutputTooShort)) (Err OutOfLimits)
 
--- the plan of a rule and the rows of its table
-abbrev pub plan_for : Rule → List ℕ → List ℕ → List ℕ → Plan
-plan_for r ws ss es = record { table = table_of r.n ws ss es; fills = r.fills; gone = r.gone; down = r.down }
+-- whether places are replaced; and the plan of a rule and its table
+abbrev pub fills_places : Target → Bool
+fills_places Places = true
+fills_places Names = false
+
+abbrev pub plan_for : Rule → Table → Plan
+plan_for r t = record { table = t; fills = fills_places r.target; gone = r.gone; down = r.down }
 
 -- the plan's table has 32 places, of which it uses n
 pub record Tabled (p : Plan) : Type 0 where
@@ -116,15 +124,15 @@ Fits (Part s e u d) n = (s ≤ e) × (e ≤ n)
 
 -- words that are answered where there is room for them
 abbrev pub fitted : List ℕ → ℕ → Outcome
-fitted ws room = needs 14 (leb (length ws) room) (answer ws)
+fitted ws room = needs OutputTooShort (leb (length ws) room) (answer ws)
 
 -- and where they are not too many for a form
 abbrev pub short_words : List ℕ → ℕ → Outcome
-short_words ws room = needs 7 (leb (length ws) 8192) (fitted ws room)
+short_words ws room = needs OutOfLimits (leb (length ws) 8192) (fitted ws room)
 
 -- first checked as a form; only their number is, where they are sure to be one
 unfoldable pub emitted : Bool → Kind → List ℕ → ℕ → Outcome
-emitted sure kind ws room = needs 7 (pick sure (leb (length ws) 8192) (has_form (form_of kind ws))) (fitted ws room)
+emitted sure kind ws room = needs OutOfLimits (pick sure (leb (length ws) 8192) (has_form (form_of kind ws))) (fitted ws room)
 
 -- exactly one expression at most d deep; the words from s up to e, where there are any
 unfoldable pub deep_part : ℕ → List ℕ → Bool
@@ -155,8 +163,8 @@ unfoldable pub deep_parts : ℕ → List ℕ → List ℕ → ℕ → List ℕ �
 deep_parts d starts ends zero list = true
 deep_parts d starts ends (suc n) list = deep_parts d starts ends n list && deep_at d (get_or starts n 0) (get_or ends n 0) list
 
-unfoldable pub depth_left_by : List ℕ → List ℕ → ℕ → List ℕ → ℕ
-depth_left_by starts ends n list = pick (leb n 32 && all_below 63488 list) (65 - depth_from 1 (λ d. deep_parts d starts ends n list)) 0
+unfoldable pub depth_left_by : Table → List ℕ → ℕ
+depth_left_by t list = pick (leb t.n 32 && all_below 63488 list) (65 - depth_from 1 (λ d. deep_parts d t.starts t.ends t.n list)) 0
 
 -- a form at most r deep stays one if the row is put into it
 pub record Leaves (row : List ℕ) (r : ℕ) : Type 0 where
@@ -208,19 +216,20 @@ unfoldable pub parts_in : List ℕ → List ℕ → ℕ → ℕ → Bool
 parts_in starts ends words zero = true
 parts_in starts ends words (suc n) = leb (get_or starts n 0) (get_or ends n 0) && (leb (get_or ends n 0) words && parts_in starts ends words n)
 
-abbrev pub ready_parts : ℕ → List ℕ → List ℕ → ℕ → ℕ → Bool
-ready_parts n starts ends words marks = leb n 32 && (leb words marks && parts_in starts ends words n)
-
 unfoldable pub is_ready : Table → List ℕ → List ℕ → Bool
-is_ready t list lm = ready_parts t.n t.starts t.ends (length list) (length lm)
+is_ready t list lm = leb t.n 32 && (leb (length list) (length lm) && parts_in t.starts t.ends (length list) t.n)
+
+-- the rows of a table have 32 places
+abbrev pub Rows : Table → Type 0
+Rows t = (length t.words ≡ 32) × (length t.starts ≡ 32) × (length t.ends ≡ 32)
 
 -- the plan that fills by the places of a table, whose expressions are moved down; what it puts under a head, where the table is ready
 abbrev pub down_plan : Table → ℕ → Plan
 down_plan t d = record { table = t; fills = true; gone = filled_words (take t.n t.words); down = d }
 
 unfoldable pub placed_row : Bool → List ℕ → Table → ℕ → List ℕ → List ℕ → List ℕ → List ℕ → ℕ → Outcome
-placed_row sure head t d list lm row marks room = needs 7 (is_ready t list lm) (replaced sure Predicate head (down_plan t d) list lm row marks room)
+placed_row sure head t d list lm row marks room = needs OutOfLimits (is_ready t list lm) (replaced sure Predicate head (down_plan t d) list lm row marks room)
 
 -- what the entries of a table put for the names of a row, where the table is ready
 unfoldable pub freed_row : Bool → Kind → Table → List ℕ → List ℕ → List ℕ → List ℕ → ℕ → Outcome
-freed_row sure kind t list lm row marks room = needs 7 (is_ready t list lm) (replaced sure kind [] (free_plan t) list lm row marks room)
+freed_row sure kind t list lm row marks room = needs OutOfLimits (is_ready t list lm) (replaced sure kind [] (free_plan t) list lm row marks room)

@@ -1,14 +1,16 @@
 -- What a plan puts for a row, word by word: each word is looked at with its mark and the word after it.
-use Rattle.std.specs.Prelude.{◌≡◌, Bool, true, false, not, ◌&&◌, ◌||◌, List, [], ◌∷◌, ◌++◌, ℕ, ◌+◌, ◌-◌, ◌%◌, ◌≤◌, ◌<◌, ltb, eqb, length, get_or, take, drop}
+use Rattle.std.specs.Prelude.{◌≡◌, Bool, true, not, ◌&&◌, ◌||◌, List, [], ◌∷◌, ◌++◌, ℕ, ◌+◌, ◌-◌, ◌%◌, ◌≤◌, ◌<◌, ltb, eqb, length, get_or, take, drop}
 use Rattle.std.proofs.Math.Option.{Option, none as absent, some}
 use Rattle.tree.specs.Form.{pick}
 use Rattle.shift.specs.Internal.Items.{items, apart, word_item}
-use Rattle.replace.specs.Internal.Pieces.{piece_words, piece_of, spot, sizes, filled_words, plan_for, Ready}
+use Rattle.replace.specs.Internal.Pieces.{piece_words, piece_of, spot, sizes, filled_words, Ready}
 use Rattle.shift.specs.declared.items.Item.TheVariants.{Plain}
 use Rattle.replace.specs.declared.pieces.Piece.{Piece}
 use Rattle.replace.specs.declared.pieces.Piece.TheVariants.{Same, Index, Part}
 use Rattle.replace.specs.declared.pieces.Plan.{Plan}
-use Rattle.replace.specs.declared.pieces.Rule.{Rule}
+use Rattle.replace.specs.declared.pieces.Job.{Job}
+use Rattle.replace.specs.declared.pieces.Target.TheVariants.{Places, Names}
+use Rattle.replace.specs.Internal.Job.{job_plan}
 
 -- what is put for a word w with the mark m and the word that follows
 abbrev pub next_piece : Plan → ℕ → ℕ → List ℕ → Piece
@@ -65,7 +67,7 @@ Becomes Same v y = y ≡ v
 Becomes (Index u) v y = y ≡ u
 Becomes (Part s e u d) v y = ⊥
 
--- a row can be spliced from `from` on into a row of so many words from `at` on
+-- a row can be spliced into a row of so many words from `at` on
 pub record Splicing (lo : ℕ) (p : Plan) (list lm row marks : List ℕ) (start at room : ℕ) : Type 0 where
   pub ready : Ready p list lm
   pub within : start < length row
@@ -73,17 +75,20 @@ pub record Splicing (lo : ℕ) (p : Plan) (list lm row marks : List ℕ) (start 
   pub apart-on : apart lo (drop start row) (drop start marks) ≡ true
   pub fits : at + sizes p (items (drop start row) (drop start marks)) ≤ room
 
+abbrev pub SplicingOf : ℕ → Job → ℕ → ℕ → Type 0
+SplicingOf lo j at room = Splicing lo (job_plan j) j.source.list.now j.source.list_marks.now j.source.row.now j.source.marks.now j.from at room
+
 -- and its places are filled by the tables of the slots
-pub record Filling (rule : Rule) (words starts ends cuts falls list lm row marks : List ℕ) (start at room : ℕ) : Type 0 where
-  pub splices : Splicing rule.n (plan_for rule words starts ends) list lm row marks start at room
-  pub is-fill : rule.fills ≡ true
-  pub slots : Slots (take rule.n words) rule.gone cuts falls
+pub record Filling (j : Job) (cuts falls : List ℕ) (at room : ℕ) : Type 0 where
+  pub splices : SplicingOf j.source.table.now.n j at room
+  pub is-fill : j.rule.target ≡ Places
+  pub slots : Slots (take j.source.table.now.n j.source.table.now.words) j.rule.gone cuts falls
   pub cuts-long : length cuts ≡ 34
   pub falls-long : length falls ≡ 34
 
 -- or its names replaced, by the keys of the listed ones
-pub record Freeing (rule : Rule) (words starts ends keys list lm row marks : List ℕ) (start at room : ℕ) : Type 0 where
-  pub splices : Splicing 0 (plan_for rule words starts ends) list lm row marks start at room
-  pub is_free : rule.fills ≡ false
-  pub known : Keys (take rule.n words) keys
+pub record Freeing (j : Job) (keys : List ℕ) (at room : ℕ) : Type 0 where
+  pub splices : SplicingOf 0 j at room
+  pub is_free : j.rule.target ≡ Names
+  pub known : Keys (take j.source.table.now.n j.source.table.now.words) keys
   pub keys-long : length keys ≡ 65

@@ -1,9 +1,10 @@
 -- The head of the declarations that are kept, put round a body: alone, or joined with the declarations of the body's own quantifier. Nothing here
 -- is needed to read a public contract.
-use Rattle.std.specs.Prelude.{Bool, true, ◌&&◌, List, ◌∷◌, ◌++◌, map, ℕ, ◌+◌, leb, eqb, length, get_or, take, drop}
+use Rattle.std.specs.Prelude.{◌≡◌, Bool, true, false, ◌&&◌, Option, Some, None, List, ◌∷◌, ◌++◌, map, ℕ, ◌+◌, ◌≤◌, leb, eqb, length, get_or, take, drop}
 use Rattle.tree.specs.Form.{pick, encode_decls}
 use Rattle.rules.specs.Fill.{unnoted, unlisted}
 use Rattle.decls.specs.Internal.Noted.{decls_end, kept_in, noted_head, flagged_parts}
+use Rattle.rounds.specs.declared.rounds.Round.{Round}
 
 -- a head with k more declarations behind its own: its tag, the number of all, and the words of all
 unfoldable pub longer_head : List ℕ → ℕ → List ℕ → List ℕ
@@ -55,3 +56,14 @@ round_fits op keep decls joins clear notes body =
     let hd = noted_head op keep decls 8192 in
     leb op 852
     && pick (joins_names op joins body) (join_fits hd body (head_names op hd body)) (pick (joins_notes op joins clear body) (join_fits hd body (head_notes op keep decls notes body)) true)
+
+-- a head stands at the start of a row, and behind it the body follows from a word on
+pub record HeadMade (words : List ℕ) (from : ℕ) (r : Round) (row : List ℕ) : Type 0 where
+  pub inside : r.words ≤ length row
+  pub front : take r.words row ≡ words
+  pub follows : r.from ≡ from
+
+-- what is told of a head that is these words, by whether it can be made
+abbrev pub HeadTold : Bool → List ℕ → ℕ → Option Round → List ℕ → Type 0
+HeadTold fits words from None row = fits ≡ false
+HeadTold fits words from (Some r) row = (fits ≡ true) × HeadMade words from r row

@@ -4,6 +4,8 @@ use Rattle.tree.specs.Form.{pick}
 use Rattle.form.specs.Answer.{Outcome, answer, needs}
 use Rattle.shift.specs.declared.items.Item.{Item}
 use Rattle.shift.specs.declared.items.Item.TheVariants.{Plain, Ident}
+use Rattle.form.specs.declared.answer.Refusal.{Refusal}
+use Rattle.form.specs.declared.answer.Refusal.TheVariants.{Broken, Captured, OutOfLimits, OutputTooShort}
 
 -- marks that can be made for a row: they hold 0, and there are enough of them
 pub record Fresh (row marks : List ℕ) : Type 0 where
@@ -116,14 +118,14 @@ unfoldable pub move_at : ℕ → ℕ → ℕ → ℕ → ℕ → ℕ
 move_at u d zero t v = v
 move_at u d (suc k) t v = pick (t == 2) (pick (nat_lt v k) v (move_word u d v)) v
 
--- a rewriting that keeps the length: refusal n where a test fails, then 14, else the words ws
-unfoldable pub same_length : (Item → Bool) → List ℕ → ℕ → List ℕ → List ℕ → ℕ → Outcome
-same_length q ws n row marks room = needs n (all_items q (items row marks)) (needs 14 (nat_le (length row) room) (answer ws))
+-- a rewriting that keeps the length: refusal r where a test fails, then a short output row, else the words ws
+unfoldable pub same_length : (Item → Bool) → List ℕ → Refusal → List ℕ → List ℕ → ℕ → Outcome
+same_length q ws r row marks room = needs r (all_items q (items row marks)) (needs OutputTooShort (nat_le (length row) room) (answer ws))
 
-abbrev pub low_or_high : ℕ → ℕ
-low_or_high d = pick (d == 0) 7 6
+abbrev pub low_or_high : ℕ → Refusal
+low_or_high d = pick (d == 0) OutOfLimits Captured
 
 -- shift of a row that is marked throughout; any other is refused as no form
 unfoldable pub shift_words : List ℕ → List ℕ → ℕ → ℕ → ℕ → Outcome
 shift_words row marks u d room =
-    needs 2 (nat_le (length row) (length marks)) (same_length (item_in d (65536 - u)) (wordwise (move_at u d) 0 0 row marks) (low_or_high d) row marks room)
+    needs (Broken 0) (nat_le (length row) (length marks)) (same_length (item_in d (65536 - u)) (wordwise (move_at u d) 0 0 row marks) (low_or_high d) row marks room)

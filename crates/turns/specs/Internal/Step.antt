@@ -1,7 +1,7 @@
 -- What is done in a turn, before its line is answered.
 use Rattle.std.specs.Prelude.{◌≡◌, Bool, true, List, [], ℕ, ◌+◌, ◌-◌, ◌≤◌, length, take, drop}
-use Rattle.form.specs.declared.answer.Answer.{Answer}
-use Rattle.form.specs.declared.answer.Answer.TheVariants.{Done}
+use Rattle.form.specs.Answer.{Answer}
+use Rattle.std.specs.Prelude.{Ok}
 use Rattle.turns.specs.Output.{answer_to}
 use Rattle.turns.specs.Turn.{Piece, printed_of, of_piece}
 use Rattle.turns.specs.declared.state.State.{State}
@@ -49,4 +49,4 @@ allowed rows st input output (Plain t) = Unit {0}
 pub record Ending (a : Answer) (used room r : ℕ) : Type 0 where
   pub least : used ≤ r
   pub most : r ≤ room
-  pub done : (n : ℕ) → a ≡ Done n → used + n ≤ room → r ≡ used + n
+  pub done : (n : ℕ) → a ≡ Ok n → used + n ≤ room → r ≡ used + n

@@ -3,4 +3,4 @@ use native.Mathlib.Omega.{arith}
 use Rattle.broken.proofs.due.least_later.Goals as goal
 
 pub returns : goal.returns
-returns c = record { value = least-later _ _ _ _ _ _ c.wide.ensures c.wide-2.ensures c.least_kids.ensures.value; upper_bound = omega arith }
+returns c = record { value = least-later _ _ _ _ c.least_kids.ensures.value; upper_bound = omega arith }

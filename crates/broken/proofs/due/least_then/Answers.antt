@@ -1,5 +1,4 @@
 use Rattle.broken.specs.Internal.Seeks.{next_then}
-use Rattle.broken.proofs.DueLaws.{least-first-flag}
 use native.Mathlib.Omega.{arith}
 use Rattle.form.specs.Break.{least}
 use Rattle.broken.proofs.due.least_then.Goals as goal
@@ -34,20 +33,12 @@ returns-in-NotedDeclared c = record { value = rw c.in-NotedDeclared.is (omega ar
 
 pub returns-in-Noted : goal.returns-in-Noted
 unfolding next_then
-returns-in-Noted c = record { value = rw c.in-Noted.is c.least_first-in-Noted.ensures.value; upper_bound = omega arith }
+returns-in-Noted c = record { value = rw c.in-Noted.is c.least_decls-in-Noted.ensures.value; upper_bound = omega arith }
 
 pub returns-in-Flag : goal.returns-in-Flag
 unfolding next_then least
-returns-in-Flag c = record { value = rw c.in-Flag.is (omega arith); upper_bound = omega arith }
-
-pub returns-in-FirstFlag : goal.returns-in-FirstFlag
-unfolding next_then
-returns-in-FirstFlag c = record { value = rw c.in-FirstFlag.is (let h = least-first-flag _ _ _ _ c.least_note.ensures.value in omega arith); upper_bound = omega arith }
+returns-in-Flag c = record { value = rw c.in-Flag.is c.least_flag.ensures.value; upper_bound = omega arith }
 
 pub returns-in-Decl : goal.returns-in-Decl
 unfolding next_then
 returns-in-Decl c = record { value = rw c.in-Decl.is c.least_decl.ensures.value; upper_bound = omega arith }
-
-pub returns-in-FirstDecl : goal.returns-in-FirstDecl
-unfolding next_then
-returns-in-FirstDecl c = record { value = rw c.in-FirstDecl.is c.least_first_decl.ensures.value; upper_bound = omega arith }

@@ -31,20 +31,12 @@ returns-in-NotedDeclared c = rw c.in-NotedDeclared.is
 
 pub returns-in-Noted : goal.returns-in-Noted
 unfolding next_then
-returns-in-Noted c = rw c.in-Noted.is c.first_decls.ensures
+returns-in-Noted c = rw c.in-Noted.is c.decls_due.ensures
 
 pub returns-in-Flag : goal.returns-in-Flag
 unfolding next_then next_due
-returns-in-Flag c = rw c.in-Flag.is
-
-pub returns-in-FirstFlag : goal.returns-in-FirstFlag
-unfolding next_then
-returns-in-FirstFlag c = rw c.in-FirstFlag.is c.first_flag.ensures
+returns-in-Flag c = rw (c.in-Flag.is, c.low_flag.ensures)
 
 pub returns-in-Decl : goal.returns-in-Decl
 unfolding next_then
 returns-in-Decl c = rw c.in-Decl.is c.after_flag.ensures
-
-pub returns-in-FirstDecl : goal.returns-in-FirstDecl
-unfolding next_then
-returns-in-FirstDecl c = rw c.in-FirstDecl.is c.after_first_flag.ensures

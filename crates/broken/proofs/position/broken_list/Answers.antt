@@ -1,4 +1,4 @@
-use borrow.Author.Tests.{leb-true, not-true, not-false}
+use borrow.Author.Tests.{leb-true}
 use native.Mathlib.Omega.{arith}
 use Rattle.broken.proofs.SeekLaws.{told-true, told-false}
 use Rattle.broken.proofs.EntryLaws.{no-entry, list_over, entry-stop, entry-broken, entry-go, quick-go}
@@ -34,20 +34,20 @@ returns-then-not-fits c = entry-stop _ _ _ c.loop-p.invariant c.loop-p-test.true
 pub overflow_add-p-else-words-gt0-2 : goal.overflow_add-p-else-words-gt0-2
 overflow_add-p-else-words-gt0-2 c = omega arith
 
-pub seek-s-requires : goal.seek-s-requires
-seek-s-requires c = leb-true _ _ (told-true c.fits.ensures c.if-not-fits.false-raw)
+pub seek-requires : goal.seek-requires
+seek-requires c = leb-true _ _ (told-true c.fits.ensures c.if-not-fits.false-raw)
 
-pub overflow_cast-result-then-not-s : goal.overflow_cast-result-then-not-s
-overflow_cast-result-then-not-s c = omega arith
+pub overflow_cast-result-in-Err : goal.overflow_cast-result-in-Err
+overflow_cast-result-in-Err c = let low = (entry-broken _ _ _ c.loop-p.invariant c.loop-p-test.true _ c.entry_due-due.ensures (told-true c.fits.ensures c.if-not-fits.false-raw) _ c.seek.ensures c.in-Err.is).0 in omega arith
 
-pub returns-then-not-s : goal.returns-then-not-s
-returns-then-not-s c = entry-broken _ _ _ c.loop-p.invariant c.loop-p-test.true _ c.entry_due-due.ensures (told-true c.fits.ensures c.if-not-fits.false-raw) _ c.seek-s.ensures (not-true _ c.if-not-s.true)
+pub returns-in-Err : goal.returns-in-Err
+returns-in-Err c = (entry-broken _ _ _ c.loop-p.invariant c.loop-p-test.true _ c.entry_due-due.ensures (told-true c.fits.ensures c.if-not-fits.false-raw) _ c.seek.ensures c.in-Err.is).1
 
 pub loop-p-smaller : goal.loop-p-smaller
-loop-p-smaller c = omega arith
+loop-p-smaller c = let on = (entry-go _ _ _ c.loop-p.invariant c.loop-p-test.true _ c.entry_due-due.ensures (told-true c.fits.ensures c.if-not-fits.false-raw) _ c.seek.ensures c.in-Ok.is).0 in omega arith
 
 pub loop-p-preserved : goal.loop-p-preserved
-loop-p-preserved c = entry-go _ _ _ c.loop-p.invariant c.loop-p-test.true _ c.entry_due-due.ensures (told-true c.fits.ensures c.if-not-fits.false-raw) _ c.seek-s.ensures (not-false _ c.if-not-s.false)
+loop-p-preserved c = (entry-go _ _ _ c.loop-p.invariant c.loop-p-test.true _ c.entry_due-due.ensures (told-true c.fits.ensures c.if-not-fits.false-raw) _ c.seek.ensures c.in-Ok.is).1
 
 pub overflow_cast-result-2 : goal.overflow_cast-result-2
 overflow_cast-result-2 c = omega arith

@@ -3,11 +3,11 @@ use native.Mathlib.Omega.{arith}
 use Rattle.form.proofs.HeadLaws.{asked_in, ask-go, ask-stop, no_kids}
 use Rattle.form.proofs.head.exprs_head.Goals as goal
 
-pub returns-in_default : goal.returns-in_default
-returns-in_default c = sym (ask-stop _ _ _ _ _ (sym c.asked.ensures ∙ c.in_default.is))
+pub returns-in_err-n : goal.returns-in_err-n
+returns-in_err-n c = rw c.from_residual.ensures (sym (ask-stop _ _ _ _ _ (sym c.asked.ensures ∙ c.in_err-n.was)))
 
 pub overflow_add-result : goal.overflow_add-result
-overflow_add-result c = let h = asked_in _ _ c.args.row.now c.args.at _ (sym c.asked.ensures ∙ c.in-Is.is) in omega arith
+overflow_add-result c = let h = asked_in _ _ c.args.row.now c.args.at _ (sym c.asked.ensures ∙ c.in_ok-n.was) in omega arith
 
 pub returns : goal.returns
-returns c = sym (ask-go _ _ _ _ _ _ (sym c.asked.ensures ∙ c.in-Is.is) ∙ no_kids _ _ _ _)
+returns c = sym (ask-go _ _ _ _ _ _ (sym c.asked.ensures ∙ c.in_ok-n.was) ∙ no_kids _ _ _ _)

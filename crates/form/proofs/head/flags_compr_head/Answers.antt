@@ -3,11 +3,11 @@ use native.Mathlib.Omega.{arith}
 use Rattle.form.proofs.HeadLaws.{asked_in, ask-go, ask-stop}
 use Rattle.form.proofs.head.flags_compr_head.Goals as goal
 
-pub returns-in_default : goal.returns-in_default
-returns-in_default c = sym (ask-stop _ _ _ _ _ (sym c.asked.ensures ∙ c.in_default.is))
+pub returns-in_err-asked : goal.returns-in_err-asked
+returns-in_err-asked c = rw c.from_residual.ensures (sym (ask-stop _ _ _ _ _ (sym c.asked.ensures ∙ c.in_err-asked.was)))
 
 pub overflow_add-at : goal.overflow_add-at
-overflow_add-at c = let h = asked_in _ _ c.args.row.now c.args.at _ (sym c.asked.ensures ∙ c.in-Is.is) in omega arith
+overflow_add-at c = let h = asked_in _ _ c.args.row.now c.args.at _ (sym c.asked.ensures ∙ c.in_ok-asked.was) in omega arith
 
 pub returns : goal.returns
-returns c = c.flags_head.ensures ∙ sym (ask-go _ _ _ _ _ _ (sym c.asked.ensures ∙ c.in-Is.is))
+returns c = c.flags_head.ensures ∙ sym (ask-go _ _ _ _ _ _ (sym c.asked.ensures ∙ c.in_ok-asked.was))

@@ -1,20 +1,25 @@
-use mathlib.Core.Path.{sym, ◌∙◌}
-use mathlib.Core.Path.{refl}
+use mathlib.Core.Path.{◌≡◌, refl, sym, ◌∙◌}
+use Prim.Native.Nat.{◌+◌, ◌-◌}
+use native.Mathlib.Numerals.{unary_clauses}
 use native.Mathlib.Omega.{arith}
 use Rattle.form.proofs.HeadLaws.{asked_in, names_more, names-stop, names-none}
 use Rattle.form.proofs.head.names_end.Goals as goal
 
-pub loop-left-init : goal.loop-left-init
-loop-left-init c = refl
+pub loop-init : goal.loop-init
+loop-init c = simp unary_clauses refl
 
-pub returns-in_default : goal.returns-in_default
-returns-in_default c = sym (c.loop-left.invariant ∙ names-stop _ _ _ c.loop-left-test.true (sym c.asked.ensures ∙ c.in_default.is))
+pub returns-in_err-asked : goal.returns-in_err-asked
+returns-in_err-asked c =
+    rw c.from_residual.ensures (sym (c.loop.invariant ∙ names-stop c.args.row.now (c.args.n - c.loop.counter) c.loop.p (let h = c.loop-test.true in omega arith) (sym c.asked.ensures ∙ c.in_err-asked.was)))
 
 pub overflow_add-p : goal.overflow_add-p
-overflow_add-p c = let h = asked_in _ _ c.args.row.now c.loop-left.p _ (sym c.asked.ensures ∙ c.in-Is.is) in omega arith
+overflow_add-p c = let h = asked_in _ _ c.args.row.now c.loop.p _ (sym c.asked.ensures ∙ c.in_ok-asked.was) in omega arith
 
-pub loop-left-preserved : goal.loop-left-preserved
-loop-left-preserved c = c.loop-left.invariant ∙ names_more _ _ _ _ c.loop-left-test.true (sym c.asked.ensures ∙ c.in-Is.is)
+pub loop-preserved : goal.loop-preserved
+loop-preserved c =
+    let step = names_more c.args.row.now (c.args.n - c.loop.counter) c.loop.p _ (let h = c.loop-test.true in omega arith) (sym c.asked.ensures ∙ c.in_ok-asked.was) in
+    let left : c.args.n - (c.loop.counter + 1) ≡ c.args.n - c.loop.counter - 1 = omega arith in
+    c.loop.invariant ∙ rw left step
 
 pub returns : goal.returns
-returns c = sym (c.loop-left.invariant ∙ names-none _ _ _ c.loop-left-test.false)
+returns c = sym (c.loop.invariant ∙ names-none (c.args.n - c.loop.counter) c.loop.p _ (let h = c.loop-test.false in omega arith))

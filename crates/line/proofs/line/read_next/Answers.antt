@@ -1,5 +1,3 @@
-use mir.Syntax.{w32}
-use mir.ValLaws.{to_z-of_z}
 use Rattle.line.proofs.LineLaws.{next_past, next-other, next-go}
 use Rattle.line.proofs.line.read_next.Goals as goal
 
@@ -10,4 +8,4 @@ pub returns-then-line-at-ne32 : goal.returns-then-line-at-ne32
 returns-then-line-at-ne32 c = next-other _ _ _ _ _ _ c.if-line-at.false c.if-line-at-ne32.true
 
 pub returns : goal.returns
-returns c = next-go _ _ _ _ _ _ c.if-line-at.false c.if-line-at-ne32.false _ _ (rw (to_z-of_z w32 c.args.offset c.ranges.offset) at c.read_form.ensures)
+returns c = next-go _ _ _ _ _ _ c.if-line-at.false c.if-line-at-ne32.false _ _ c.read_form.ensures

@@ -1,3 +1,4 @@
+use mathlib.Core.Logic.{inl, inr}
 use Rattle.line.specs.Scan.{finished}
 use Rattle.line.specs.Internal.Places.{number_at}
 use Rattle.line.proofs.ScanLaws.{number-end}
@@ -5,15 +6,7 @@ use Rattle.line.proofs.number.ended.Goals as goal
 
 pub returns-in-Opened : goal.returns-in-Opened
 unfolding finished number_at
-returns-in-Opened c = rw c.in-Opened.is
-
-pub returns-in-Spaced : goal.returns-in-Spaced
-unfolding finished number_at
-returns-in-Spaced c = rw c.in-Spaced.is
-
-pub returns-in-Closed : goal.returns-in-Closed
-unfolding finished number_at
-returns-in-Closed c = rw c.in-Closed.is
+returns-in-Opened c = elim c.in-Opened.is [ inl e ↦ rw e | inr d ↦ elim d [ inl e ↦ rw e | inr e ↦ rw e ] ]
 
 pub returns-in-Digits : goal.returns-in-Digits
 unfolding finished number_at

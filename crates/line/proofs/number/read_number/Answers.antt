@@ -1,34 +1,30 @@
-use mathlib.Core.Path.{refl, sym, ◌∙◌}
+use mathlib.Core.Path.{◌≡◌, ap, sym, ◌∙◌}
 use native.Mathlib.Omega.{arith}
-use Rattle.line.proofs.ScanLaws.{number-low, number-high, number-bad, number_more, number_past}
+use lib.ListN.{length, get_or}
+use Rattle.line.specs.declared.turn.State.TheVariants.{Spaced}
+use Rattle.line.specs.Scan.{finished}
+use Rattle.line.specs.Internal.Places.{number_at}
+use Rattle.line.proofs.ScanLaws.{number_past, number-other, number-bad, number_more, digit-is, a-digit}
 use Rattle.line.proofs.number.read_number.Goals as goal
 
-pub loop-p-init : goal.loop-p-init
-loop-p-init c = refl
+pub returns-then-line-at : goal.returns-then-line-at
+unfolding number_at finished
+returns-then-line-at c = sym (number_past c.args.line.now c.args.at Spaced (let h = c.if-line-at.true in omega arith))
 
-pub bounds-line-p : goal.bounds-line-p
-bounds-line-p c = omega arith
+pub returns-then-not-is_ascii_digit : goal.returns-then-not-is_ascii_digit
+returns-then-not-is_ascii_digit c = c.ended.ensures ∙ sym (number-other _ _ _ c.loop-p-test.true (digit-is (get_or c.args.line.now c.loop-p.p 0) c.is_ascii_digit.ensures.value _ c.if-not-is_ascii_digit.true)) ∙ c.loop-p.invariant
 
-pub returns-then-b-lt48 : goal.returns-then-b-lt48
-returns-then-b-lt48 c = c.ended.ensures ∙ sym (number-low _ _ _ c.loop-p-test.true c.if-b-lt48.true) ∙ c.loop-p.invariant
-
-pub returns-then-b-gt57 : goal.returns-then-b-gt57
-returns-then-b-gt57 c = c.ended-then-b-gt57.ensures ∙ sym (number-high _ _ _ c.loop-p-test.true c.if-b-lt48.false c.if-b-gt57.true) ∙ c.loop-p.invariant
-
-pub after_digit-requires : goal.after_digit-requires
-after_digit-requires c = omega arith
-
-pub returns-in_default : goal.returns-in_default
-returns-in_default c = sym (number-bad _ _ _ c.loop-p-test.true c.if-b-lt48.false c.if-b-gt57.false c.after_digit.ensures c.in_default.is) ∙ c.loop-p.invariant
-
-pub overflow_add-p : goal.overflow_add-p
-overflow_add-p c = omega arith
-
-pub loop-p-smaller : goal.loop-p-smaller
-loop-p-smaller c = omega arith
+pub returns-in_err-state : goal.returns-in_err-state
+returns-in_err-state c =
+    let (l, g) = a-digit (get_or c.args.line.now c.loop-p.p 0) c.is_ascii_digit.ensures.value c.if-not-is_ascii_digit.false in
+    rw c.from_residual.ensures (sym (number-bad _ _ _ c.loop-p-test.true l g (rw c.from.ensures at c.after_digit.ensures) c.in_err-state.was) ∙ c.loop-p.invariant)
 
 pub loop-p-preserved : goal.loop-p-preserved
-loop-p-preserved c = sym (number_more _ _ _ c.loop-p-test.true c.if-b-lt48.false c.if-b-gt57.false c.after_digit.ensures _ c.in-To.is) ∙ c.loop-p.invariant
+loop-p-preserved c =
+    let (l, g) = a-digit (get_or c.args.line.now c.loop-p.p 0) c.is_ascii_digit.ensures.value c.if-not-is_ascii_digit.false in
+    sym (number_more _ _ _ c.loop-p-test.true l g (rw c.from.ensures at c.after_digit.ensures) _ c.in_ok-state.was) ∙ c.loop-p.invariant
 
 pub returns : goal.returns
-returns c = c.ended-2.ensures ∙ sym (number_past _ _ _ c.loop-p-test.false) ∙ c.loop-p.invariant
+returns c =
+    let e : length c.args.line.now ≡ c.loop-p.p = omega arith in
+    c.ended-2.ensures ∙ ap (λ n. number_at n (finished c.loop-p.state)) e ∙ sym (number_past _ _ _ c.loop-p-test.false) ∙ c.loop-p.invariant

@@ -1,13 +1,10 @@
+use mathlib.Core.Logic.{inl, inr}
 use Rattle.line.specs.Scan.{on_digit}
 use Rattle.line.proofs.turn.after_digit.Goals as goal
 
 pub returns-in-Opened : goal.returns-in-Opened
 unfolding on_digit
-returns-in-Opened c = rw c.in-Opened.is
-
-pub returns-in-Spaced : goal.returns-in-Spaced
-unfolding on_digit
-returns-in-Spaced c = rw c.in-Spaced.is
+returns-in-Opened c = elim c.in-Opened.is [ inl e ↦ rw e | inr e ↦ rw e ]
 
 pub returns-in-Closed : goal.returns-in-Closed
 unfolding on_digit

@@ -1,15 +1,16 @@
+use native.Mathlib.Omega.{arith}
 use borrow.Author.Tests.{eq-eqb, ne_eqb}
 use Rattle.line.specs.Scan.{depth_after}
 use Rattle.line.proofs.turn.depth_after.Goals as goal
 
-pub returns-then-byte-eq91 : goal.returns-then-byte-eq91
+pub returns-in-91 : goal.returns-in-91
 unfolding depth_after
-returns-then-byte-eq91 c = rw (eq-eqb _ _ c.if-byte-eq91.true)
+returns-in-91 c = rw (eq-eqb c.args.byte 91 (omega arith))
 
-pub returns-then-byte-eq93 : goal.returns-then-byte-eq93
+pub returns-in-93 : goal.returns-in-93
 unfolding depth_after
-returns-then-byte-eq93 c = rw (ne_eqb _ _ c.if-byte-eq91.false, eq-eqb _ _ c.if-byte-eq93.true)
+returns-in-93 c = rw (ne_eqb c.args.byte 91 (λ e. omega arith), eq-eqb c.args.byte 93 (omega arith))
 
-pub returns : goal.returns
+pub returns-in_default : goal.returns-in_default
 unfolding depth_after
-returns c = rw (ne_eqb _ _ c.if-byte-eq91.false, ne_eqb _ _ c.if-byte-eq93.false)
+returns-in_default c = rw (ne_eqb c.args.byte 91 (λ e. omega arith), ne_eqb c.args.byte 93 (λ e. omega arith))

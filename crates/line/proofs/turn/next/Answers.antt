@@ -1,28 +1,31 @@
 use native.Mathlib.Omega.{arith}
-use borrow.Author.Tests.{eq-eqb, ne_eqb, le-leb, lt-leb}
+use borrow.Author.Tests.{le-leb, lt-leb, eq-eqb, ne_eqb}
 use Rattle.line.specs.Scan.{turn}
 use Rattle.line.proofs.turn.next.Goals as goal
 
-pub returns-then-byte-eq32 : goal.returns-then-byte-eq32
+pub returns-in-32 : goal.returns-in-32
 unfolding turn
-returns-then-byte-eq32 c = rw (ne_eqb c.args.byte 91 (λ e. omega arith), ne_eqb c.args.byte 93 (λ e. omega arith), eq-eqb _ _ c.if-byte-eq32.true) c.after_space.ensures
+returns-in-32 c = rw (ne_eqb c.args.byte 91 (λ e. omega arith), ne_eqb c.args.byte 93 (λ e. omega arith), eq-eqb c.args.byte 32 (omega arith)) c.after_space.ensures
 
-pub returns-then-byte-lt48 : goal.returns-then-byte-lt48
+pub returns-in-91 : goal.returns-in-91
 unfolding turn
-returns-then-byte-lt48 c = rw (ne_eqb c.args.byte 91 (λ e. omega arith), ne_eqb c.args.byte 93 (λ e. omega arith), ne_eqb _ _ c.if-byte-eq32.false, lt-leb 48 _ c.if-byte-lt48.true)
+returns-in-91 c = rw (eq-eqb c.args.byte 91 (omega arith)) c.after_open.ensures
 
-pub returns-then-byte-le57 : goal.returns-then-byte-le57
+pub returns-in-93 : goal.returns-in-93
 unfolding turn
-returns-then-byte-le57 c = rw (ne_eqb c.args.byte 91 (λ e. omega arith), ne_eqb c.args.byte 93 (λ e. omega arith), ne_eqb c.args.byte 32 (λ e. omega arith), le-leb 48 _ c.if-byte-lt48.false, le-leb _ 57 c.if-byte-le57.true) c.after_digit.ensures
+returns-in-93 c = rw (ne_eqb c.args.byte 91 (λ e. omega arith), eq-eqb c.args.byte 93 (omega arith)) c.after_close.ensures
 
-pub returns-then-byte-eq91 : goal.returns-then-byte-eq91
+pub returns-in-48-to-57 : goal.returns-in-48-to-57
 unfolding turn
-returns-then-byte-eq91 c = rw (eq-eqb _ _ c.if-byte-eq91.true) c.after_open.ensures
+returns-in-48-to-57 c =
+    rw (ne_eqb c.args.byte 91 (λ e. omega arith), ne_eqb c.args.byte 93 (λ e. omega arith), ne_eqb c.args.byte 32 (λ e. omega arith), le-leb 48 c.args.byte (omega arith), le-leb c.args.byte 57 (omega arith))
+    (rw c.from.ensures at c.after_digit.ensures)
 
-pub returns-then-byte-eq93 : goal.returns-then-byte-eq93
+pub returns-in_default : goal.returns-in_default
 unfolding turn
-returns-then-byte-eq93 c = rw (ne_eqb _ _ c.if-byte-eq91.false, eq-eqb _ _ c.if-byte-eq93.true) c.after_close.ensures
+returns-in_default c = rw (ne_eqb c.args.byte 91 (λ e. omega arith), ne_eqb c.args.byte 93 (λ e. omega arith), ne_eqb c.args.byte 32 (λ e. omega arith), lt-leb 48 c.args.byte (omega arith))
 
-pub returns : goal.returns
+pub returns-in_default-2 : goal.returns-in_default-2
 unfolding turn
-returns c = rw (ne_eqb _ _ c.if-byte-eq91.false, ne_eqb _ _ c.if-byte-eq93.false, ne_eqb c.args.byte 32 (λ e. omega arith), le-leb 48 _ c.if-byte-lt48.false, lt-leb _ 57 c.if-byte-le57.false)
+returns-in_default-2 c =
+    rw (ne_eqb c.args.byte 91 (λ e. omega arith), ne_eqb c.args.byte 93 (λ e. omega arith), ne_eqb c.args.byte 32 (λ e. omega arith), le-leb 48 c.args.byte (omega arith), lt-leb c.args.byte 57 (omega arith))

@@ -1,3 +1,4 @@
+use mathlib.Core.Logic.{inl, inr}
 use Rattle.line.specs.Scan.{note}
 use Rattle.line.proofs.turn.noted.Goals as goal
 
@@ -7,11 +8,7 @@ returns-in-Opened c = rw c.in-Opened.is c.place_mark.ensures
 
 pub returns-in-Spaced : goal.returns-in-Spaced
 unfolding note
-returns-in-Spaced c = rw c.in-Spaced.is
-
-pub returns-in-Closed : goal.returns-in-Closed
-unfolding note
-returns-in-Closed c = rw c.in-Closed.is
+returns-in-Spaced c = elim c.in-Spaced.is [ inl e ↦ rw e | inr e ↦ rw e ]
 
 pub returns-in-Digits : goal.returns-in-Digits
 unfolding note

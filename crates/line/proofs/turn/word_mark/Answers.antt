@@ -1,15 +1,11 @@
-use borrow.Author.Tests.{le-leb, lt-leb}
 use Rattle.line.specs.Scan.{note}
+use Rattle.line.proofs.ScanLaws.{digit-is}
 use Rattle.line.proofs.turn.word_mark.Goals as goal
 
-pub returns-then-byte-lt48 : goal.returns-then-byte-lt48
+pub returns-then-is_ascii_digit : goal.returns-then-is_ascii_digit
 unfolding note
-returns-then-byte-lt48 c = rw (lt-leb 48 _ c.if-byte-lt48.true)
-
-pub returns-then-byte-gt57 : goal.returns-then-byte-gt57
-unfolding note
-returns-then-byte-gt57 c = rw (le-leb 48 _ c.if-byte-lt48.false, lt-leb _ 57 c.if-byte-gt57.true)
+returns-then-is_ascii_digit c = rw (digit-is c.args.byte c.is_ascii_digit.ensures.value _ c.if-is_ascii_digit.true)
 
 pub returns : goal.returns
 unfolding note
-returns c = rw (le-leb 48 _ c.if-byte-lt48.false, le-leb _ 57 c.if-byte-gt57.false)
+returns c = rw (digit-is c.args.byte c.is_ascii_digit.ensures.value _ c.if-is_ascii_digit.false)

@@ -1,14 +1,14 @@
 use Prim.Native.Nat.{◌-◌}
 use lib.ListN.{length, take, drop}
 use Rattle.shift.proofs.CheckedLaws.{passed}
-use Rattle.replace.specs.Internal.Pieces.{table_of, Ready, fill_plan}
+use Rattle.replace.specs.Internal.Pieces.{Ready, fill_plan}
 use Rattle.replace.proofs.BuildLaws.{rest_part}
 use Rattle.listed.proofs.FillLaws.{same-filled}
 use Rattle.tree.proofs.Pairs.{both}
 use Rattle.listed.proofs.fill.fill_marked.Goals as goal
 
 pub fill_with-requires : goal.fill_with-requires
-fill_with-requires c = let t = table_of c.args.n c.args.words.now c.args.starts.now c.args.ends.now in
+fill_with-requires c = let t = c.args.table.now in
     let h : Ready (fill_plan t) c.args.list.now (take (length c.args.work.now - 8192) (drop 8192 c.args.work.now)) = rw (rest_part c.args.work.now 8192) c.requires.ready in
     record { ready = h; n_in_bounds = c.requires.n_in_bounds }
 

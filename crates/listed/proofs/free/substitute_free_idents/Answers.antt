@@ -4,7 +4,6 @@ use Rattle.form.specs.Decode.{form_of}
 use mathlib.Core.Path.{refl}
 use Prim.Native.Nat.{◌≤◌}
 use native.Mathlib.Omega.{arith}
-use borrow.Author.Tests.{not-true, not-false}
 use lib.ListN.{length}
 use Rattle.reader.specs.Internal.Reads.{empty_table}
 use Rattle.reader.proofs.TableLaws.{listing-no}
@@ -26,34 +25,34 @@ pub returns-then-row-gt-WORDS : goal.returns-then-row-gt-WORDS
 returns-then-row-gt-WORDS c = both (λ v w. record { value = v; out_after = w }) (refused _ _ _ _ (free-long c.args.list.now c.args.row.now _ _ c.if-work-lt16384.false c.if-row-gt-WORDS.true) refl)
 
 pub returns-then-list-gt-WORDS : goal.returns-then-list-gt-WORDS
-returns-then-list-gt-WORDS c = both (λ v w. record { value = v; out_after = w }) (refused-by _ (has_form (form_of Either c.args.row.now)) (break_at Either c.args.row.now) _ _ (free-list-long c.args.list.now c.args.row.now _ _ c.if-work-lt16384.false c.if-row-gt-WORDS.false c.if-list-gt-WORDS.true) c.refuse_list.ensures)
+returns-then-list-gt-WORDS c = both (λ v w. record { value = v; out_after = w }) (refused-by _ (has_form (form_of Either c.args.row.now)) (break_at Either c.args.row.now) _ _ (free-list-long c.args.list.now c.args.row.now _ _ c.if-work-lt16384.false c.if-row-gt-WORDS.false c.if-list-gt-WORDS.true) c.list_refusal.ensures)
 
 pub mark_row-requires : goal.mark_row-requires
-mark_row-requires c = let left = leaves_by _ _ _ _ _ c.depth_left_by-depth.ensures in let h : 8192 ≤ length c.mark_entries-listed.new.work = omega arith in record { depth_bound = left.most; in_bounds = h; row_len_bound = c.if-row-gt-WORDS.false }
+mark_row-requires c = let left = leaves_by _ _ _ c.depth_left_by-depth.ensures in let h : 8192 ≤ length c.mark_entries-is_list.new.work = omega arith in record { depth_bound = left.most; in_bounds = h; row_len_bound = c.if-row-gt-WORDS.false }
 
 pub returns-in_default : goal.returns-in_default
-returns-in_default c = let left = leaves_by _ _ _ _ _ c.depth_left_by-depth.ensures in both (λ v w. record { value = v; out_after = w }) (refused-at _ _ _ _ _ (free-missing c.args.list.now c.args.row.now _ _ c.if-work-lt16384.false c.if-row-gt-WORDS.false (reading-missing _ left.most _ _ _ c.mark_row.ensures.value c.in_default.is)) c.broken_at.ensures)
+returns-in_default c = let left = leaves_by _ _ _ c.depth_left_by-depth.ensures in both (λ v w. record { value = v; out_after = w }) (refused-at _ _ _ _ (free-missing c.args.list.now c.args.row.now _ _ c.if-work-lt16384.false c.if-row-gt-WORDS.false (reading-missing _ left.most _ _ _ c.mark_row.ensures.value c.in_default.is)) c.broken_at.ensures)
 
-pub returns-then-not-listed : goal.returns-then-not-listed
-returns-then-not-listed c = let left = leaves_by _ _ _ _ _ c.depth_left_by-depth.ensures in
-    let x = reading-checked _ left.most Either c.args.row.now _ (length c.args.row.now) _ refl _ _ c.if-row-gt-WORDS.false c.mark_row.ensures.value c.in-Taken.is c.mark_row.ensures.marked in
-    both (λ v w. record { value = v; out_after = w }) (refused-at _ _ _ _ _ (free-no-list c.args.list.now c.args.row.now _ _ c.if-work-lt16384.false _ x c.if-list-gt-WORDS.false (listing-no _ _ _ _ _ _ c.mark_entries-listed.ensures (not-true _ c.if-not-listed.true))) c.broken_list.ensures)
+pub returns-then-not-is_list : goal.returns-then-not-is_list
+returns-then-not-is_list c = let left = leaves_by _ _ _ c.depth_left_by-depth.ensures in
+    let x = reading-checked _ left.most Either c.args.row.now _ (length c.args.row.now) _ refl _ _ c.if-row-gt-WORDS.false c.mark_row.ensures.value c.in-Some.is c.mark_row.ensures.marked in
+    both (λ v w. record { value = v; out_after = w }) (refused-at _ _ _ _ (free-no-list c.args.list.now c.args.row.now _ _ c.if-work-lt16384.false _ x c.if-list-gt-WORDS.false (listing-no _ _ _ _ _ _ (rw c.new-table.ensures at c.mark_entries-is_list.ensures) c.if-not-is_list.true)) c.broken_list.ensures)
 
 pub returns-then-not-good_table : goal.returns-then-not-good_table
 unfolding empty_table
-returns-then-not-good_table c = let left = leaves_by _ _ _ _ _ c.depth_left_by-depth.ensures in
-    let x = reading-checked _ left.most Either c.args.row.now _ (length c.args.row.now) _ refl _ _ c.if-row-gt-WORDS.false c.mark_row.ensures.value c.in-Taken.is c.mark_row.ensures.marked in
-    both (λ v w. record { value = v; out_after = w }) (refused _ _ _ _ (free-bad c.args.list.now c.args.row.now _ _ c.if-work-lt16384.false _ x c.if-list-gt-WORDS.false _ _ _ _ c.mark_entries-listed.ensures (not-false _ c.if-not-listed.false) _ c.good_table.ensures c.if-not-good_table.true) refl)
+returns-then-not-good_table c = let left = leaves_by _ _ _ c.depth_left_by-depth.ensures in
+    let x = reading-checked _ left.most Either c.args.row.now _ (length c.args.row.now) _ refl _ _ c.if-row-gt-WORDS.false c.mark_row.ensures.value c.in-Some.is c.mark_row.ensures.marked in
+    both (λ v w. record { value = v; out_after = w }) (refused _ _ _ _ (free-bad c.args.list.now c.args.row.now _ _ c.if-work-lt16384.false _ x c.if-list-gt-WORDS.false _ _ _ _ (rw c.new-table.ensures at c.mark_entries-is_list.ensures) c.if-not-is_list.false _ c.good_table.ensures c.if-not-good_table.true) refl)
 
 pub substitute_marked-requires : goal.substitute_marked-requires
 unfolding empty_table
-substitute_marked-requires c = let y = pairing c.args.list.now c.mark_row.new.work _ _ (listing-kept Pairs c.args.list.now c.mark_entries-listed.new.work c.mark_row.new.work _ _ _ c.mark_row.ensures.work_unchanged c.mark_entries-listed.ensures) (not-false _ c.if-not-listed.false) _ c.good_table.ensures c.if-not-good_table.false in
+substitute_marked-requires c = let y = pairing c.args.list.now c.mark_row.new.work _ _ (listing-kept Pairs c.args.list.now c.mark_entries-is_list.new.work c.mark_row.new.work _ _ _ c.mark_row.ensures.work_unchanged (rw c.new-table.ensures at c.mark_entries-is_list.ensures)) c.if-not-is_list.false _ c.good_table.ensures c.if-not-good_table.false in
     let h : 8192 ≤ length c.mark_row.new.work = omega arith in
     record { in_bounds = h; ready = pairs-ready c.args.list.now _ c.mark_row.new.work y (omega arith) }
 
 pub returns : goal.returns
 unfolding empty_table
-returns c = let left = leaves_by _ _ _ _ _ c.depth_left_by-depth.ensures in
-    let x = reading-checked _ left.most Either c.args.row.now _ (length c.args.row.now) _ refl _ _ c.if-row-gt-WORDS.false c.mark_row.ensures.value c.in-Taken.is c.mark_row.ensures.marked in
-    let y = pairing c.args.list.now c.mark_row.new.work _ _ (listing-kept Pairs c.args.list.now c.mark_entries-listed.new.work c.mark_row.new.work _ _ _ c.mark_row.ensures.work_unchanged c.mark_entries-listed.ensures) (not-false _ c.if-not-listed.false) _ c.good_table.ensures c.if-not-good_table.false in
-    both (λ v w. record { value = v; out_after = w }) (passed _ _ _ _ _ (free-row c.args.list.now _ c.mark_row.new.work y c.args.row.now _ _ c.if-work-lt16384.false c.if-list-gt-WORDS.false x _ left _ (reading-shallow _ left.most _ _ _ _ x _ _ c.mark_row.ensures.value c.in-Taken.is)) (c.substitute_marked.ensures.value, c.substitute_marked.ensures.out_after))
+returns c = let left = leaves_by _ _ _ c.depth_left_by-depth.ensures in
+    let x = reading-checked _ left.most Either c.args.row.now _ (length c.args.row.now) _ refl _ _ c.if-row-gt-WORDS.false c.mark_row.ensures.value c.in-Some.is c.mark_row.ensures.marked in
+    let y = pairing c.args.list.now c.mark_row.new.work _ _ (listing-kept Pairs c.args.list.now c.mark_entries-is_list.new.work c.mark_row.new.work _ _ _ c.mark_row.ensures.work_unchanged (rw c.new-table.ensures at c.mark_entries-is_list.ensures)) c.if-not-is_list.false _ c.good_table.ensures c.if-not-good_table.false in
+    both (λ v w. record { value = v; out_after = w }) (passed _ _ _ _ _ (free-row c.args.list.now _ c.mark_row.new.work y c.args.row.now _ _ c.if-work-lt16384.false c.if-list-gt-WORDS.false x _ left _ (reading-shallow _ left.most _ _ _ _ x _ _ c.mark_row.ensures.value c.in-Some.is)) (c.substitute_marked.ensures.value, c.substitute_marked.ensures.out_after))

@@ -1,15 +1,14 @@
-use mathlib.Core.Path.{refl, sym, ◌∙◌}
-use Rattle.member.proofs.FillingLaws.{front-more, front-stop, front-end}
+use mathlib.Core.Path.{◌≡◌, ap, sym, ◌∙◌}
+use Rattle.std.proofs.Common.{rules, tests}
+use Rattle.std.proofs.lemmas.Iterator.{YieldsList-from_slice}
+use Rattle.std.proofs.lemmas.Iterator.Search.{position_from_yields_List}
+use Rattle.std.specs.Prelude.{unwrap_or}
+use Rattle.std.specs.List.{position}
+use Rattle.member.proofs.FillingLaws.{some_word, fronts}
 use Rattle.member.proofs.filling.front_of.Goals as goal
 
-pub loop-i-init : goal.loop-i-init
-loop-i-init c = refl
-
-pub returns-then-words-i-ne0 : goal.returns-then-words-i-ne0
-returns-then-words-i-ne0 c = front-stop _ _ c.loop-i-test.true c.if-words-i-ne0.true ∙ sym c.loop-i.invariant
-
-pub loop-i-preserved : goal.loop-i-preserved
-loop-i-preserved c = c.loop-i.invariant ∙ front-more _ _ c.loop-i-test.true c.if-words-i-ne0.false
-
 pub returns : goal.returns
-returns c = front-end _ _ c.loop-i-test.false ∙ sym c.loop-i.invariant
+returns c =
+    let words = c.args.words.now in
+    let found : c.position.result ≡ position some_word words = position_from_yields_List some_word _ _ c.position.result c.position.ensures.ran (YieldsList-from_slice words cc) (λ x b q k. search (rules, tests)) in
+    c.unwrap_or.ensures ∙ (ap (λ z. unwrap_or z 0) found ∙ sym (fronts words))

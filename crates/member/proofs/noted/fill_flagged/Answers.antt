@@ -1,16 +1,8 @@
-use native.Mathlib.Omega.{arith}
 use mathlib.Core.Path.{sym, ◌∙◌}
-use lib.Seq.{length-take-le}
 use Rattle.shift.proofs.CheckedLaws.{passed}
 use Rattle.member.proofs.NotedSteps.{front-in}
 use Rattle.member.proofs.NotedLaws.{told-plain, told-notes, asked-notes, asked-body, asked-front}
 use Rattle.member.proofs.noted.fill_flagged.Goals as goal
-
-pub slice_bounds-front_of-end : goal.slice_bounds-front_of-end
-slice_bounds-front_of-end c = sym (length-take-le _ _ (omega arith))
-
-pub slice_bounds-front_alone-end : goal.slice_bounds-front_alone-end
-slice_bounds-front_alone-end c = sym (length-take-le _ _ (omega arith))
 
 pub front_alone-joins-requires : goal.front_alone-joins-requires
 front_alone-joins-requires c = front-in _ _ c.front_of-j.ensures

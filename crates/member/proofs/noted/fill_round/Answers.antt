@@ -1,9 +1,8 @@
-use mathlib.Core.Path.{refl, sym}
+use mathlib.Core.Path.{◌≡◌}
 use native.Mathlib.Omega.{arith}
-use borrow.Author.Tests.{not-true, not-false}
-use lib.Seq.{length-take-le}
-use Rattle.shift.proofs.CheckedLaws.{refused, passed}
-use Rattle.replace.proofs.BuildLaws.{built-fits}
+use Rattle.std.specs.Prelude.{Some, None}
+use Rattle.form.specs.declared.answer.Refusal.TheVariants.{OutOfLimits}
+use Rattle.shift.proofs.CheckedLaws.{refused-up, passed-on, passed}
 use Rattle.member.proofs.NotedSteps.{round-no, round-yes, round_same}
 use Rattle.tree.proofs.Pairs.{both}
 use Rattle.member.proofs.noted.fill_round.Goals as goal
@@ -11,14 +10,14 @@ use Rattle.member.proofs.noted.fill_round.Goals as goal
 pub returns-then-decls-le256 : goal.returns-then-decls-le256
 returns-then-decls-le256 c = both (λ v w. record { value = v; out_after = w }) (passed _ _ _ _ _ (round_same _ _ _ _ _ _ _ _ _ _ c.if-not-joins.true) (c.fill_apart.ensures.value, c.fill_apart.ensures.out_after))
 
-pub slice_bounds-round_head-end : goal.slice_bounds-round_head-end
-slice_bounds-round_head-end c = sym (length-take-le _ _ (omega arith))
-
-pub returns-then-not-r : goal.returns-then-not-r
-returns-then-not-r c = both (λ v w. record { value = v; out_after = w }) (refused _ _ _ _ (round-no _ _ _ _ _ _ _ _ _ _ _ c.round_head-r.ensures.ok_value (not-true _ c.if-not-r.true)) refl)
-
-pub slice_bounds-hd-end : goal.slice_bounds-hd-end
-slice_bounds-hd-end c = sym (length-take-le _ _ (built-fits c.round_head-r.auto.head refl c.round_head-r.ensures.words_in_bounds))
+pub returns-in_err-round : goal.returns-in_err-round
+returns-in_err-round c =
+    let none : c.round_head.result ≡ None = grind (arith, c.ok_or.ensures.value, c.in_err-round.was) in
+    let e : c.in_err-round.field-0.0 ≡ OutOfLimits = grind (arith, c.ok_or.ensures.value, c.in_err-round.was) in
+    both (λ v w. record { value = v; out_after = w }) (refused-up _ _ _ _ (rw e at (passed-on _ _ c.from_residual.ensures)) (round-no _ _ _ _ _ _ _ _ _ _ (rw none at c.round_head.ensures)))
 
 pub returns : goal.returns
-returns c = both (λ v w. record { value = v; out_after = w }) (passed _ _ _ _ _ (round-yes _ _ _ _ _ _ _ _ _ _ _ c.round_head-r.ensures.ok_value (not-false _ c.if-not-r.false) _ _ c.round_head-r.ensures.head_after c.round_head-r.ensures.from_value) (c.fill_from.ensures.value, c.fill_from.ensures.out_after))
+returns c =
+    let some : c.round_head.result ≡ Some c.in_ok-round.round = grind (arith, c.ok_or.ensures.value, c.in_ok-round.was) in
+    let made = rw some at c.round_head.ensures in
+    both (λ v w. record { value = v; out_after = w }) (passed _ _ _ _ _ (round-yes _ _ _ _ _ _ _ _ _ _ made.0 _ _ made.1) (c.fill_places.ensures.value, c.fill_places.ensures.out_after))

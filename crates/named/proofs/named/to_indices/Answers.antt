@@ -1,22 +1,21 @@
-use mathlib.Core.Path.{refl}
-use native.Mathlib.Omega.{arith}
-use Rattle.named.proofs.SlotLaws.{sized-few, sized-more}
+use Rattle.std.proofs.Common.{refl, arith}
+use Rattle.shift.proofs.CheckedLaws.{refused}
+use Rattle.named.proofs.SlotLaws.{sized-few, sized-more, sized-many}
+use Rattle.named.proofs.CallLaws.{named-long}
+use Rattle.tree.proofs.Pairs.{both}
 use Rattle.named.proofs.named.to_indices.Goals as goal
 
-pub named_in-requires : goal.named_in-requires
-named_in-requires c = record { sized = sized-few _ _ (omega arith) (omega arith); fits = omega arith; short = omega arith; zeros = refl }
+pub named_sized-requires-clause-sized : goal.named_sized-requires-clause-sized
+named_sized-requires-clause-sized c = sized-few _ _ (omega arith) (omega arith)
 
-pub returns-then-row-le64 : goal.returns-then-row-le64
-returns-then-row-le64 c = record { value = c.named_in.ensures.value; out_after = c.named_in.ensures.out_after }
+pub named_sized-requires-in-65-to-512-clause-sized : goal.named_sized-requires-in-65-to-512-clause-sized
+named_sized-requires-in-65-to-512-clause-sized c = sized-more _ _ (omega arith) (omega arith)
 
-pub named_in-requires-then-row-le512 : goal.named_in-requires-then-row-le512
-named_in-requires-then-row-le512 c = record { sized = sized-more _ _ (omega arith) (omega arith); fits = omega arith; short = omega arith; zeros = refl }
+pub named_sized-requires-in-513-to-2048-clause-sized : goal.named_sized-requires-in-513-to-2048-clause-sized
+named_sized-requires-in-513-to-2048-clause-sized c = sized-many _ _ (omega arith) (omega arith) (omega arith)
 
-pub returns-then-row-le512 : goal.returns-then-row-le512
-returns-then-row-le512 c = record { value = c.named_in-then-row-le512.ensures.value; out_after = c.named_in-then-row-le512.ensures.out_after }
+pub named_sized-requires-in-2049-to-8192-clause-sized : goal.named_sized-requires-in-2049-to-8192-clause-sized
+named_sized-requires-in-2049-to-8192-clause-sized c = sized-many _ _ (omega arith) (omega arith) (omega arith)
 
-pub returns-then-row-le2048 : goal.returns-then-row-le2048
-returns-then-row-le2048 c = record { value = c.named_long.ensures.value; out_after = c.named_long.ensures.out_after }
-
-pub returns : goal.returns
-returns c = record { value = c.named_long-2.ensures.value; out_after = c.named_long-2.ensures.out_after }
+pub returns-in_default : goal.returns-in_default
+returns-in_default c = both (λ v w. record { value = v; out_after = w }) (refused _ _ _ _ (named-long _ _ (omega arith)) refl)

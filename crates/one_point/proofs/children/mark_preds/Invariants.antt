@@ -6,8 +6,5 @@ use Rattle.reader.specs.Internal.Reads.{mark_all}
 use Rattle.one_point.specs.Internal.Scans.{read_kids, end_of_all, kids_at, are_kids}
 use Rattle.one_point.proofs.children.mark_preds.Given as goal
 
-abbrev pub invariant-loop-left : goal.invariant-loop-left
-invariant-loop-left l = (end_of_all l.p (read_kids l.row l.depth l.p l.left) ≡ end_of_all l.at (read_kids l.row l.depth l.at l.n)) × (are_kids l.row l.depth l.at l.n ≡ are_kids l.row l.depth l.p l.left) × (are_kids l.row l.depth l.p l.left ≡ true → mark_all (kids_at l.row l.depth l.p l.left) (l.pos + (l.p - l.at)) 0 l.marks ≡ mark_all (kids_at l.row l.depth l.at l.n) l.pos 0 l.initial.marks) × (l.at ≤ l.p) × (l.p - l.at ≤ length l.row - l.at) × (length l.marks ≡ length l.initial.marks)
-
-abbrev pub decreases-loop-left : goal.decreases-loop-left
-decreases-loop-left l = l.left
+abbrev pub invariant-loop : goal.invariant-loop
+invariant-loop l = (end_of_all l.p (read_kids l.row l.depth l.p (l.n - l.counter)) ≡ end_of_all l.at (read_kids l.row l.depth l.at l.n)) × (are_kids l.row l.depth l.at l.n ≡ are_kids l.row l.depth l.p (l.n - l.counter)) × (are_kids l.row l.depth l.p (l.n - l.counter) ≡ true → mark_all (kids_at l.row l.depth l.p (l.n - l.counter)) (l.pos + (l.p - l.at)) 0 l.marks ≡ mark_all (kids_at l.row l.depth l.at l.n) l.pos 0 l.initial.marks) × (l.at ≤ l.p) × (l.p - l.at ≤ length l.row - l.at) × (length l.marks ≡ length l.initial.marks)

@@ -1,28 +1,21 @@
-use mathlib.Core.Path.{refl, sym, ◌∙◌}
-use native.Mathlib.Omega.{arith}
-use Rattle.one_point.proofs.NotedRows.{ones-not, ones-more, ones-end}
+use mathlib.Core.Bool.{◌&&◌}
+use mathlib.Core.List.{List, [], ◌∷◌}
+use mathlib.Core.Path.{◌≡◌, refl, ap, ◌∙◌}
+use Prim.Native.Nat.{ℕ}
+use lib.Dec.{eqb}
+use Rattle.std.proofs.Common.{rules, tests}
+use Rattle.std.specs.List.{list_all}
+use Rattle.std.proofs.lemmas.Iterator.{YieldsList-from_slice}
+use Rattle.std.proofs.lemmas.Iterator.Search.{all_from_yields_List}
+use Rattle.one_point.specs.Internal.Noted.{all_ones}
 use Rattle.one_point.proofs.joined.are_ones.Goals as goal
 
-pub loop-i-init : goal.loop-i-init
-loop-i-init c = refl
-
-pub offset_bounds-words-i : goal.offset_bounds-words-i
-offset_bounds-words-i c = omega arith
-
-pub bounds-words-i : goal.bounds-words-i
-bounds-words-i c = c.loop-i-test.true
-
-pub returns-then-words-i-ne1 : goal.returns-then-words-i-ne1
-returns-then-words-i-ne1 c = sym (c.loop-i.invariant ∙ ones-not c.args.words.now _ c.loop-i-test.true c.if-words-i-ne1.true)
-
-pub overflow_add-i : goal.overflow_add-i
-overflow_add-i c = omega arith
-
-pub loop-i-smaller : goal.loop-i-smaller
-loop-i-smaller c = omega arith
-
-pub loop-i-preserved : goal.loop-i-preserved
-loop-i-preserved c = c.loop-i.invariant ∙ ones-more c.args.words.now _ c.loop-i-test.true c.if-words-i-ne1.false
+ones-are : (ws : List ℕ) → list_all (λ w. eqb w 1) ws ≡ all_ones ws
+unfolding all_ones
+ones-are [] = refl
+ones-are (w ∷ ws) = ap (λ b. eqb w 1 && b) (ones-are ws)
 
 pub returns : goal.returns
-returns c = sym (c.loop-i.invariant ∙ ones-end c.args.words.now _ c.loop-i-test.false)
+returns c =
+    all_from_yields_List (λ w. eqb w 1) _ _ c.all.result c.all.ensures.ran (YieldsList-from_slice c.args.words.now cc) (λ x b q k. search (rules, tests))
+    ∙ ones-are c.args.words.now

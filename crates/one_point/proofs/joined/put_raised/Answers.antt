@@ -1,14 +1,18 @@
-use mathlib.Core.Path.{sym}
 use native.Mathlib.Omega.{arith}
-use lib.Seq.{length-take-le}
 use Rattle.shift.proofs.CheckedLaws.{passed}
-use Rattle.one_point.proofs.HeadedLaws.{head-two, head-most, head-least, ones_in, ones-ready, last-low}
+use Rattle.one_point.proofs.HeadedLaws.{ones-ready}
 use Rattle.one_point.proofs.JoinedRows.{inner_start, inner-low, inner-marked, inner-few, marks-can, how-apart, how-unused, how-used}
 use Rattle.tree.proofs.Pairs.{both}
 use Rattle.one_point.proofs.joined.put_raised.Goals as goal
 
-pub bounds-head-1 : goal.bounds-head-1
-bounds-head-1 c = let h = head-two c.args.head.now c.requires.0.putting.placing.heading in omega arith
+pub returns-in-Apart : goal.returns-in-Apart
+returns-in-Apart c = both (λ v w. record { value = v; out_after = w }) (passed _ _ _ _ _ (how-apart c.args.head.now c.args.row.now c.args.part.now c.args.part_marks.now c.args.body.now c.args.marks.now c.requires.0 c.requires.1 c.args.from c.requires.2 c.args.raised.now _ c.requires.3 c.put_words.ensures _ c.raise.ensures _ c.how_joined-how.ensures c.in-Apart.is _) (c.put_kept.ensures.value, c.put_kept.ensures.out_after))
+
+pub returns-in-Unused : goal.returns-in-Unused
+returns-in-Unused c = both (λ v w. record { value = v; out_after = w }) (passed _ _ _ _ _ (how-unused c.args.head.now c.args.row.now c.args.part.now c.args.part_marks.now c.args.body.now c.args.marks.now c.requires.0 c.requires.1 c.args.from c.requires.2 c.args.raised.now _ c.requires.3 c.put_words.ensures _ c.raise.ensures _ c.how_joined-how.ensures c.in-Unused.is _) (c.put_free.ensures.value, c.put_free.ensures.out_after))
+
+pub returns-in-Used : goal.returns-in-Used
+returns-in-Used c = both (λ v w. record { value = v; out_after = w }) (passed _ _ _ _ _ (how-used c.args.head.now c.args.row.now c.args.part.now c.args.part_marks.now c.args.body.now c.args.marks.now c.requires.0 c.requires.1 c.args.from c.requires.2 c.args.raised.now _ c.requires.3 c.put_words.ensures _ c.raise.ensures _ c.how_joined-how.ensures c.in-Used.is _) (c.put_joined.ensures.value, c.put_joined.ensures.out_after))
 
 pub slice_bounds-put_words-count : goal.slice_bounds-put_words-count
 slice_bounds-put_words-count c = let s = inner_start c.args.head.now c.args.row.now c.args.part.now c.args.part_marks.now c.args.body.now c.args.marks.now c.requires.0 c.requires.1 c.args.from c.requires.2 in let l = inner-low c.args.head.now c.args.row.now c.args.part.now c.args.part_marks.now c.args.body.now c.args.marks.now c.requires.0 c.requires.1 c.args.from c.requires.2 in let m = inner-marked c.args.head.now c.args.row.now c.args.part.now c.args.part_marks.now c.args.body.now c.args.marks.now c.requires.0 c.requires.1 c.args.from c.requires.2 in omega arith
@@ -19,14 +23,8 @@ slice_bounds-put_words-start c = let s = inner_start c.args.head.now c.args.row.
 pub slice_bounds-put_words-end : goal.slice_bounds-put_words-end
 slice_bounds-put_words-end c = let s = inner_start c.args.head.now c.args.row.now c.args.part.now c.args.part_marks.now c.args.body.now c.args.marks.now c.requires.0 c.requires.1 c.args.from c.requires.2 in let l = inner-low c.args.head.now c.args.row.now c.args.part.now c.args.part_marks.now c.args.body.now c.args.marks.now c.requires.0 c.requires.1 c.args.from c.requires.2 in let m = inner-marked c.args.head.now c.args.row.now c.args.part.now c.args.part_marks.now c.args.body.now c.args.marks.now c.requires.0 c.requires.1 c.args.from c.requires.2 in omega arith
 
-pub overflow_sub-n : goal.overflow_sub-n
-overflow_sub-n c = head-least c.args.head.now c.requires.0.putting.placing.heading
-
 pub raise-requires : goal.raise-requires
 raise-requires c = marks-can c.args.head.now c.args.row.now c.args.part.now c.args.part_marks.now c.args.body.now c.args.marks.now c.requires.0 c.requires.1 c.args.from c.requires.2 c.args.raised.now _ c.requires.3 c.put_words.ensures
-
-pub overflow_cast-m : goal.overflow_cast-m
-overflow_cast-m c = let m = head-most c.args.head.now c.requires.0.putting.placing.heading in omega arith
 
 pub slice_bounds-how_joined-count : goal.slice_bounds-how_joined-count
 slice_bounds-how_joined-count c = let s = inner_start c.args.head.now c.args.row.now c.args.part.now c.args.part_marks.now c.args.body.now c.args.marks.now c.requires.0 c.requires.1 c.args.from c.requires.2 in let l = inner-low c.args.head.now c.args.row.now c.args.part.now c.args.part_marks.now c.args.body.now c.args.marks.now c.requires.0 c.requires.1 c.args.from c.requires.2 in let m = inner-marked c.args.head.now c.args.row.now c.args.part.now c.args.part_marks.now c.args.body.now c.args.marks.now c.requires.0 c.requires.1 c.args.from c.requires.2 in omega arith
@@ -37,35 +35,11 @@ slice_bounds-how_joined-start c = let s = inner_start c.args.head.now c.args.row
 pub slice_bounds-how_joined-end : goal.slice_bounds-how_joined-end
 slice_bounds-how_joined-end c = let s = inner_start c.args.head.now c.args.row.now c.args.part.now c.args.part_marks.now c.args.body.now c.args.marks.now c.requires.0 c.requires.1 c.args.from c.requires.2 in let l = inner-low c.args.head.now c.args.row.now c.args.part.now c.args.part_marks.now c.args.body.now c.args.marks.now c.requires.0 c.requires.1 c.args.from c.requires.2 in let m = inner-marked c.args.head.now c.args.row.now c.args.part.now c.args.part_marks.now c.args.body.now c.args.marks.now c.requires.0 c.requires.1 c.args.from c.requires.2 in omega arith
 
-pub overflow_add-words : goal.overflow_add-words
-overflow_add-words c = let m = head-most c.args.head.now c.requires.0.putting.placing.heading in omega arith
-
-pub slice_bounds-words-end : goal.slice_bounds-words-end
-slice_bounds-words-end c = ones_in c.args.head.now c.requires.0.putting.placing.heading
-
-pub slice_bounds-how_joined-end-2 : goal.slice_bounds-how_joined-end-2
-slice_bounds-how_joined-end-2 c = sym (length-take-le _ _ (ones_in c.args.head.now c.requires.0.putting.placing.heading))
-
 pub how_joined-how-requires : goal.how_joined-how-requires
 how_joined-how-requires c = ones-ready c.args.head.now c.requires.0.putting.placing.heading
-
-pub overflow_sub-m : goal.overflow_sub-m
-overflow_sub-m c = head-least c.args.head.now c.requires.0.putting.placing.heading
-
-pub put_kept-requires : goal.put_kept-requires
-put_kept-requires c = (c.requires.0.putting.placing.heading, last-low c.args.head.now c.requires.0.putting.placing.heading)
 
 pub put_free-requires : goal.put_free-requires
 put_free-requires c = let s = inner_start c.args.head.now c.args.row.now c.args.part.now c.args.part_marks.now c.args.body.now c.args.marks.now c.requires.0 c.requires.1 c.args.from c.requires.2 in let l = inner-low c.args.head.now c.args.row.now c.args.part.now c.args.part_marks.now c.args.body.now c.args.marks.now c.requires.0 c.requires.1 c.args.from c.requires.2 in let m = inner-marked c.args.head.now c.args.row.now c.args.part.now c.args.part_marks.now c.args.body.now c.args.marks.now c.requires.0 c.requires.1 c.args.from c.requires.2 in (c.requires.0.putting.placing.heading, c.requires.0.flags, inner-few c.args.head.now c.args.row.now c.args.part.now c.args.part_marks.now c.args.body.now c.args.marks.now c.requires.0 c.requires.1, omega arith, l)
 
 pub put_joined-requires : goal.put_joined-requires
 put_joined-requires c = let s = inner_start c.args.head.now c.args.row.now c.args.part.now c.args.part_marks.now c.args.body.now c.args.marks.now c.requires.0 c.requires.1 c.args.from c.requires.2 in let l = inner-low c.args.head.now c.args.row.now c.args.part.now c.args.part_marks.now c.args.body.now c.args.marks.now c.requires.0 c.requires.1 c.args.from c.requires.2 in let m = inner-marked c.args.head.now c.args.row.now c.args.part.now c.args.part_marks.now c.args.body.now c.args.marks.now c.requires.0 c.requires.1 c.args.from c.requires.2 in (c.requires.0.putting.placing.heading, c.requires.0.flags, inner-few c.args.head.now c.args.row.now c.args.part.now c.args.part_marks.now c.args.body.now c.args.marks.now c.requires.0 c.requires.1, omega arith, l, c.requires.0.putting.marking.enough)
-
-pub returns-in-Apart : goal.returns-in-Apart
-returns-in-Apart c = both (λ v w. record { value = v; out_after = w }) (passed _ _ _ _ _ (how-apart c.args.head.now c.args.row.now c.args.part.now c.args.part_marks.now c.args.body.now c.args.marks.now c.requires.0 c.requires.1 c.args.from c.requires.2 c.args.raised.now _ c.requires.3 c.put_words.ensures _ c.raise.ensures _ c.how_joined-how.ensures c.in-Apart.is _) (c.put_kept.ensures.value, c.put_kept.ensures.out_after))
-
-pub returns-in-Unused : goal.returns-in-Unused
-returns-in-Unused c = both (λ v w. record { value = v; out_after = w }) (passed _ _ _ _ _ (how-unused c.args.head.now c.args.row.now c.args.part.now c.args.part_marks.now c.args.body.now c.args.marks.now c.requires.0 c.requires.1 c.args.from c.requires.2 c.args.raised.now _ c.requires.3 c.put_words.ensures _ c.raise.ensures _ c.how_joined-how.ensures c.in-Unused.is _) (c.put_free.ensures.value, c.put_free.ensures.out_after))
-
-pub returns-in-Used : goal.returns-in-Used
-returns-in-Used c = both (λ v w. record { value = v; out_after = w }) (passed _ _ _ _ _ (how-used c.args.head.now c.args.row.now c.args.part.now c.args.part_marks.now c.args.body.now c.args.marks.now c.requires.0 c.requires.1 c.args.from c.requires.2 c.args.raised.now _ c.requires.3 c.put_words.ensures _ c.raise.ensures _ c.how_joined-how.ensures c.in-Used.is _) (c.put_joined.ensures.value, c.put_joined.ensures.out_after))

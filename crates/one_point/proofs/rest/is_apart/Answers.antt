@@ -1,10 +1,5 @@
-use native.Mathlib.Omega.{arith}
-use Rattle.one_point.proofs.HeadedLaws.{head-two, head-most}
 use Rattle.one_point.proofs.RestLaws.{apart-plain, apart-first, apart-behind, apart-same, apart_by}
 use Rattle.one_point.proofs.rest.is_apart.Goals as goal
-
-pub bounds-head-0 : goal.bounds-head-0
-bounds-head-0 c = let h = head-two c.args.head.now c.requires.0 in omega arith
 
 pub returns-then-head-le860 : goal.returns-then-head-le860
 returns-then-head-le860 c = apart-plain c.args.head.now c.args.p c.args.body.now c.if-head-le860.true
@@ -12,26 +7,11 @@ returns-then-head-le860 c = apart-plain c.args.head.now c.args.p c.args.body.now
 pub returns-then-p-eq0 : goal.returns-then-p-eq0
 returns-then-p-eq0 c = apart-first c.args.head.now c.args.p c.args.body.now c.if-head-le860.false c.if-p-eq0.true
 
-pub overflow_add-p : goal.overflow_add-p
-overflow_add-p c = let h = head-most c.args.head.now c.requires.0 in omega arith
-
-pub bounds-head-1 : goal.bounds-head-1
-bounds-head-1 c = let h = head-two c.args.head.now c.requires.0 in omega arith
-
-pub overflow_cast-head : goal.overflow_cast-head
-overflow_cast-head c = let h = head-most c.args.head.now c.requires.0 in omega arith
-
 pub returns-then-p-head : goal.returns-then-p-head
 returns-then-p-head c = apart-behind c.args.head.now c.args.p c.args.body.now c.if-head-le860.false c.if-p-eq0.false c.if-p-head.true
 
-pub bounds-head-0-2 : goal.bounds-head-0-2
-bounds-head-0-2 c = let h = head-two c.args.head.now c.requires.0 in omega arith
-
 pub returns-then-body-head : goal.returns-then-body-head
 returns-then-body-head c = apart-same c.args.head.now c.args.p c.args.body.now c.if-head-le860.false c.if-p-eq0.false c.if-p-head.false c.if-body-head.true
-
-pub bounds-head-0-3 : goal.bounds-head-0-3
-bounds-head-0-3 c = let h = head-two c.args.head.now c.requires.0 in omega arith
 
 pub returns : goal.returns
 returns c = apart_by c.args.head.now c.args.p c.args.body.now c.if-head-le860.false c.if-p-eq0.false c.if-p-head.false c.if-body-head.false

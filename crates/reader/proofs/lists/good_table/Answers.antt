@@ -2,10 +2,10 @@ use borrow.Author.Tests.{le-leb, lt-leb}
 use Rattle.reader.specs.Internal.Reads.{good_words}
 use Rattle.reader.proofs.lists.good_table.Goals as goal
 
-pub returns-then-n-gt-LIMIT : goal.returns-then-n-gt-LIMIT
+pub returns-then-table-le-LIMIT : goal.returns-then-table-le-LIMIT
 unfolding good_words
-returns-then-n-gt-LIMIT c = rw (lt-leb _ _ c.if-n-gt-LIMIT.true)
+returns-then-table-le-LIMIT c = rw (le-leb _ _ c.if-table-le-LIMIT.true) c.are_distinct.ensures
 
-pub returns : goal.returns
+pub returns-else-table-le-LIMIT : goal.returns-else-table-le-LIMIT
 unfolding good_words
-returns c = rw (le-leb _ _ c.if-n-gt-LIMIT.false) c.are_first_distinct.ensures
+returns-else-table-le-LIMIT c = rw (lt-leb _ _ c.if-table-le-LIMIT.false)

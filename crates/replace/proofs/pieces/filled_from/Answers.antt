@@ -7,20 +7,8 @@ use Rattle.replace.proofs.pieces.filled_from.Goals as goal
 pub loop-i-init : goal.loop-i-init
 loop-i-init c = (omega arith, omega arith)
 
-pub offset_bounds-words-i : goal.offset_bounds-words-i
-offset_bounds-words-i c = omega arith
-
-pub bounds-words-i : goal.bounds-words-i
-bounds-words-i c = omega arith
-
 pub overflow_add-n : goal.overflow_add-n
 overflow_add-n c = let f = filled-few (get_or c.args.words.now c.loop-i.i 0) in omega arith
-
-pub overflow_add-i : goal.overflow_add-i
-overflow_add-i c = omega arith
-
-pub loop-i-smaller : goal.loop-i-smaller
-loop-i-smaller c = omega arith
 
 pub loop-i-preserved : goal.loop-i-preserved
 loop-i-preserved c = (c.loop-i.invariant.0 ∙ filled_next c.args.words.now _ _ c.loop-i-test.true ∙ rw c.one_if-n.ensures, let f = filled-few (get_or c.args.words.now c.loop-i.i 0) in omega arith)

@@ -5,7 +5,7 @@ use Rattle.replace.proofs.PieceLaws.{used-first}
 use Rattle.replace.proofs.pieces.free_piece.Goals as goal
 
 pub slice_bounds-index_of-end : goal.slice_bounds-index_of-end
-slice_bounds-index_of-end c = sym (used-first (plan_for c.args.rule c.args.words.now c.args.starts.now c.args.ends.now) c.requires)
+slice_bounds-index_of-end c = sym (used-first (plan_for c.args.rule c.args.table.now) c.requires)
 
 pub returns-then-n-i : goal.returns-then-n-i
 unfolding free_piece

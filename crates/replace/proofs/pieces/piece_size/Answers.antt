@@ -11,4 +11,4 @@ returns-in-Index c = rw c.in-Index.is
 
 pub returns-in-Part : goal.returns-in-Part
 unfolding piece_size
-returns-in-Part c = rw c.in-Part.is c.words_between.ensures
+returns-in-Part c = rw c.in-Part.is c.saturating_sub.ensures

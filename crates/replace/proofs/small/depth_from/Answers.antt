@@ -19,7 +19,7 @@ pub loop-d-smaller : goal.loop-d-smaller
 loop-d-smaller c = omega arith
 
 pub loop-d-preserved : goal.loop-d-preserved
-loop-d-preserved c = rw (← (next-is c.loop-d.d c.less.result c.less.ensures).0) (tried-more _ _ _ c.loop-d.invariant c.loop-d-test.true (sym c.is_within.ensures ∙ c.if-is_within.false))
+loop-d-preserved c = rw (← (next-is c.loop-d.d c.saturating_sub.result c.saturating_sub.ensures).0) (tried-more _ _ _ c.loop-d.invariant c.loop-d-test.true (sym c.is_within.ensures ∙ c.if-is_within.false))
 
 pub returns : goal.returns
 returns c = tried-past _ _ _ c.loop-d.invariant c.loop-d-test.false

@@ -1,5 +1,5 @@
 use mathlib.Core.Path.{refl, sym}
-use Rattle.replace.specs.Internal.Pieces.{plan_for}
+use Rattle.replace.specs.Internal.Job.{job_plan}
 use Rattle.shift.proofs.ItemLaws.{not-no}
 use Rattle.replace.proofs.PieceLaws.{used-first}
 use Rattle.replace.proofs.SpliceLaws.{splicing}
@@ -12,7 +12,7 @@ pub returns-then-not-are_apart : goal.returns-then-not-are_apart
 returns-then-not-are_apart c = record { value = c.write_pieces.ensures.value; out_after = c.write_pieces.ensures.out_after }
 
 pub slice_bounds-set_keys-end : goal.slice_bounds-set_keys-end
-slice_bounds-set_keys-end c = sym (used-first (plan_for c.args.rule c.args.words.now c.args.starts.now c.args.ends.now) c.requires.ready.0.tabled)
+slice_bounds-set_keys-end c = sym (used-first (job_plan c.args.job) c.requires.ready.0.tabled)
 
 pub set_keys-requires : goal.set_keys-requires
 set_keys-requires c = refl

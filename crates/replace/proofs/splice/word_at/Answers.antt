@@ -1,6 +1,6 @@
-use mathlib.Core.Path.{sym}
-use lib.ListN.{get_or-eq_default}
+use mathlib.Core.Path.{◌∙◌}
+use native.Mathlib.Omega.{arith}
 use Rattle.replace.proofs.splice.word_at.Goals as goal
 
-pub returns-then-row-at : goal.returns-then-row-at
-returns-then-row-at c = sym (get_or-eq_default c.args.row.now 0 c.if-row-at.true)
+pub returns : goal.returns
+returns c = c.unwrap_or.ensures ∙ rw c.copied.ensures (c.get.ensures.lookup.4 (omega arith) 0)

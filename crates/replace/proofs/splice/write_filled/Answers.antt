@@ -28,18 +28,11 @@ pub bounds-cuts-slot : goal.bounds-cuts-slot
 bounds-cuts-slot c = let s = slot-low c.requires c.loop-i.invariant c.loop-i-test.true c.slot_of-slot.ensures in
     omega arith
 
-pub offset_bounds-out-p : goal.offset_bounds-out-p
-offset_bounds-out-p c = let r = fill-room c.requires c.loop-i.invariant c.loop-i-test.true c.slot_of-slot.ensures c.if-cuts-slot-eq0.true in
-    omega (arith, c.well_formed.1.1.1.1.1.1.1.1.1.1.1.0.0, c.well_formed.1.1.1.1.1.1.1.1.1.1.1.0.1)
-
 pub bounds-out-p : goal.bounds-out-p
 bounds-out-p c = fill-room c.requires c.loop-i.invariant c.loop-i-test.true c.slot_of-slot.ensures c.if-cuts-slot-eq0.true
 
 pub overflow_add-i-then-cuts-slot-eq0 : goal.overflow_add-i-then-cuts-slot-eq0
 overflow_add-i-then-cuts-slot-eq0 c = omega arith
-
-pub offset_bounds-row-i-then-cuts-slot-eq0 : goal.offset_bounds-row-i-then-cuts-slot-eq0
-offset_bounds-row-i-then-cuts-slot-eq0 c = omega (arith, c.well_formed.1.1.1.1.1.1.1.1.0.0, c.well_formed.1.1.1.1.1.1.1.1.0.1)
 
 pub bounds-row-i-then-cuts-slot-eq0 : goal.bounds-row-i-then-cuts-slot-eq0
 bounds-row-i-then-cuts-slot-eq0 c = c.loop-i-test.true
@@ -63,36 +56,33 @@ pub loop-i-smaller-then-cuts-slot-eq0 : goal.loop-i-smaller-then-cuts-slot-eq0
 loop-i-smaller-then-cuts-slot-eq0 c = omega arith
 
 pub loop-i-preserved-then-cuts-slot-eq0 : goal.loop-i-preserved-then-cuts-slot-eq0
-loop-i-preserved-then-cuts-slot-eq0 c = fill-next c.requires c.loop-i.invariant c.loop-i-test.true c.slot_of-slot.ensures c.if-cuts-slot-eq0.true _ c.less-word.ensures
+loop-i-preserved-then-cuts-slot-eq0 c = fill-next c.requires c.loop-i.invariant c.loop-i-test.true c.slot_of-slot.ensures c.if-cuts-slot-eq0.true _ c.saturating_sub-word.ensures
 
 pub overflow_sub-s : goal.overflow_sub-s
 overflow_sub-s c = let p = place-slot c.requires c.loop-i.invariant c.loop-i-test.true c.slot_of-slot.ensures c.if-cuts-slot-eq0.false in
     let h = p.0 in
     omega arith
 
-pub offset_bounds-starts-slot : goal.offset_bounds-starts-slot
-offset_bounds-starts-slot c = let p = place-slot c.requires c.loop-i.invariant c.loop-i-test.true c.slot_of-slot.ensures c.if-cuts-slot-eq0.false in
-    let h = p.3 in
+pub offset_bounds-table-slot : goal.offset_bounds-table-slot
+offset_bounds-table-slot c = let p = place-slot c.requires c.loop-i.invariant c.loop-i-test.true c.slot_of-slot.ensures c.if-cuts-slot-eq0.false in
+    let h = p.1 in
     omega arith
 
-pub bounds-starts-slot : goal.bounds-starts-slot
-bounds-starts-slot c = (place-slot c.requires c.loop-i.invariant c.loop-i-test.true c.slot_of-slot.ensures c.if-cuts-slot-eq0.false).1
+pub bounds-table-slot : goal.bounds-table-slot
+bounds-table-slot c = (place-slot c.requires c.loop-i.invariant c.loop-i-test.true c.slot_of-slot.ensures c.if-cuts-slot-eq0.false).1
 
 pub overflow_sub-e : goal.overflow_sub-e
 overflow_sub-e c = let p = place-slot c.requires c.loop-i.invariant c.loop-i-test.true c.slot_of-slot.ensures c.if-cuts-slot-eq0.false in
     let h = p.0 in
     omega arith
 
-pub offset_bounds-ends-slot : goal.offset_bounds-ends-slot
-offset_bounds-ends-slot c = let p = place-slot c.requires c.loop-i.invariant c.loop-i-test.true c.slot_of-slot.ensures c.if-cuts-slot-eq0.false in
-    let h = p.3 in
+pub offset_bounds-table-slot-in-loop-i : goal.offset_bounds-table-slot-in-loop-i
+offset_bounds-table-slot-in-loop-i c = let p = place-slot c.requires c.loop-i.invariant c.loop-i-test.true c.slot_of-slot.ensures c.if-cuts-slot-eq0.false in
+    let h = p.1 in
     omega arith
 
-pub bounds-ends-slot : goal.bounds-ends-slot
-bounds-ends-slot c = (place-slot c.requires c.loop-i.invariant c.loop-i-test.true c.slot_of-slot.ensures c.if-cuts-slot-eq0.false).2
-
-pub offset_bounds-marks-i-in-loop-i : goal.offset_bounds-marks-i-in-loop-i
-offset_bounds-marks-i-in-loop-i c = omega (arith, c.well_formed.1.1.1.1.1.1.1.1.0.0, c.well_formed.1.1.1.1.1.1.1.1.0.1)
+pub bounds-table-slot-in-loop-i : goal.bounds-table-slot-in-loop-i
+bounds-table-slot-in-loop-i c = (place-slot c.requires c.loop-i.invariant c.loop-i-test.true c.slot_of-slot.ensures c.if-cuts-slot-eq0.false).1
 
 pub bounds-marks-i-in-loop-i : goal.bounds-marks-i-in-loop-i
 bounds-marks-i-in-loop-i c = omega arith
@@ -119,10 +109,14 @@ pub loop-i-smaller : goal.loop-i-smaller
 loop-i-smaller c = omega arith
 
 pub loop-i-preserved : goal.loop-i-preserved
-loop-i-preserved c = place-next c.requires c.loop-i.invariant c.loop-i-test.true c.slot_of-slot.ensures c.if-cuts-slot-eq0.false _ c.less-up.ensures _ c.write_piece.ensures c.write_piece.auto.out _ c.word_at-word-in-loop-i.ensures
+loop-i-preserved c = place-next c.requires c.loop-i.invariant c.loop-i-test.true c.slot_of-slot.ensures c.if-cuts-slot-eq0.false _ c.saturating_sub-up.ensures _ c.write_piece.ensures c.write_piece.auto.out _ c.word_at-word-in-loop-i.ensures
 
 pub write_last-requires : goal.write_last-requires
 write_last-requires c = (c.loop-i-test.false, last-room c.requires.splices c.loop-i.invariant c.loop-i-test.false)
 
 pub returns : goal.returns
 returns c = both (λ v w. record { value = v; out_after = w }) (last_done c.requires.splices c.loop-i.invariant c.loop-i-test.false _ _ c.write_last.ensures.value c.write_last.ensures.out_after)
+
+pub offset_bounds-out-p : goal.offset_bounds-out-p
+offset_bounds-out-p c = let r = fill-room c.requires c.loop-i.invariant c.loop-i-test.true c.slot_of-slot.ensures c.if-cuts-slot-eq0.true in
+    omega (arith, c.well_formed.1.1.1.0.0, c.well_formed.1.1.1.0.1)

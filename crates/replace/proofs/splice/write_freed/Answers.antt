@@ -46,10 +46,6 @@ offset_bounds-row-i-then-n-spot c = omega arith
 pub bounds-row-i-then-n-spot : goal.bounds-row-i-then-n-spot
 bounds-row-i-then-n-spot c = omega arith
 
-pub offset_bounds-out-p : goal.offset_bounds-out-p
-offset_bounds-out-p c = let r = free-room c.requires c.loop-i.invariant c.loop-i-test.true c.name_spot-spot.ensures c.if-n-spot.true in
-    omega (arith, c.well_formed.1.1.1.1.1.1.1.1.1.1.0.0, c.well_formed.1.1.1.1.1.1.1.1.1.1.0.1)
-
 pub bounds-out-p : goal.bounds-out-p
 bounds-out-p c = free-room c.requires c.loop-i.invariant c.loop-i-test.true c.name_spot-spot.ensures c.if-n-spot.true
 
@@ -66,17 +62,17 @@ loop-i-smaller-then-n-spot c = omega arith
 pub loop-i-preserved-then-n-spot : goal.loop-i-preserved-then-n-spot
 loop-i-preserved-then-n-spot c = free-next c.requires c.loop-i.invariant c.loop-i-test.true c.name_spot-spot.ensures c.if-n-spot.true
 
-pub offset_bounds-starts-spot : goal.offset_bounds-starts-spot
-offset_bounds-starts-spot c = omega arith
+pub offset_bounds-table-spot : goal.offset_bounds-table-spot
+offset_bounds-table-spot c = omega arith
 
-pub bounds-starts-spot : goal.bounds-starts-spot
-bounds-starts-spot c = omega arith
+pub bounds-table-spot : goal.bounds-table-spot
+bounds-table-spot c = omega arith
 
-pub offset_bounds-ends-spot : goal.offset_bounds-ends-spot
-offset_bounds-ends-spot c = omega arith
+pub offset_bounds-table-spot-in-loop-i : goal.offset_bounds-table-spot-in-loop-i
+offset_bounds-table-spot-in-loop-i c = omega arith
 
-pub bounds-ends-spot : goal.bounds-ends-spot
-bounds-ends-spot c = omega arith
+pub bounds-table-spot-in-loop-i : goal.bounds-table-spot-in-loop-i
+bounds-table-spot-in-loop-i c = omega arith
 
 pub offset_bounds-marks-i-in-loop-i : goal.offset_bounds-marks-i-in-loop-i
 offset_bounds-marks-i-in-loop-i c = omega arith
@@ -84,8 +80,8 @@ offset_bounds-marks-i-in-loop-i c = omega arith
 pub bounds-marks-i-in-loop-i : goal.bounds-marks-i-in-loop-i
 bounds-marks-i-in-loop-i c = omega arith
 
-pub overflow_sub-up : goal.overflow_sub-up
-overflow_sub-up c = let h = entry-mark c.requires c.loop-i.invariant c.loop-i-test.true c.name_spot-spot.ensures c.if-n-spot.false in
+pub overflow_sub-part : goal.overflow_sub-part
+overflow_sub-part c = let h = entry-mark c.requires c.loop-i.invariant c.loop-i-test.true c.name_spot-spot.ensures c.if-n-spot.false in
     omega arith
 
 pub write_piece-requires : goal.write_piece-requires
@@ -113,3 +109,7 @@ write_last-requires c = (c.loop-i-test.false, last-room c.requires.splices c.loo
 
 pub returns : goal.returns
 returns c = both (λ v w. record { value = v; out_after = w }) (last_done c.requires.splices c.loop-i.invariant c.loop-i-test.false _ _ c.write_last.ensures.value (rw c.word_at.ensures at c.write_last.ensures.out_after))
+
+pub offset_bounds-out-p : goal.offset_bounds-out-p
+offset_bounds-out-p c = let r = free-room c.requires c.loop-i.invariant c.loop-i-test.true c.name_spot-spot.ensures c.if-n-spot.true in
+    omega (arith, c.well_formed.1.1.0.0, c.well_formed.1.1.0.1)

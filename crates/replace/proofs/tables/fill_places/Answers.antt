@@ -1,38 +1,25 @@
-use mathlib.Core.Path.{◌≡◌, refl}
-use mathlib.Core.Bool.{true, false}
-use Prim.Native.Nat.{◌≤◌}
-use native.Mathlib.Omega.{arith}
-use lib.ListN.{length}
-use borrow.Author.Rules.{rules}
+use mathlib.Core.Path.{refl, sym, ◌∙◌}
 use Rattle.shift.proofs.CheckedLaws.{refused, passed}
-use Rattle.shift.proofs.ItemLaws.{not_yes, not-no}
-use Rattle.replace.specs.Internal.Pieces.{table_of}
-use Rattle.replace.proofs.ReadyLaws.{ready-test, full-ready, is-ready, placed-not, placed-ready, gone-ready}
+use Rattle.replace.proofs.ReadyLaws.{full-ready, is-ready, placed-not, placed-ready, gone-ready}
 use Rattle.tree.proofs.Pairs.{both}
 use Rattle.replace.proofs.tables.fill_places.Goals as goal
 
 pub returns-then-not-is_ready : goal.returns-then-not-is_ready
-returns-then-not-is_ready c = let t = table_of c.args.n c.args.words.now c.args.starts.now c.args.ends.now in
-    let q = ready-test t c.args.list.now c.args.list_marks.now _ false c.is_ready.ensures (not_yes _ c.if-not-is_ready.true-raw) in
-    both (λ v w. record { value = v; out_after = w }) (refused _ _ _ _ (placed-not t c.args.list.now c.args.list_marks.now _ _ _ _ _ _ q) refl)
+returns-then-not-is_ready c = let t = c.args.source.table.now in
+    let q = sym c.is_ready.ensures.value ∙ c.if-not-is_ready.true in
+    both (λ v w. record { value = v; out_after = w }) (refused _ _ _ _ (placed-not t c.args.source.list.now c.args.source.list_marks.now _ _ _ _ _ _ q) refl)
 
-pub filled_first-requires : goal.filled_first-requires
-filled_first-requires c = let t = table_of c.args.n c.args.words.now c.args.starts.now c.args.ends.now in
-    let q = ready-test t c.args.list.now c.args.list_marks.now _ true c.is_ready.ensures (not-no _ c.if-not-is_ready.false-raw) in
-    let few = (full-ready t c.args.list.now c.args.list_marks.now q).0 in
-    let x : length c.args.words.now ≡ 32 = search rules in
-    let y : c.args.n ≤ length c.args.words.now = omega arith in
-    record { n_bound = few; n_in_bounds = y }
+pub filled_places-requires : goal.filled_places-requires
+filled_places-requires c = let t = c.args.source.table.now in
+    let q = sym c.is_ready.ensures.value ∙ c.if-not-is_ready.false in
+    (full-ready t c.args.source.list.now c.args.source.list_marks.now q).0
 
 pub replace-requires : goal.replace-requires
-replace-requires c = let t = table_of c.args.n c.args.words.now c.args.starts.now c.args.ends.now in
-    let q = ready-test t c.args.list.now c.args.list_marks.now _ true c.is_ready.ensures (not-no _ c.if-not-is_ready.false-raw) in
-    let x : length c.args.words.now ≡ 32 = search rules in
-    let y : length c.args.starts.now ≡ 32 = search rules in
-    let z : length c.args.ends.now ≡ 32 = search rules in
-    gone-ready t _ _ _ _ c.filled_first.ensures (is-ready t c.args.list.now c.args.list_marks.now c.args.down q x y z)
+replace-requires c = let t = c.args.source.table.now in
+    let q = sym c.is_ready.ensures.value ∙ c.if-not-is_ready.false in
+    gone-ready t _ _ _ _ c.filled_places.ensures (is-ready t c.args.source.list.now c.args.source.list_marks.now c.args.down q c.is_ready.ensures.rows)
 
 pub returns : goal.returns
-returns c = let t = table_of c.args.n c.args.words.now c.args.starts.now c.args.ends.now in
-    let q = ready-test t c.args.list.now c.args.list_marks.now _ true c.is_ready.ensures (not-no _ c.if-not-is_ready.false-raw) in
-    both (λ v w. record { value = v; out_after = w }) (passed _ _ _ _ _ (placed-ready t c.args.list.now c.args.list_marks.now _ _ _ _ _ _ q _ c.filled_first.ensures) (c.replace.ensures.value, c.replace.ensures.out_after))
+returns c = let t = c.args.source.table.now in
+    let q = sym c.is_ready.ensures.value ∙ c.if-not-is_ready.false in
+    both (λ v w. record { value = v; out_after = w }) (passed _ _ _ _ _ (placed-ready t c.args.source.list.now c.args.source.list_marks.now _ _ _ _ _ _ q _ c.filled_places.ensures) (c.replace.ensures.value, c.replace.ensures.out_after))

@@ -1,13 +1,10 @@
 use mathlib.Core.Path.{◌∙◌}
-use lib.ListN.{length}
 use Rattle.replace.proofs.ReadyLaws.{test-many, test_short, test_parts}
+use Rattle.replace.proofs.tables.is_ready.Goals.{then-table-gt-LIMIT-via-then-table-gt-LIMIT, then-table-gt-LIMIT-via-else-table-gt-LIMIT+then-list_marks-list}
 use Rattle.replace.proofs.tables.is_ready.Goals as goal
 
-pub returns-then-n-gt-LIMIT : goal.returns-then-n-gt-LIMIT
-returns-then-n-gt-LIMIT c = test-many c.args.n c.args.starts.now c.args.ends.now (length c.args.list.now) (length c.args.list_marks.now) c.if-n-gt-LIMIT.true
+pub returns-then-table-gt-LIMIT-clause-value : goal.returns-then-table-gt-LIMIT-clause-value
+returns-then-table-gt-LIMIT-clause-value c = elim c.then-table-gt-LIMIT.branch [ then-table-gt-LIMIT-via-then-table-gt-LIMIT w ↦ test-many _ _ _ w.if-table-gt-LIMIT.true | then-table-gt-LIMIT-via-else-table-gt-LIMIT+then-list_marks-list w ↦ test_short _ _ _ w.if-table-gt-LIMIT.false w.if-list_marks-list.true ]
 
-pub returns-then-list_marks-list : goal.returns-then-list_marks-list
-returns-then-list_marks-list c = test_short c.args.n c.args.starts.now c.args.ends.now (length c.args.list.now) (length c.args.list_marks.now) c.if-n-gt-LIMIT.false c.if-list_marks-list.true
-
-pub returns : goal.returns
-returns c = c.are_inside.ensures ∙ test_parts c.args.n c.args.starts.now c.args.ends.now (length c.args.list.now) (length c.args.list_marks.now) c.if-n-gt-LIMIT.false c.if-list_marks-list.false
+pub returns-clause-value : goal.returns-clause-value
+returns-clause-value c = c.are_inside.ensures ∙ test_parts _ _ _ c.if-table-gt-LIMIT.false c.if-list_marks-list.false

@@ -1,10 +1,8 @@
+use mathlib.Core.Logic.{inl, inr}
 use Rattle.reply.proofs.commands.check_list.Goals as goal
 
 pub returns-in-Nothing : goal.returns-in-Nothing
-returns-in-Nothing c = rw c.in-Nothing.is
-
-pub returns-in-Offset : goal.returns-in-Offset
-returns-in-Offset c = rw c.in-Offset.is
+returns-in-Nothing c = elim c.in-Nothing.is [ inl e ↦ rw e | inr e ↦ rw e ]
 
 pub returns-in-Names : goal.returns-in-Names
 returns-in-Names c = rw c.in-Names.is c.check_names_part.ensures

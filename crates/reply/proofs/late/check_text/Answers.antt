@@ -9,8 +9,5 @@ returns-then-not-fits_form c = c.check_row.ensures ∙ late-row _ _ _ false (sym
 pub returns-then-expression-first : goal.returns-then-expression-first
 returns-then-expression-first c = c.check_row-then-expression-first.ensures ∙ late-row _ _ _ true (sym c.if-not-fits_form.false ∙ c.fits_form.ensures)
 
-pub returns-then-not-is_of_kind : goal.returns-then-not-is_of_kind
-returns-then-not-is_of_kind c = c.check_row-then-not-is_of_kind.ensures ∙ late-row _ _ _ true (sym c.if-not-fits_form.false ∙ c.fits_form.ensures)
-
 pub returns : goal.returns
 returns c = late-fits _ _ _ (sym c.if-not-fits_form.false ∙ c.fits_form.ensures) _ _ c.is_expr-expression.ensures c.is_expr-first.ensures c.if-expression-first.false (sym c.is_of_kind.ensures ∙ c.if-not-is_of_kind.false)

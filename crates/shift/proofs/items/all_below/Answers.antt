@@ -1,12 +1,11 @@
-use Rattle.std.proofs.Common.{refl}
-use Rattle.shift.proofs.ItemLaws.{below_more, below_end}
+use Rattle.std.proofs.Common.{◌≡◌, subst, refl, rules}
+use Rattle.std.proofs.lemmas.Fn.{fold_over, slice_gives, fronts}
+use Rattle.shift.specs.Internal.Items.{all_below}
+use Rattle.shift.proofs.ItemLaws.{below-push}
 use Rattle.shift.proofs.items.all_below.Goals as goal
 
-pub loop-i-init : goal.loop-i-init
-loop-i-init c = refl
-
-pub loop-i-preserved : goal.loop-i-preserved
-loop-i-preserved c = rw c.still_below-below.ensures (below_more c.args.hi c.args.row.now c.loop-i.i c.loop-i.below c.loop-i-test.true c.loop-i.invariant)
-
 pub returns : goal.returns
-returns c = below_end _ _ _ _ c.loop-i-test.false c.loop-i.invariant
+unfolding all_below
+returns c = subst (λ l. c.fold.result ≡ all_below c.args.hi l) c.iter.ensures.rest
+    (fold_over fronts (λ y. y.now) _ (λ ys below. below ≡ all_below c.args.hi ys) _ (λ ys a x b f' j k. let more = below-push c.args.hi ys x.now in search rules)
+    _ _ _ _ (slice_gives c.iter.result) refl c.fold.ensures.ran)

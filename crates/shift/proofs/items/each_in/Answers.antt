@@ -1,9 +1,6 @@
-use Rattle.std.proofs.Common.{sym, refl, ◌∙◌, arith}
+use Rattle.std.proofs.Common.{sym, ◌∙◌, arith}
 use Rattle.shift.proofs.ItemLaws.{all_more, all-stop, all_none, size_in, size-pos, not_yes, not-no}
 use Rattle.shift.proofs.items.each_in.Goals as goal
-
-pub loop-i-init : goal.loop-i-init
-loop-i-init c = refl
 
 pub returns-then-not-item_in : goal.returns-then-not-item_in
 returns-then-not-item_in c = sym (c.loop-i.invariant ∙ all-stop _ _ _ c.loop-i-test.true c.item_at-it.ensures _ (sym c.item_in.ensures ∙ not_yes _ c.if-not-item_in.true-raw))

@@ -6,38 +6,8 @@ use Rattle.shift.proofs.shift.write_moved.Goals as goal
 pub returns-then-row-eq0 : goal.returns-then-row-eq0
 returns-then-row-eq0 c = sym (word_none _ c.args.row.now c.args.marks.now 0 0 0 0 (omega arith) _)
 
-pub bounds-row-0 : goal.bounds-row-0
-bounds-row-0 c = omega arith
-
-pub bounds-out-0 : goal.bounds-out-0
-bounds-out-0 c = omega arith
-
 pub loop-i-init : goal.loop-i-init
 loop-i-init c = (refl, omega arith, (omega arith), refl)
-
-pub overflow_sub-i : goal.overflow_sub-i
-overflow_sub-i c = omega arith
-
-pub bounds-marks-i : goal.bounds-marks-i
-bounds-marks-i c = omega arith
-
-pub overflow_sub-i-in-loop-i : goal.overflow_sub-i-in-loop-i
-overflow_sub-i-in-loop-i c = omega arith
-
-pub bounds-row-i : goal.bounds-row-i
-bounds-row-i c = omega arith
-
-pub bounds-row-i-in-loop-i : goal.bounds-row-i-in-loop-i
-bounds-row-i-in-loop-i c = c.loop-i-test.true
-
-pub bounds-out-i : goal.bounds-out-i
-bounds-out-i c = let s = length-set c.args.out.now 0 (get_or c.args.row.now 0 0) in omega arith
-
-pub overflow_add-i : goal.overflow_add-i
-overflow_add-i c = omega arith
-
-pub loop-i-smaller : goal.loop-i-smaller
-loop-i-smaller c = omega arith
 
 pub loop-i-preserved : goal.loop-i-preserved
 loop-i-preserved c = (c.loop-i.invariant.0 ∙ rw (← back_one c.loop-i.i) (word_more _ c.args.row.now c.args.marks.now c.loop-i.i c.loop-i.i _ _ c.loop-i-test.true (omega arith) c.loop-i.out _ (ap (set c.loop-i.out c.loop-i.i) c.moved_at.ensures)), omega arith, (omega arith), length-set c.loop-i.out c.loop-i.i c.moved_at.result ∙ c.loop-i.invariant.3)

@@ -1,6 +1,9 @@
-use mathlib.Core.Path.{ap, ◌∙◌}
-use Rattle.sogbayile.specs.Code.{packed}
+use mathlib.Core.Path.{refl, sym, ◌∙◌}
+use native.Mathlib.Omega.{arith}
 use Rattle.sogbayile.proofs.offers.sgb_offer.Goals as goal
 
-pub returns : goal.returns
-returns c = record { value = c.refusal_code.ensures ∙ ap (λ o. packed o.number o.position) c.check-offered.ensures; starts_after = ap (λ o. o.places.starts) c.check-offered.ensures; ends_after = ap (λ o. o.places.ends) c.check-offered.ensures }
+pub returns-in-Ok : goal.returns-in-Ok
+returns-in-Ok c = let e = sym c.check.ensures ∙ c.in-Ok.is in record { value = rw e (omega arith); starts_after = rw e c.store.ensures.starts_after; ends_after = rw e c.store.ensures.ends_after }
+
+pub returns-in-Err : goal.returns-in-Err
+returns-in-Err c = let e = sym c.check.ensures ∙ c.in-Err.is in record { value = rw e c.refusal_code.ensures; starts_after = rw e refl; ends_after = rw e refl }

@@ -1,6 +1,13 @@
-use mathlib.Core.Path.{ap, ◌∙◌}
-use Rattle.sogbayile.specs.Code.{packed}
+use mathlib.Core.Path.{ap, sym, ◌∙◌}
+use native.Mathlib.Omega.{arith}
 use Rattle.sogbayile.proofs.offers.sgb_places.Goals as goal
 
-pub returns : goal.returns
-returns c = record { value = c.refusal_code.ensures ∙ ap (λ o. packed o.number o.position) c.new-made.ensures; starts_after = ap (λ o. o.places.starts) c.new-made.ensures; ends_after = ap (λ o. o.places.ends) c.new-made.ensures }
+pub returns-in-Ok : goal.returns-in-Ok
+returns-in-Ok c = let e = sym c.new.ensures ∙ c.in-Ok.is in record { value = rw e (omega arith); starts_after = rw e c.store.ensures.starts_after; ends_after = rw e c.store.ensures.ends_after }
+
+pub returns-in-Err : goal.returns-in-Err
+returns-in-Err c = let e = sym c.new.ensures ∙ c.in-Err.is in record {
+  value = rw e c.refusal_code.ensures;
+  starts_after = rw e (c.store-in-Err.ensures.starts_after ∙ ap (λ p. p.starts) c.free.ensures);
+  ends_after = rw e (c.store-in-Err.ensures.ends_after ∙ ap (λ p. p.ends) c.free.ensures);
+}

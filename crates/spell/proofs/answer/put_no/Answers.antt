@@ -3,21 +3,6 @@ use Rattle.spell.proofs.WriteLaws.{wrote-end, decimal-few}
 use Rattle.spell.proofs.AnswerLaws.{wrote-no}
 use Rattle.spell.proofs.answer.put_no.Goals as goal
 
-pub put_byte-requires : goal.put_byte-requires
-put_byte-requires c = omega arith
-
-pub put_byte-requires-2 : goal.put_byte-requires-2
-put_byte-requires-2 c = omega arith
-
-pub put_byte-requires-3 : goal.put_byte-requires-3
-put_byte-requires-3 c = omega arith
-
-pub put_byte-requires-4 : goal.put_byte-requires-4
-put_byte-requires-4 c = omega arith
-
-pub put_decimal-q-requires : goal.put_decimal-q-requires
-put_decimal-q-requires c = omega arith
-
 pub put_ending-requires : goal.put_ending-requires
 put_ending-requires c = let e = wrote-end 4 _ _ _ _ c.put_decimal-q.ensures in let f = decimal-few c.args.k in omega arith
 

@@ -8,14 +8,8 @@ use Rattle.spell.proofs.decimal.+put_digits.Goals as goal
 pub returns-then-places-eq0 : goal.returns-then-places-eq0
 returns-then-places-eq0 t c = no-digits _ _ _ _ c.if-places-eq0.true
 
-pub put_byte-requires : goal.put_byte-requires
-put_byte-requires t c = omega arith
-
 pub returns-then-n-lt10 : goal.returns-then-n-lt10
 returns-then-n-lt10 t c = last-digit _ _ _ _ _ _ c.if-places-eq0.false c.if-n-lt10.true c.put_byte.ensures
-
-pub put_digits-p-requires : goal.put_digits-p-requires
-put_digits-p-requires t c = omega arith
 
 pub put_byte-requires-2 : goal.put_byte-requires-2
 put_byte-requires-2 t c = let e = wrote-end _ _ _ _ _ c.put_digits-p.ensures in let h = digits-few (c.args.places - 1) (c.args.n / 10) in omega arith

@@ -10,23 +10,20 @@ use Rattle.spell.proofs.entries.print_pair.Goals as goal
 pub returns-then-row-at : goal.returns-then-row-at
 returns-then-row-at c = pair-past _ _ _ _ _ c.if-row-at.true
 
-pub put_byte-i-requires : goal.put_byte-i-requires
-put_byte-i-requires c = omega arith
-
 pub put_decimal-j-requires : goal.put_decimal-j-requires
-put_decimal-j-requires c = let e : c.put_byte-i.result ≡ c.args.o + 1 = wrote-end _ _ _ _ _ c.put_byte-i.ensures in omega arith
+put_decimal-j-requires c = let e : c.put_byte-i.result ≡ c.args.at.out + 1 = wrote-end _ _ _ _ _ c.put_byte-i.ensures in omega arith
 
 pub put_byte-k-requires : goal.put_byte-k-requires
-put_byte-k-requires c = let e : c.put_byte-i.result ≡ c.args.o + 1 = wrote-end _ _ _ _ _ c.put_byte-i.ensures in let f : c.put_decimal-j.result ≡ c.put_byte-i.result + _ = wrote-end _ _ _ _ _ c.put_decimal-j.ensures in let g = decimal-few (get_or c.args.row.now c.args.at 0) in omega arith
+put_byte-k-requires c = let e : c.put_byte-i.result ≡ c.args.at.out + 1 = wrote-end _ _ _ _ _ c.put_byte-i.ensures in let f : c.put_decimal-j.result ≡ c.put_byte-i.result + _ = wrote-end _ _ _ _ _ c.put_decimal-j.ensures in let g = decimal-few (get_or c.args.row.now c.args.at.row 0) in omega arith
 
-pub print_expr-requires : goal.print_expr-requires
-print_expr-requires c = let e : c.put_byte-i.result ≡ c.args.o + 1 = wrote-end _ _ _ _ _ c.put_byte-i.ensures in let f : c.put_decimal-j.result ≡ c.put_byte-i.result + _ = wrote-end _ _ _ _ _ c.put_decimal-j.ensures in let g = decimal-few (get_or c.args.row.now c.args.at 0) in let k : c.put_byte-k.result ≡ c.put_decimal-j.result + 1 = wrote-end _ _ _ _ _ c.put_byte-k.ensures in omega arith
+pub print_node-requires : goal.print_node-requires
+print_node-requires c = let e : c.put_byte-i.result ≡ c.args.at.out + 1 = wrote-end _ _ _ _ _ c.put_byte-i.ensures in let f : c.put_decimal-j.result ≡ c.put_byte-i.result + _ = wrote-end _ _ _ _ _ c.put_decimal-j.ensures in let g = decimal-few (get_or c.args.row.now c.args.at.row 0) in let k : c.put_byte-k.result ≡ c.put_decimal-j.result + 1 = wrote-end _ _ _ _ _ c.put_byte-k.ensures in omega arith
 
-pub returns-in_default : goal.returns-in_default
-returns-in_default c = pair-stop _ _ _ c.if-row-at.false _ _ _ _ _ _ c.print_expr.ensures c.in_default.is
+pub returns-in_err-ends : goal.returns-in_err-ends
+returns-in_err-ends c = rw c.from_residual.ensures (pair-stop _ _ _ c.if-row-at.false _ _ _ _ _ _ c.print_node.ensures c.in_err-ends.was)
 
 pub put_byte-requires : goal.put_byte-requires
-put_byte-requires c = let e : c.put_byte-i.result ≡ c.args.o + 1 = wrote-end _ _ _ _ _ c.put_byte-i.ensures in let f : c.put_decimal-j.result ≡ c.put_byte-i.result + _ = wrote-end _ _ _ _ _ c.put_decimal-j.ensures in let g = decimal-few (get_or c.args.row.now c.args.at 0) in let k : c.put_byte-k.result ≡ c.put_decimal-j.result + 1 = wrote-end _ _ _ _ _ c.put_byte-k.ensures in let (u, v) = printed-within _ _ _ _ _ _ _ _ _ _ c.print_expr.ensures c.in-End.is in omega arith
+put_byte-requires c = let e : c.put_byte-i.result ≡ c.args.at.out + 1 = wrote-end _ _ _ _ _ c.put_byte-i.ensures in let f : c.put_decimal-j.result ≡ c.put_byte-i.result + _ = wrote-end _ _ _ _ _ c.put_decimal-j.ensures in let g = decimal-few (get_or c.args.row.now c.args.at.row 0) in let k : c.put_byte-k.result ≡ c.put_decimal-j.result + 1 = wrote-end _ _ _ _ _ c.put_byte-k.ensures in let (u, v) = printed-within _ _ _ _ _ _ _ _ _ _ c.print_node.ensures c.in_ok-ends.was in omega arith
 
 pub returns : goal.returns
-returns c = pair-go _ _ _ c.if-row-at.false _ _ _ _ _ _ _ _ _ _ _ _ _ c.put_byte-i.ensures c.put_decimal-j.ensures c.put_byte-k.ensures c.print_expr.ensures c.in-End.is c.put_byte.ensures
+returns c = pair-go _ _ _ c.if-row-at.false _ _ _ _ _ _ _ _ _ _ _ _ _ c.put_byte-i.ensures c.put_decimal-j.ensures c.put_byte-k.ensures c.print_node.ensures c.in_ok-ends.was c.put_byte.ensures

@@ -8,20 +8,14 @@ use Rattle.spell.proofs.entries.print_place.Goals as goal
 pub returns-then-row-at : goal.returns-then-row-at
 returns-then-row-at c = place-past _ _ _ _ _ c.if-row-at.true
 
-pub returns-then-w-gt1 : goal.returns-then-w-gt1
-returns-then-w-gt1 c = place_other _ _ _ c.if-row-at.false _ _ c.if-w-gt1.true
-
-pub print_expr-requires : goal.print_expr-requires
-print_expr-requires c = omega arith
-
-pub returns-then-w-eq1 : goal.returns-then-w-eq1
-returns-then-w-eq1 c = place-go _ _ _ c.if-row-at.false _ _ _ c.if-w-eq1.true c.print_expr.ensures
-
-pub put_byte-i-requires : goal.put_byte-i-requires
-put_byte-i-requires c = omega arith
-
 pub put_byte-requires : goal.put_byte-requires
-put_byte-requires c = let e : c.put_byte-i.result ≡ c.args.o + 1 = wrote-end _ _ _ _ _ c.put_byte-i.ensures in omega arith
+put_byte-requires c = let e : c.put_byte-i.result ≡ c.args.at.out + 1 = wrote-end _ _ _ _ _ c.put_byte-i.ensures in omega arith
 
-pub returns : goal.returns
-returns c = place_kept _ _ _ c.if-row-at.false _ _ _ _ _ c.if-w-gt1.false c.if-w-eq1.false c.put_byte-i.ensures c.put_byte.ensures
+pub returns-in-0 : goal.returns-in-0
+returns-in-0 c = place_kept _ _ _ c.if-row-at.false _ _ _ _ _ c.in-0.is c.put_byte-i.ensures c.put_byte.ensures
+
+pub returns-in-1 : goal.returns-in-1
+returns-in-1 c = place-go _ _ _ c.if-row-at.false _ _ _ c.in-1.is c.print_node.ensures
+
+pub returns-in_default : goal.returns-in_default
+returns-in_default c = place_other _ _ _ c.if-row-at.false _ _ (omega arith)

@@ -1,37 +1,13 @@
-use mathlib.Core.Path.{refl, sym, ◌∙◌}
-use native.Mathlib.Omega.{arith}
-use Rattle.subst.proofs.BindLaws.{seek-here, seek-on, seek-end}
+use Rattle.std.proofs.Common.{◌≡◌, sym, ◌∙◌, rules, tests, position, nat_eq}
+use Rattle.std.proofs.lemmas.Iterator.{YieldsList-from_slice}
+use Rattle.std.proofs.lemmas.Iterator.Search.{position_from_yields_List}
+use Rattle.subst.proofs.BindLaws.{seek-by}
 use Rattle.subst.proofs.bind.seek.Goals as goal
 
-pub loop-i-init : goal.loop-i-init
-loop-i-init c = refl
-
-pub offset_bounds-names-i : goal.offset_bounds-names-i
-offset_bounds-names-i c = omega arith
-
-pub bounds-names-i : goal.bounds-names-i
-bounds-names-i c = omega arith
-
-pub overflow_sub-result : goal.overflow_sub-result
-overflow_sub-result c = omega arith
-
-pub overflow_sub-result-then-names-i : goal.overflow_sub-result-then-names-i
-overflow_sub-result-then-names-i c = omega arith
-
-pub overflow_cast-result : goal.overflow_cast-result
-overflow_cast-result c = omega arith
-
-pub returns-then-names-i : goal.returns-then-names-i
-returns-then-names-i c = seek-here _ _ _ c.loop-i-test.true c.if-names-i.true ∙ sym c.loop-i.invariant
-
-pub overflow_add-i : goal.overflow_add-i
-overflow_add-i c = omega arith
-
-pub loop-i-smaller : goal.loop-i-smaller
-loop-i-smaller c = omega arith
-
-pub loop-i-preserved : goal.loop-i-preserved
-loop-i-preserved c = c.loop-i.invariant ∙ seek-on _ _ _ c.loop-i-test.true c.if-names-i.false
+pub returns-in_err-i : goal.returns-in_err-i
+returns-in_err-i c = let found : c.position.result ≡ position (λ n. nat_eq n c.args.m) c.args.names.now = position_from_yields_List _ _ _ _ c.position.ensures.ran (YieldsList-from_slice c.args.names.now cc) (λ x b q k. search (rules, tests)) in
+    rw c.from_residual.ensures (sym (seek-by _ _ _ (sym c.in_err-i.was ∙ found)))
 
 pub returns : goal.returns
-returns c = sym (c.loop-i.invariant ∙ seek-end _ _ _ c.loop-i-test.false)
+returns c = let found : c.position.result ≡ position (λ n. nat_eq n c.args.m) c.args.names.now = position_from_yields_List _ _ _ _ c.position.ensures.ran (YieldsList-from_slice c.args.names.now cc) (λ x b q k. search (rules, tests)) in
+    sym (seek-by _ _ _ (sym c.in_ok-i.was ∙ found))

@@ -1,27 +1,14 @@
-use mathlib.Core.Path.{sym, ◌∙◌}
-use native.Mathlib.Omega.{arith}
-use native.Mathlib.Nat.{zero-add, add-zero}
-use lib.ListN.{get_or}
-use Rattle.subst.proofs.DanglingLaws.{count_next, selected-none, flag_one}
+use Rattle.std.proofs.Common.{sym, ◌∙◌, get_or, arith, false}
+use Rattle.subst.proofs.DanglingLaws.{count-next, flag-number, flag_one, selected-none}
 use Rattle.subst.proofs.dangling.count_flags.Goals as goal
 
-pub loop-i-init : goal.loop-i-init
-loop-i-init c = (sym (zero-add _), omega arith)
-
-pub bounds-flags-i : goal.bounds-flags-i
-bounds-flags-i c = omega arith
-
-pub overflow_add-n : goal.overflow_add-n
-overflow_add-n c = let h = flag_one 0 (get_or c.args.flags.now c.loop-i.i 0) in omega arith
-
-pub overflow_add-i : goal.overflow_add-i
-overflow_add-i c = omega arith
-
-pub loop-i-smaller : goal.loop-i-smaller
-loop-i-smaller c = omega arith
-
-pub loop-i-preserved : goal.loop-i-preserved
-loop-i-preserved c = (c.loop-i.invariant.0 ∙ count_next c.args.flags.now _ _ _ c.loop-i-test.true c.is_set-n.ensures, let h = flag_one 0 (get_or c.args.flags.now c.loop-i.i 0) in omega arith)
+pub loop-flag-preserved : goal.loop-flag-preserved
+loop-flag-preserved c =
+    let w = get_or c.args.flags.now c.loop-flag.flag-index false in
+    let a = c.from-n.ensures ∙ flag-number 0 w in
+    let one = flag_one 0 w in
+    let most = c.loop-flag.invariant.1 in
+    (sym (count-next c.args.flags.now c.loop-flag.flag-index c.loop-flag.n _ c.loop-flag-test.true a) ∙ c.loop-flag.invariant.0, omega (arith, a, one, most))
 
 pub returns : goal.returns
-returns c = sym (c.loop-i.invariant.0 ∙ rw (selected-none c.args.flags.now _ c.loop-i-test.false, add-zero))
+returns c = let e = rw (selected-none c.args.flags.now _ c.loop-flag-test.false) at c.loop-flag.invariant.0 in omega (arith, e)

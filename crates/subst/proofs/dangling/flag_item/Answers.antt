@@ -1,25 +1,25 @@
-use mathlib.Core.Path.{sym}
+use Rattle.std.proofs.Common.{sym}
 use lib.Seq.{set_out}
-use borrow.Author.Tests.{eq-eqb, ne_eqb, lt-ltb, le-ltb}
-use Rattle.subst.specs.Internal.Flags.{index_words, flag_all}
+use Rattle.subst.specs.Internal.Flags.{flag_all}
+use Rattle.subst.proofs.DanglingLaws.{index-at, index-bound, index-other, index-plain}
 use Rattle.subst.proofs.dangling.flag_item.Goals as goal
-
-pub returns-in_default : goal.returns-in_default
-unfolding index_words flag_all
-returns-in_default c = rw c.in_default.is
-
-pub returns-then-t-ne2 : goal.returns-then-t-ne2
-unfolding index_words flag_all
-returns-then-t-ne2 c = rw (c.in-Ident.is, ne_eqb _ _ c.if-t-ne2.true)
-
-pub returns-then-v-k : goal.returns-then-v-k
-unfolding index_words flag_all
-returns-then-v-k c = rw (c.in-Ident.is, eq-eqb _ _ c.if-t-ne2.false, lt-ltb _ _ c.if-v-k.true)
+use Rattle.subst.proofs.dangling.flag_item.Goals.{else-t-eq-BOUND_IDENT-via-then-t-eq-BOUND_IDENT+else-k-v, else-t-eq-BOUND_IDENT-via-else-t-eq-BOUND_IDENT}
 
 pub returns-then-j-flags : goal.returns-then-j-flags
-unfolding index_words flag_all
-returns-then-j-flags c = rw (c.in-Ident.is, eq-eqb _ _ c.if-t-ne2.false, le-ltb _ _ c.if-v-k.false)
+unfolding flag_all
+returns-then-j-flags c = rw (index-at _ _ _ _ c.in-Ident.is c.if-t-eq-BOUND_IDENT.true c.if-k-v.true)
 
 pub returns-else-j-flags : goal.returns-else-j-flags
-unfolding index_words flag_all
-returns-else-j-flags c = rw (c.in-Ident.is, eq-eqb _ _ c.if-t-ne2.false, le-ltb _ _ c.if-v-k.false) (sym (set_out _ _ _ c.if-j-flags.false))
+unfolding flag_all
+returns-else-j-flags c = rw (index-at _ _ _ _ c.in-Ident.is c.if-t-eq-BOUND_IDENT.true c.if-k-v.true) (sym (set_out _ _ _ c.if-j-flags.false))
+
+pub returns-else-t-eq-BOUND_IDENT : goal.returns-else-t-eq-BOUND_IDENT
+unfolding flag_all
+returns-else-t-eq-BOUND_IDENT c = elim c.else-t-eq-BOUND_IDENT.branch [
+  | else-t-eq-BOUND_IDENT-via-then-t-eq-BOUND_IDENT+else-k-v w ↦ rw (index-bound _ _ _ _ c.in-Ident.is w.if-t-eq-BOUND_IDENT.true w.if-k-v.false)
+  | else-t-eq-BOUND_IDENT-via-else-t-eq-BOUND_IDENT w ↦ rw (index-other _ _ _ _ c.in-Ident.is w.if-t-eq-BOUND_IDENT.false)
+]
+
+pub returns-in_default : goal.returns-in_default
+unfolding flag_all
+returns-in_default c = rw (index-plain _ _ c.in_default.is)

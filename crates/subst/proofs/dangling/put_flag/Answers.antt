@@ -1,16 +1,18 @@
+use Rattle.std.proofs.Common.{◌∙◌}
 use native.Mathlib.Nat.{add-zero}
-use Rattle.subst.specs.Internal.Flags.{flag_words}
 use Rattle.shift.specs.Internal.Items.{store}
-use Rattle.subst.proofs.DanglingLaws.{put-set, put-out}
-use Rattle.tree.proofs.Pairs.{both}
+use Rattle.subst.specs.Internal.Flags.{flag_words}
+use Rattle.subst.proofs.DanglingLaws.{put-place, put-out}
 use Rattle.subst.proofs.dangling.put_flag.Goals as goal
+use Rattle.subst.proofs.dangling.put_flag.Goals.{then-n-out, else-n-out}
 
-pub returns-then-w-eq0 : goal.returns-then-w-eq0
+pub returns-then-not-flag : goal.returns-then-not-flag
 unfolding flag_words store
-returns-then-w-eq0 c = record { value = rw (c.if-w-eq0.true, add-zero); out_after = rw c.if-w-eq0.true }
+returns-then-not-flag c = record { value = rw (c.if-not-flag.true, add-zero); out_after = rw c.if-not-flag.true }
 
-pub returns-then-out-n : goal.returns-then-out-n
-returns-then-out-n c = both (λ v w. record { value = v; out_after = w }) (put-out _ _ _ _ c.if-w-eq0.false c.if-out-n.true)
+pub returns-clause-value : goal.returns-clause-value
+unfolding flag_words
+returns-clause-value c = rw c.if-not-flag.false
 
-pub returns : goal.returns
-returns c = both (λ v w. record { value = v; out_after = w }) (put-set _ _ _ _ c.if-w-eq0.false)
+pub returns-clause-out_after : goal.returns-clause-out_after
+returns-clause-out_after c = rw c.if-not-flag.false (elim c.if-n-out.branch [ then-n-out w ↦ w.out-is ∙ put-place _ _ _ | else-n-out w ↦ w.out-is ∙ put-out _ _ _ w.if-n-out.false ])

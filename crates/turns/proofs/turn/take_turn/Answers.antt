@@ -18,9 +18,6 @@ slice_bounds-reply-start c = let (r, a, b, m) = reply-fits _ c.args.st (length c
 pub slice_bounds-reply-end : goal.slice_bounds-reply-end
 slice_bounds-reply-end c = let (r, a, b, m) = reply-fits _ c.args.st (length c.args.input.now) (length c.args.output.now) _ c.decide-step.ensures.allowed _ _ c.in-Reply.is in b
 
-pub slice_bounds-reply-count-in-Reply : goal.slice_bounds-reply-count-in-Reply
-slice_bounds-reply-count-in-Reply c = omega arith
-
 pub slice_bounds-reply-end-in-Reply : goal.slice_bounds-reply-end-in-Reply
 slice_bounds-reply-end-in-Reply c = let (r, a, b, m) = reply-fits _ c.args.st (length c.args.input.now) (length c.args.output.now) _ c.decide-step.ensures.allowed _ _ c.in-Reply.is in search rules
 

@@ -6,18 +6,18 @@ use Rattle.places.proofs.SidesLaws.{above-is}
 use Rattle.places.proofs.PlacesLaws.{place-from}
 use Rattle.places.proofs.replacements.Replacements.offer.Goals as goal
 
-pub returns-then-n-index : goal.returns-then-n-index
+pub returns-then-self-index : goal.returns-then-self-index
 unfolding offer_part
-returns-then-n-index c = rw (le-ltb _ _ c.if-n-index.true) c.says.ensures
+returns-then-self-index c = rw (le-ltb _ _ c.if-self-index.true)
 
 pub returns-then-not-is_above : goal.returns-then-not-is_above
 unfolding offer_part
-returns-then-not-is_above c = rw (lt-ltb _ _ c.if-n-index.false, sym (above-is c.args.target _ _ c.is_above.ensures (omega arith)) ∙ c.if-not-is_above.true) c.says-then-not-is_above.ensures
+returns-then-not-is_above c = rw (lt-ltb _ _ c.if-self-index.false, sym (above-is c.args.part.target _ _ c.is_above.ensures (omega arith)) ∙ c.if-not-is_above.true)
 
-pub returns-then-filled-ne0 : goal.returns-then-filled-ne0
+pub returns-then-self-place-ne0 : goal.returns-then-self-place-ne0
 unfolding offer_part
-returns-then-filled-ne0 c = rw (lt-ltb _ _ c.if-n-index.false, sym (above-is c.args.target _ _ c.is_above.ensures (omega arith)) ∙ c.if-not-is_above.false, place-from, ne_eqb _ _ c.if-filled-ne0.true) c.says-then-filled-ne0.ensures
+returns-then-self-place-ne0 c = rw (lt-ltb _ _ c.if-self-index.false, sym (above-is c.args.part.target _ _ c.is_above.ensures (omega arith)) ∙ c.if-not-is_above.false, place-from, ne_eqb _ _ c.if-self-place-ne0.true)
 
 pub returns : goal.returns
 unfolding offer_part
-returns c = rw (lt-ltb _ _ c.if-n-index.false, sym (above-is c.args.target _ _ c.is_above.ensures (omega arith)) ∙ c.if-not-is_above.false, place-from, eq-eqb _ _ c.if-filled-ne0.false) c.says-2.ensures
+returns c = rw (lt-ltb _ _ c.if-self-index.false, sym (above-is c.args.part.target _ _ c.is_above.ensures (omega arith)) ∙ c.if-not-is_above.false, place-from c.args.self.n c.args.part.target, eq-eqb _ _ c.if-self-place-ne0.false)

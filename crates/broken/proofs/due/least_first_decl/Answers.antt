@@ -1,9 +1,0 @@
-use Rattle.broken.proofs.DueLaws.{least-flag, least-typed}
-use mathlib.Core.Bool.{false}
-use Rattle.broken.proofs.due.least_first_decl.Goals as goal
-
-pub returns-then-flag-eq0 : goal.returns-then-flag-eq0
-returns-then-flag-eq0 c = record { value = least-flag false _ _ _ _ _ c.if-flag-eq0.true c.least_first.ensures.value; upper_bound = c.least_first.ensures.upper_bound }
-
-pub returns : goal.returns
-returns c = record { value = least-typed false _ _ _ _ _ c.if-flag-eq0.false c.least_note.ensures.value; upper_bound = c.least_note.ensures.upper_bound }
