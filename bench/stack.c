@@ -2,7 +2,8 @@
  *
  *   stack < CALLS        bench/stack.py writes the calls and builds this
  *
- * A call is a line: its name, then the list and the row, each with the number of its words in front. Prints the most that a call of each name took. */
+ * A call is a line: its name, behind ! where it must be refused, then the list and the row, each with the number of its words in front. Prints the
+ * most that a call of each name took. */
 #include <pthread.h>
 #include <stdio.h>
 #include <stdlib.h>
@@ -71,8 +72,10 @@ int main(void)
     while (scanf("%15s", c.name) == 1) {
         c.list = words(&c.list_len);
         c.row = words(&c.len);
+        int refused = c.name[0] == '!';
+        memmove(c.name, c.name + refused, strlen(c.name + refused) + 1);
         size_t i = 0, took = taken(run, &c) - base;
-        if (c.answer >> 32)
+        if (refused != (c.answer >> 32 != 0))
             return fprintf(stderr, "%s: refused by %u\n", c.name, (unsigned)(c.answer >> 32)), 1;
         while (i < count && strcmp(names[i], c.name))
             i++;

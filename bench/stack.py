@@ -1,6 +1,7 @@
 #!/usr/bin/env python3
 """How much stack each call takes (bench/stack.c): rows of some 8,000 words, up to 64 deep, without annotations and with them, heads that one
-point and membership join with the body's own, and names under 1,952 declarations. These are the figures of include/sogbayile.h.
+point and membership join with the body's own, names under 1,952 declarations, replacements and annotations that take the longest rows, and rows
+that break. These are the figures of include/sogbayile.h.
 
   python3 bench/stack.py        in the repository's root, after rt lib in crates/sogbayile
 """
@@ -65,6 +66,35 @@ def wide():
     yield True, "named", [], [word for _ in range(61) for word in [861, 32] + [4, 0] * 31 + [4, 1, 1, 4]] + names
 
 
+def far():
+    """What takes the longest rows: an index over 63; replacements so deep that the result is checked, and body's own annotations that use them; a join
+    whose result would be too long, which is refused."""
+    part = [203, 1, 5, 203, 1, 6, 203, 1, 6, 1, 7]
+    yield False, "dangling", [], [351, 1600] + [112, 2, 100, 2, 0] * 1600
+    yield False, "free", [7] + part, conjunction(1600, 1, 1)
+    yield False, "point", [], [852, 1, 9, 351, 1001, 101, 2, 0] + part + conjunction(1000, 1, 1)[2:]
+    for body in conjunction(1500, 1, 1), conjunction(600, 2, 2):
+        yield False, "fill", [0, 1] + part, [852, 2, 4, 5] + body
+        yield True, "fill", [0, 1] + part, [862, 2, 4, 1, 1, 9, 5, 0] + body
+    note = [4, 1200] + [1, 7] * 1195 + [2, 0] * 5
+    for n in 600, 900:
+        kept, used = [862, 1, 6, 1] + note + conjunction(n, 2, 0), [862, 1, 6, 1] + note + conjunction(n, 1, 0)
+        for head in [852, 2, 4, 5], [862, 2, 4, 0, 5, 1, 1, 8]:
+            yield True, "point", [], head + [351, 2, 101, 2, 0] + part + kept
+            yield True, "!point", [], head + [351, 2, 101, 2, 0] + part + used
+        for head in [803, 0, 2, 4, 5], [873, 0, 2, 4, 1, 1, 8, 5, 0]:
+            yield True, "member", [], [107] + part + head + kept + [2, 0]
+            yield True, "!member", [], [107] + part + head + used + [2, 0]
+
+
+def broken():
+    """Rows of some 8,000 words behind 60 nots, whose last word is too large."""
+    for head in [852, 1, 4], [862, 1, 4, 1, 1, 7]:
+        row = [8] * 60 + head + conjunction(1500, 0, 1)[:-1] + [70000]
+        for name in COMMANDS + ["named", "check", "dangling"]:
+            yield head[0] == 862, "!" + name, [4] if name == "bind" else [4, 1, 5] if name == "free" else [1, 1, 5] if name == "fill" else [], row
+
+
 def measure(calls):
     lines = ["%s %d %s %d %s" % (name, len(listed), " ".join(map(str, listed)), len(row), " ".join(map(str, row))) for _, name, listed, row in calls]
     subprocess.run(["target/bench/stack"], input="\n".join(lines) + "\n", check=True, text=True)
@@ -73,7 +103,7 @@ def measure(calls):
 def main():
     os.makedirs("target/bench", exist_ok=True)
     subprocess.run(["cc", "-O2", "-Iinclude", "-o", "target/bench/stack", "bench/stack.c", LIBRARY, "-lpthread"], check=True)
-    calls = [*usual(), *deep(), *wide()]
+    calls = [*usual(), *deep(), *wide(), *far(), *broken()]
     print("rows without annotations:", flush=True)
     measure(call for call in calls if not call[0])
     print("all rows:", flush=True)

@@ -27,7 +27,7 @@ unfolding break_from after least least_all
 no_more named p [] = refl
 no_more named p (w ∷ ws) = rw (lt-leb (suc p + (8193 + 0)) 8192 (omega arith))
 
-whole-at : {named : Bool} (row : List ℕ) (o : Next) (s : Sought) → Seeks named row 0 64 o 0 s → place_of s ≡ break_from named (λ w. never) 0 (rest 64 o nothing) row
+pub whole-at : {named : Bool} (row : List ℕ) (o : Next) (s : Sought) → Seeks named row 0 64 o 0 s → place_of s ≡ break_from named (λ w. never) 0 (rest 64 o nothing) row
 unfolding least_all
 whole-at row o s h = sym (h.breaks (λ w. never) nothing refl ∙ rw (no_more _ (place_of s) (drop (place_of s) row)) (same-both (is_ok s) (place_of s)))
 

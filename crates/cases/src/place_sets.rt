@@ -1,8 +1,7 @@
 // Offers in turn to one set of places.
 use crate::print;
 use crate::text::{part, size_at};
-use form::answer::Refusal;
-use places::replacements::Replacements;
+use places::replacements::{Refused, Replacements};
 use std::io;
 
 // The number of declarations; number, start and end of each filled place.
@@ -21,10 +20,18 @@ fn show(rt: &impl Print, places: Replacements) -> io::Result<()> {
 }
 
 // What is answered about a set: 0 and 0, or the refusal.
-fn say(rt: &impl Print, made: Result<Replacements, Refusal>) -> io::Result<()> {
+fn say(rt: &impl Print, made: Result<Replacements, Refused>) -> io::Result<()> {
     match made {
         Ok(_) => print::text(rt, b" 0 0"),
-        Err(refusal) => print::refused(rt, refusal),
+        Err(refused) => print::refused(rt, refused.refusal),
+    }
+}
+
+// The set that was made, or the one that a refusal left.
+fn set_of(made: Result<Replacements, Refused>) -> Replacements {
+    match made {
+        Ok(places) => places,
+        Err(refused) => refused.places,
     }
 }
 
@@ -32,10 +39,10 @@ fn say(rt: &impl Print, made: Result<Replacements, Refusal>) -> io::Result<()> {
 pub(crate) fn run(
     rt: &impl Print,
     rows: &[u32],
-    made: Result<Replacements, Refusal>,
+    made: Result<Replacements, Refused>,
 ) -> io::Result<()> {
     say(rt, made)?;
-    let mut places = made.unwrap_or(Replacements::free(0));
+    let mut places = set_of(made);
     let mut at = 0;
     for _ in 0..rows.len() {
         if rows.len() <= at {
@@ -45,7 +52,7 @@ pub(crate) fn run(
         let end = start.wrapping_add(size_at(rows, at));
         let offered = offers::offer_once(places, part(rows, start, end));
         say(rt, offered)?;
-        places = offered.unwrap_or(places);
+        places = set_of(offered);
         at = end;
     }
     show(rt, places)

@@ -119,7 +119,7 @@ module _ (n words room : ℕ) where
   unfolding head_fits
   fits a b c d = rw (le-leb n 32 a, le-leb (2 + n) words b, le-leb words 8192 c, le-leb words room d)
 
-  not-long : n ≤ 32 → words < 2 + n → false ≡ head_fits n words room
+  pub not-long : n ≤ 32 → words < 2 + n → false ≡ head_fits n words room
   unfolding head_fits
   not-long few h = rw (le-leb n 32 few, lt-leb (2 + n) words h)
 
@@ -152,7 +152,7 @@ head-written t n p ks (a ∷ b ∷ l) l' h e q =
 pub ruleset written_heads = (fit_all, parts-fit, head-written)
 
 module _ (op : ℕ) (ws row : List ℕ) (room : ℕ) (low : op ≤ 852) where
-  noted-tight : head_fits (length ws) (length row) room ≡ false → [] ≡ noted_head op ws row room
+  pub noted-tight : head_fits (length ws) (length row) room ≡ false → [] ≡ noted_head op ws row room
   unfolding noted_head
   noted-tight h = rw (le-leb op 852 low, h)
 

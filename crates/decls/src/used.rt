@@ -4,7 +4,9 @@ ghost use Rattle.decls.specs.Internal.Used.{open_items, cleared, cleared_in};
 
 use shift::slots::slot_of;
 
-// Sets the word of each declaration that the row uses to 0: each word of the row is an index or not by the mark and the word before it.
+// Sets the word of each declaration that the row uses to 0: each word of the row is an index or not by the mark and the word before it. It stays a
+// function of its own, so that its loop has the registers for itself.
+#[inline(never)]
 #[tactic(auto, using(crate::proofs::ClearLaws::clear_steps))]
 fn clear_words(row: &[u32], marks: &[u32], n: u32, words: &mut [u32])
     requires { (length words.old ≡ n + 1) × (length row.now ≤ length marks.now) }

@@ -287,11 +287,11 @@ pub opens-is : (m u c : ℕ) (sc : List ℕ) → c ≡ cell_in sc u m
 unfolding opens
 opens-is m u c sc e = rw (add-one u, e)
 
-open_more : (declared : List ℕ) (i u : ℕ) (sc sc' : List ℕ) → i < length declared → sc' ≡ opens (get_or declared i 0) u sc → open_all (drop i declared) u sc ≡ open_all (drop (i + 1) declared) (u + 1) sc'
+pub open_more : (declared : List ℕ) (i u : ℕ) (sc sc' : List ℕ) → i < length declared → sc' ≡ opens (get_or declared i 0) u sc → open_all (drop i declared) u sc ≡ open_all (drop (i + 1) declared) (u + 1) sc'
 unfolding open_all
 open_more declared i u sc sc' h e = rw (here declared i h, e, add-one u)
 
-held_next : (m u : ℕ) (sc sc' : List ℕ) → Sized (u + 1) (length sc) → Held sc u → sc' ≡ opens m u sc → Held sc' (u + 1)
+pub held_next : (m u : ℕ) (sc sc' : List ℕ) → Sized (u + 1) (length sc) → Held sc u → sc' ≡ opens m u sc → Held sc' (u + 1)
 held_next m u sc sc' r h e = rw (e, add-one u) (open-held m u sc (rw (add-one u) at r) h)
 
 -- the declaration at the place i of a quantifier under u others

@@ -5,7 +5,7 @@ use Rattle.form.specs.Refusal.{number_of, position_of}
 use Rattle.form.specs.declared.answer.Refusal.{Refusal}
 use Rattle.places.specs.Places.{Offered, new_of, offer_answer}
 use Rattle.places.specs.declared.replacements.Replacements.{Replacements}
-use Rattle.offers.specs.declared.Refused.{Refused}
+use Rattle.places.specs.declared.replacements.Refused.{Refused}
 
 -- an accepted set is offered the row; a refused one is answered as it is
 unfoldable pub then_offer : Offered → List ℕ → Offered

@@ -98,7 +98,7 @@ module _ (row : List ℕ) (wl room : ℕ) where
         abbrev body : Maybe Outcome
         body = body_outcome 63 (operator_in (take p row)) (decls_in (take p row)) (take (length row - p) (drop p row)) room
 
-        point-body : (o : Outcome) → body ≡ Some o → o ≡ point_outcome row wl room
+        pub point-body : (o : Outcome) → body ≡ Some o → o ≡ point_outcome row wl room
         unfolding body_outcome point_outcome form_of row_form
         point-body o e = rw (le-leb 16384 wl enough, le-leb (length row) 8192 short, h.whole) (go (whole_of (decode 63 pred (drop p row))) (rw (h.operator-is, h.decls-are, rest_part row p) at e))
           where
@@ -109,7 +109,7 @@ module _ (row : List ℕ) (wl room : ℕ) where
             go not-one e = absurd (clash cc)
 
         -- a body that is no predicate: the row breaks
-        point-broken : body ≡ None → point_outcome row wl room ≡ stop (Broken (break_at Predicate row))
+        pub point-broken : body ≡ None → point_outcome row wl room ≡ stop (Broken (break_at Predicate row))
         unfolding body_outcome point_outcome form_of row_form
         point-broken e = rw (le-leb 16384 wl enough, le-leb (length row) 8192 short, h.whole) (go (whole_of (decode 63 pred (drop p row))) (rw (h.operator-is, h.decls-are, rest_part row p) at e))
           where

@@ -5,3 +5,4 @@ pub mod WroteLaws
 pub mod PartsLaws
 pub mod StepLaws
 pub mod PartsOk
+pub mod KeptLaws

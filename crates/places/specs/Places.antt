@@ -10,6 +10,7 @@ use Rattle.form.specs.declared.answer.Refusal.TheVariants.{TooLong, TooManyPlace
 use Rattle.rules.specs.Replacement.{Side, left, right, side_of, Offer, offer, no-offer, offered, above}
 use Rattle.rules.specs.Split.{of_two}
 use Rattle.places.specs.declared.replacements.Replacements.{Replacements}
+use Rattle.places.specs.declared.replacements.Refused.{Refused}
 
 -- a set, and the number and the position of what refused a row; both are 0 where nothing did
 pub record Offered : Type 0 where
@@ -21,6 +22,11 @@ pub record Offered : Type 0 where
 abbrev pub after : Replacements → Result Replacements Refusal → Offered
 after p (Ok q) = record { places = q; number = 0; position = 0 }
 after p (Err r) = record { places = p; number = number_of r; position = position_of r }
+
+-- the same as a value: a refusal holds p
+abbrev pub or_kept : Replacements → Result Replacements Refusal → Result Replacements Refused
+or_kept p (Ok q) = Ok q
+or_kept p (Err r) = Err (record { places = p; refusal = r })
 
 abbrev pub empty_for : ℕ → Replacements
 empty_for n = record { starts = replicate 32 0; ends = replicate 32 0; n = n }

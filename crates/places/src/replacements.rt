@@ -1,6 +1,6 @@
 // The set of places: for each declaration, where its replacement starts and ends in the row that offered it.
 ghost use Rattle.std.specs.Prelude.{◌≡◌, ◌≤◌, length};
-ghost use Rattle.places.specs.Places.{empty_for, new_result, offer_result};
+ghost use Rattle.places.specs.Places.{empty_for, new_result, offer_result, or_kept};
 ghost use Rattle.places.specs.Internal.Sides.{offer_part};
 
 use crate::sides::{Replacement, equality_of, is_above, match_replacement};
@@ -13,6 +13,13 @@ pub struct Replacements {
     pub starts: [usize; Replacements::LIMIT],
     pub ends: [usize; Replacements::LIMIT],
     pub n: usize,
+}
+
+// A set that was refused, as it was before, and why.
+#[derive(Clone, Copy)]
+pub struct Refused {
+    pub places: Replacements,
+    pub refusal: Refusal,
 }
 
 impl Replacements {
@@ -29,12 +36,15 @@ impl Replacements {
         }
     }
 
-    // The same, for no more declarations than there are places.
-    pub fn new(n: usize) -> Result<Replacements, Refusal>
-        ensures { result ≡ new_result n }
+    // The same, for no more declarations than there are places; where it is refused, the set is the one for none.
+    pub fn new(n: usize) -> Result<Replacements, Refused>
+        ensures { result ≡ or_kept (empty_for 0) (new_result n) }
     {
         if Self::LIMIT < n {
-            return Err(Refusal::TooManyPlaces);
+            return Err(Refused {
+                places: Self::free(0),
+                refusal: Refusal::TooManyPlaces,
+            });
         }
         Ok(Self::free(n))
     }
@@ -60,8 +70,8 @@ impl Replacements {
         Ok(self)
     }
 
-    // The set with the replacement that a predicate row offers.
-    pub fn check(self, row: &[u32]) -> Result<Replacements, Refusal>
+    // The set with the replacement that a predicate row offers, or why it has none.
+    fn checked(self, row: &[u32]) -> Result<Replacements, Refusal>
         ensures { result ≡ offer_result self row.now }
     {
         if Limit::WORDS < row.len() {
@@ -76,5 +86,18 @@ impl Replacements {
         let sides = equality_of(row).ok_or(Refusal::NoEquality)?;
         let part = match_replacement(row, sides).ok_or(Refusal::NoEquality)?;
         self.offer(row, part)
+    }
+
+    // The same; a refusal gives the set back as it is.
+    pub fn check(self, row: &[u32]) -> Result<Replacements, Refused>
+        ensures { result ≡ or_kept self (offer_result self row.now) }
+    {
+        match self.checked(row) {
+            Ok(places) => Ok(places),
+            Err(refusal) => Err(Refused {
+                places: self,
+                refusal,
+            }),
+        }
     }
 }

@@ -247,6 +247,11 @@ module _ (o : Option (List Entry)) (t u : Table) (a b : List ℕ) (ok : Bool) (h
       go (some es) h = (es, refl, h.1, h.2)
       go absent h = absurd (clash cc)
 
+-- where no list was read, what stands in the table is free
+pub listing-free : (o : Option (List Entry)) (t u v : Table) (a b c : List ℕ) (ok : Bool) → Listing o t u a b ok → ok ≡ false → Listing o t v a c false
+unfolding ListingFrom
+listing-free o t u v a b c ok h e = rw (listing-no o t u a b ok h e) refl
+
 -- the answers: names, pairs, places
 module _ (row : List ℕ) where
   pub names-long : 8192 < length row → Err TooLong ≡ told (names_outcome row)

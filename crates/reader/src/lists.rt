@@ -1,8 +1,9 @@
 // The lists: names; name and expression in turn; for each declaration 0, or 1 and an expression.
-ghost use Rattle.std.specs.Prelude.{◌≡◌, ◌+◌, ◌-◌, ◌^◌, ◌<◌, length, drop};
+ghost use Rattle.std.specs.Prelude.{◌≡◌, ◌+◌, ◌<◌, length, drop};
+ghost use Rattle.std.specs.Option.{unwrap_or, is_some};
 ghost use Rattle.form.specs.Lists.{place_entry, entry_of, list_of, distinct, good_names};
 ghost use Rattle.form.specs.Answer.{told, names_outcome, pairs_outcome, places_outcome};
-ghost use Rattle.reader.specs.Internal.Reads.{ToldEntry, emptied, empty_table, add_row, Listing, good_words};
+ghost use Rattle.reader.specs.Internal.Reads.{ToldEntry, table_of, emptied, empty_table, Listing, good_words};
 
 use crate::reader::mark_child;
 use broken::position::broken_list;
@@ -31,19 +32,6 @@ impl Table {
             ends: [0; 32],
             n: 0,
         }
-    }
-
-    // One entry more; past 32 only their number grows.
-    fn add(&mut self, word: u32, start: usize, end: usize)
-        requires { self.old.n < 2 ^ 64 - 1 }
-        ensures { self.new ≡ add_row self.old word start end }
-    {
-        if self.n < Table::LIMIT {
-            self.words[self.n] = word;
-            self.starts[self.n] = start;
-            self.ends[self.n] = end;
-        }
-        self.n += 1;
     }
 }
 
@@ -74,20 +62,50 @@ fn entry_at(row: &[u32], kind: ListKind, marks: &mut [u32], p: usize) -> Option<
     }
 }
 
+// The entries of the row, if it is such a list: how many there are, and of the first 32 the word, and where its expression starts and ends.
+// What the rows and the marks hold after a refusal is free. The three rows are lent one by one and not as a table, since a check reads one of
+// them or none, and a row that is never read costs nothing.
+fn read_entries(
+    row: &[u32],
+    kind: ListKind,
+    marks: &mut [u32],
+    words: &mut [u32; 32],
+    starts: &mut [usize; 32],
+    ends: &mut [usize; 32],
+) -> Option<usize>
+    ensures { Listing (list_of kind row.now) (table_of 0 words.old starts.old ends.old) (table_of (unwrap_or result 0) words.new starts.new ends.new) marks.old marks.new (is_some result) }
+{
+    let mut n = 0;
+    let mut p = 0;
+    while p < row.len() {
+        let q = entry_at(row, kind, marks, p)?;
+        if n < Table::LIMIT {
+            words[n] = row[p];
+            starts[n] = p + 1;
+            ends[n] = q;
+        }
+        n += 1;
+        p = q;
+    }
+    Some(n)
+}
+
 // Whether the row is such a list: its entries stand in the table, in place of what it held, and the names and indices of their expressions
 // are marked. What the table and the marks hold after a refusal is free.
 pub fn mark_list(row: &[u32], kind: ListKind, marks: &mut [u32], table: &mut Table) -> bool
     ensures { Listing (list_of kind row.now) (emptied table.old) table.new marks.old marks.new result }
 {
-    table.n = 0;
-    let mut p = 0;
-    while p < row.len() {
-        let Some(q) = entry_at(row, kind, marks, p) else {
-            return false;
-        };
-        table.add(row[p], p + 1, q);
-        p = q;
-    }
+    let Some(n) = read_entries(
+        row,
+        kind,
+        marks,
+        &mut table.words,
+        &mut table.starts,
+        &mut table.ends,
+    ) else {
+        return false;
+    };
+    table.n = n;
     true
 }
 
@@ -126,11 +144,18 @@ pub fn check_names(row: &[u32]) -> Answer
     Ok(0)
 }
 
+// Whether the first n words can be names of one list.
+fn good_words(words: &[u32; 32], n: usize) -> bool
+    ensures { result ≡ good_words n words.now }
+{
+    n <= Table::LIMIT && are_distinct(&words[..n])
+}
+
 // Whether the words of a table's entries are good names.
 pub fn good_table(table: &Table) -> bool
     ensures { result ≡ good_words table.now.n table.now.words }
 {
-    table.n <= Table::LIMIT && are_distinct(&table.words[..table.n])
+    good_words(&table.words, table.n)
 }
 
 // The check of a substitution list.
@@ -141,11 +166,20 @@ pub fn check_pairs(row: &[u32]) -> Answer
         return Err(Refusal::TooLong);
     }
     let mut marks = [0u32; 1];
-    let mut table = Table::new();
-    if !mark_list(row, ListKind::Pairs, &mut marks, &mut table) {
+    let mut words = [0u32; 32];
+    let mut starts = [0usize; 32];
+    let mut ends = [0usize; 32];
+    let Some(entries) = read_entries(
+        row,
+        ListKind::Pairs,
+        &mut marks,
+        &mut words,
+        &mut starts,
+        &mut ends,
+    ) else {
         return Err(Refusal::Broken(broken_list(row, ListKind::Pairs)));
-    }
-    if !good_table(&table) {
+    };
+    if !good_words(&words, entries) {
         return Err(Refusal::BadNames);
     }
     Ok(0)
@@ -159,14 +193,23 @@ pub fn check_places(row: &[u32], n: u32) -> Answer
         return Err(Refusal::TooLong);
     }
     let mut marks = [0u32; 1];
-    let mut table = Table::new();
-    if !mark_list(row, ListKind::Places, &mut marks, &mut table) {
+    let mut words = [0u32; 32];
+    let mut starts = [0usize; 32];
+    let mut ends = [0usize; 32];
+    let Some(entries) = read_entries(
+        row,
+        ListKind::Places,
+        &mut marks,
+        &mut words,
+        &mut starts,
+        &mut ends,
+    ) else {
         return Err(Refusal::Broken(broken_list(row, ListKind::Places)));
-    }
+    };
     if Limit::DECLARATIONS < n {
         return Err(Refusal::TooManyPlaces);
     }
-    if (n as usize) < table.n {
+    if (n as usize) < entries {
         return Err(Refusal::TooManyPlaces);
     }
     Ok(0)

@@ -1,7 +1,7 @@
 -- Worked cases from row to row, with lists of one place, of none and of three for two declarations: one table, one statement about the
 -- definitions. Assumes nothing.
-use mathlib.Core.Path.{◌≡◌, refl}
-use mathlib.Core.List.{List, [], ◌∷◌}
+use mathlib.Core.Path.{◌≡◌, refl, ap}
+use mathlib.Core.List.{List, [], ◌∷◌, map}
 use Prim.Native.Nat.{ℕ}
 use lib.IntN.{ℤ, pos, negsuc}
 use Rattle.tree.specs.Form.{encode}
@@ -9,7 +9,7 @@ use Rattle.tree.specs.Tag.{own, own_of, shape_of, expr_tags, pred_tags}
 use Rattle.form.specs.Decode.{read, decl_at, decls, decode, decode_all, row_form, form_of}
 use Rattle.form.specs.Lists.{entry_of, entries, list_of, distinct, good_names}
 use Rattle.form.specs.Break.{decls_next, next_of, least, least_all, after, break_from, break_at}
-use Rattle.form.specs.Answer.{Outcome, answer, stop, finish}
+use Rattle.form.specs.Answer.{Outcome, answer, stop, told, number, position, finish}
 use Rattle.rules.specs.Walk.{walk, collect}
 use Rattle.rules.specs.Shift as S
 use Rattle.rules.specs.Free.{substitute, free_outcome}
@@ -72,6 +72,13 @@ pub starred : cases ≡ answers
 unfolding S.shift_outcome S.shift free_outcome substitute B.bind_outcome B.bind F.fill_outcome F.fill F.quantified P.prune_outcome P.prune point_outcome one_point member_outcome membership offer_all instantiate_partial put_round scan offer_parts accept parts walk collect finish good_names distinct list_of entries entry_of form_of row_form decode decode_all decl_at decls read own own_of shape_of expr_tags pred_tags encode
 starred = refl
 
+-- the numbers by which they are refused, as C and the lines see them; 0 for an answer
+abbrev numbers : List Outcome → List ℕ
+numbers os = map (λ o. number (told o)) os
+
+pub starred-numbers : numbers cases ≡ 6 ∷ 0 ∷ 0 ∷ 0 ∷ 0 ∷ 0 ∷ 0 ∷ 5 ∷ 0 ∷ 0 ∷ 0 ∷ 9 ∷ 0 ∷ 0 ∷ []
+starred-numbers = ap numbers starred
+
 -- the same for annotated declarations
 abbrev noted_cases : List Outcome
 noted_cases =
@@ -110,6 +117,10 @@ noted_answers =
 pub noted-cases : noted_cases ≡ noted_answers
 unfolding S.shift_outcome S.shift free_outcome substitute B.bind_outcome B.bind F.fill_outcome F.fill F.quantified P.prune_outcome P.prune point_outcome one_point member_outcome membership offer_all instantiate_partial put_round scan offer_parts accept parts walk collect finish good_names distinct list_of entries entry_of form_of row_form decode decode_all decl_at decls read break_at break_from after least least_all decls_next next_of own own_of shape_of expr_tags pred_tags encode
 noted-cases = refl
+
+-- their numbers, and the positions, which only a row that breaks has
+pub noted-numbers : (numbers noted_cases ≡ 0 ∷ 6 ∷ 2 ∷ 0 ∷ 0 ∷ 0 ∷ 0 ∷ 0 ∷ 0 ∷ 0 ∷ 0 ∷ 0 ∷ 0 ∷ []) × (map (λ o. position (told o)) noted_cases ≡ 0 ∷ 0 ∷ 3 ∷ 0 ∷ 0 ∷ 0 ∷ 0 ∷ 0 ∷ 0 ∷ 0 ∷ 0 ∷ 0 ∷ 0 ∷ [])
+noted-numbers = (ap numbers noted-cases, ap (λ os. map (λ o. position (told o)) os) noted-cases)
 
 -- the rule by which a place for each declaration is asked for, on a list as long as the declarations, and on the two that are shorter: these it refused
 abbrev two : List ℕ

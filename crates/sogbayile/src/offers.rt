@@ -29,9 +29,9 @@ pub extern "C" fn sgb_places(n: usize, starts: &mut [usize; 32], ends: &mut [usi
             store(made, starts, ends);
             0
         }
-        Err(refusal) => {
-            store(Replacements::free(0), starts, ends);
-            refusal_code(refusal)
+        Err(refused) => {
+            store(refused.places, starts, ends);
+            refusal_code(refused.refusal)
         }
     }
 }
@@ -60,6 +60,6 @@ pub extern "C" fn sgb_offer(
             store(after, starts, ends);
             0
         }
-        Err(refusal) => refusal_code(refusal),
+        Err(refused) => refusal_code(refused.refusal),
     }
 }

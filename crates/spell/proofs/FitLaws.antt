@@ -35,7 +35,7 @@ module _ (text bs : List ℕ) (n : ℕ) (m : n ≡ length bs) where
       rw v (ap (λ z. same_bytes text z) (take_at bs (drop (length bs) a) (length text) (omega arith)))
 
 module _ (text row : List ℕ) where
-  form-text : 65535 < length text → false ≡ fits_form text row
+  pub form-text : 65535 < length text → false ≡ fits_form text row
   unfolding fits_form
   form-text h = rw (lt-leb (length text) 65535 h)
 
@@ -44,19 +44,19 @@ module _ (text row : List ℕ) where
     unfolding fits_form
     form-is = rw (le-leb (length text) 65535 l)
 
-    form-row : 8192 < length row → false ≡ fits_form text row
+    pub form-row : 8192 < length row → false ≡ fits_form text row
     unfolding form_of row_form
     form-row h = rw (form-is, lt-leb (length row) 8192 h)
 
     module _ (a c : List ℕ) (r : Maybe ℕ) (t : PrintedForm (form_of Either row) a c r) where
-      form-not : r ≡ None → false ≡ fits_form text row
+      pub form-not : r ≡ None → false ≡ fits_form text row
       form-not e = rw (form-is, form-missing (form_of Either row) a c r t e)
 
       module _ (n : ℕ) (e : r ≡ Some n) where
-        form-other : (n ≡ length text → ⊥) → false ≡ fits_form text row
+        pub form-other : (n ≡ length text → ⊥) → false ≡ fits_form text row
         form-other k = let (s, f, o, m, v) = form-bytes (form_of Either row) a c r n t e in rw (form-is, o) (differ text (spell f) n m k)
 
-        form-same : n ≡ length text → length text ≤ length a → same_bytes text (take (length text) c) ≡ fits_form text row
+        pub form-same : n ≡ length text → length text ≤ length a → same_bytes text (take (length text) c) ≡ fits_form text row
         form-same k g = let (s, f, o, m, v) = form-bytes (form_of Either row) a c r n t e in rw (form-is, o) (compare text (spell f) n m a c k g v)
 
 both_long : (b : Bool) → pick b false false ≡ false
@@ -64,11 +64,11 @@ both_long true = refl
 both_long false = refl
 
 module _ (text row : List ℕ) where
-  names-text : 65535 < length text → false ≡ fits_names text row
+  pub names-text : 65535 < length text → false ≡ fits_names text row
   unfolding fits_names
   names-text h = rw (lt-leb (length text) 65535 h)
 
-  names-row : 8192 < length row → false ≡ fits_names text row
+  pub names-row : 8192 < length row → false ≡ fits_names text row
   unfolding fits_names
   names-row h = rw (lt-leb (length row) 8192 h) (sym (both_long (leb (length text) 65535)))
 
@@ -77,11 +77,11 @@ module _ (text row : List ℕ) where
     unfolding fits_names
     names-is = rw (le-leb (length text) 65535 l, le-leb (length row) 8192 h)
 
-    names-other : (n ≡ length text → ⊥) → false ≡ fits_names text row
+    pub names-other : (n ≡ length text → ⊥) → false ≡ fits_names text row
     unfolding Wrote
     names-other k = differ text (spell_names row) n (w.0 ∙ omega arith) k ∙ sym names-is
 
-    names_same : n ≡ length text → length text ≤ length a → same_bytes text (take (length text) c) ≡ fits_names text row
+    pub names_same : n ≡ length text → length text ≤ length a → same_bytes text (take (length text) c) ≡ fits_names text row
     unfolding Wrote
     names_same k g = compare text (spell_names row) n (w.0 ∙ omega arith) a c k g w.1 ∙ sym names-is
 
@@ -97,11 +97,11 @@ list-none kind (some es) a c r t e = let z = t.0 in absurd (clash cc)
 list-none kind absent a c r t e = refl
 
 module _ (kind : ListKind) (text row : List ℕ) where
-  list-text : 65535 < length text → false ≡ fits_list kind text row
+  pub list-text : 65535 < length text → false ≡ fits_list kind text row
   unfolding fits_list
   list-text h = rw (lt-leb (length text) 65535 h)
 
-  list-row : 8192 < length row → false ≡ fits_list kind text row
+  pub list-row : 8192 < length row → false ≡ fits_list kind text row
   unfolding fits_list
   list-row h = rw (lt-leb (length row) 8192 h) (sym (both_long (leb (length text) 65535)))
 
@@ -110,14 +110,14 @@ module _ (kind : ListKind) (text row : List ℕ) where
     unfolding fits_list
     list-is = rw (le-leb (length text) 65535 l, le-leb (length row) 8192 h)
 
-    list-not : r ≡ None → false ≡ fits_list kind text row
+    pub list-not : r ≡ None → false ≡ fits_list kind text row
     list-not e = rw (list-is, list-none kind (list_of kind row) a c r t e)
 
     module _ (n : ℕ) (e : r ≡ Some n) where
-      list-other : (n ≡ length text → ⊥) → false ≡ fits_list kind text row
+      pub list-other : (n ≡ length text → ⊥) → false ≡ fits_list kind text row
       list-other k = let (es, o, m, v) = list-bytes kind (list_of kind row) a c r n t e in rw (list-is, o) (differ text (spell_list kind es) n m k)
 
-      list_same : n ≡ length text → length text ≤ length a → same_bytes text (take (length text) c) ≡ fits_list kind text row
+      pub list_same : n ≡ length text → length text ≤ length a → same_bytes text (take (length text) c) ≡ fits_list kind text row
       list_same k g = let (es, o, m, v) = list-bytes kind (list_of kind row) a c r n t e in rw (list-is, o) (compare text (spell_list kind es) n m a c k g v)
 
 -- whatever the row is printed as

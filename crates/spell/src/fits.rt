@@ -26,7 +26,8 @@ fn print_as(reading: Reading, row: &[u32], bytes: &mut [u8]) -> Option<usize>
     }
 }
 
-// The spelling is printed to a buffer of so many bytes, at least as many as the text has.
+// The spelling is printed to a buffer of so many bytes, at least as many as the text has, which lies in a frame of its own.
+#[inline(never)]
 fn fits_within<const BYTES: usize>(text: &[u8], row: &[u32], reading: Reading) -> bool
     requires { (length text.now ≤ BYTES) × (BYTES ≤ 65535) }
     ensures { result ≡ fits reading text.now row.now }

@@ -4,8 +4,8 @@ use Rattle.places.proofs.replacements.Replacements.new.Goals as goal
 
 pub returns-then-n-gt-LIMIT : goal.returns-then-n-gt-LIMIT
 unfolding new_result
-returns-then-n-gt-LIMIT c = rw (lt-leb _ _ c.if-n-gt-LIMIT.true)
+returns-then-n-gt-LIMIT c = rw (lt-leb _ _ c.if-n-gt-LIMIT.true, c.free.ensures)
 
 pub returns : goal.returns
 unfolding new_result
-returns c = rw (le-leb _ _ c.if-n-gt-LIMIT.false, c.free.ensures)
+returns c = rw (le-leb _ _ c.if-n-gt-LIMIT.false, c.free-2.ensures)

@@ -4,7 +4,7 @@ use Rattle.std.specs.Prelude.{Some, None}
 use Rattle.std.proofs.lemmas.Result.{err_from_is_err_and}
 use Rattle.form.specs.declared.answer.Refusal.TheVariants.{NoEquality}
 use Rattle.places.proofs.PlacesLaws.{pred-form, offer-long, offer-missing, offer-many, offer-none, offer-not, offer-is}
-use Rattle.places.proofs.replacements.Replacements.check.Goals as goal
+use Rattle.places.proofs.replacements.Replacements.checked.Goals as goal
 
 pub returns-then-row-gt-WORDS : goal.returns-then-row-gt-WORDS
 returns-then-row-gt-WORDS c = offer-long _ _ c.if-row-gt-WORDS.true
