@@ -67,15 +67,18 @@ def wide():
 
 
 def far():
-    """What takes the longest rows: an index over 63; replacements so deep that the result is checked, and body's own annotations that use them; a join
-    whose result would be too long, which is refused."""
+    """What takes the longest rows, or goes deepest: an index over 63; replacements so deep that the result is checked, and annotations that use them; a
+    join whose result would be too long, which is refused."""
     part = [203, 1, 5, 203, 1, 6, 203, 1, 6, 1, 7]
     yield False, "dangling", [], [351, 1600] + [112, 2, 100, 2, 0] * 1600
     yield False, "free", [7] + part, conjunction(1600, 1, 1)
     yield False, "point", [], [852, 1, 9, 351, 1001, 101, 2, 0] + part + conjunction(1000, 1, 1)[2:]
-    for body in conjunction(1500, 1, 1), conjunction(600, 2, 2):
-        yield False, "fill", [0, 1] + part, [852, 2, 4, 5] + body
-        yield True, "fill", [0, 1] + part, [862, 2, 4, 1, 1, 9, 5, 0] + body
+    both = [1, 203, 1, 5, 1, 6] * 2
+    for listed, body in ([0, 1] + part, conjunction(1500, 1, 1)), ([0, 1] + part, conjunction(600, 2, 2)), (both, conjunction(600, 1, 0)):
+        yield False, "fill", listed, [852, 2, 4, 5] + body
+        yield True, "fill", listed, [862, 2, 4, 1, 1, 9, 5, 0] + body
+    yield False, "named", [], nots(61, named_conjunction(1500))
+    yield False, "member", [], [107, 1, 6, 803, 0, 2, 4, 5] + nots(59, conjunction(600, 1, 1)) + [2, 0]
     note = [4, 1200] + [1, 7] * 1195 + [2, 0] * 5
     for n in 600, 900:
         kept, used = [862, 1, 6, 1] + note + conjunction(n, 2, 0), [862, 1, 6, 1] + note + conjunction(n, 1, 0)
@@ -88,16 +91,19 @@ def far():
 
 
 def broken():
-    """Rows of some 8,000 words behind 60 nots, whose last word is too large."""
+    """Rows of some 8,000 words behind 60 nots, whose last word is too large; and rows that are one too deep."""
     for head in [852, 1, 4], [862, 1, 4, 1, 1, 7]:
-        row = [8] * 60 + head + conjunction(1500, 0, 1)[:-1] + [70000]
         for name in COMMANDS + ["named", "check", "dangling"]:
-            yield head[0] == 862, "!" + name, [4] if name == "bind" else [4, 1, 5] if name == "free" else [1, 1, 5] if name == "fill" else [], row
+            listed = [4] if name == "bind" else [4, 1, 5] if name == "free" else [1, 1, 5] if name == "fill" else []
+            body = named_conjunction(1500) if name == "named" else conjunction(1500, 0, 1)
+            yield head[0] == 862, "!" + name, listed, nots(60, head + body[:-1] + [70000])
+            yield head[0] == 862, "!" + name, listed, head + nots(61, body)
 
 
 def measure(calls):
     lines = ["%s %d %s %d %s" % (name, len(listed), " ".join(map(str, listed)), len(row), " ".join(map(str, row))) for _, name, listed, row in calls]
-    subprocess.run(["target/bench/stack"], input="\n".join(lines) + "\n", check=True, text=True)
+    # memcpy and its like are bound at the start: bound by a call they take some 3 KB of its stack
+    subprocess.run(["target/bench/stack"], input="\n".join(lines) + "\n", check=True, text=True, env={**os.environ, "LD_BIND_NOW": "1"})
 
 
 def main():

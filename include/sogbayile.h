@@ -21,11 +21,11 @@
  * OWNERSHIP. All rows are the caller's. The library allocates nothing and keeps no pointer, has no state, and
  * may be called from several threads with rows of their own. A work row may hold anything before and after.
  *
- * STACK. As measured on rows of up to 8,192 words, up to 64 deep, those among them that take a call's longest rows
- * and those that break (bench/stack.py), a call takes up to 360 KB of the caller's stack: sgb_point 360 KB,
- * sgb_member 262, sgb_named 200, sgb_fill 163, sgb_free 131, sgb_dangling 97, sgb_prune 66, the others less than 49;
- * on rows without annotations sgb_point 231, sgb_named 200, sgb_member 142, sgb_fill and sgb_free 131, sgb_dangling
- * 97, the others less than 49. sgb_run takes what the command's own call takes.
+ * STACK. As measured on long and deep rows, answered and refused (bench/stack.py), a call takes up to 360 KB of the
+ * caller's stack: sgb_point 360 KB, sgb_member 262, sgb_named 201, sgb_fill 163, sgb_free 131, sgb_dangling 97,
+ * sgb_prune 66, the others less than 49; on rows without annotations sgb_point 231, sgb_named 201, sgb_member 143,
+ * sgb_fill and sgb_free 131, sgb_dangling 97, the others less than 49. sgb_run takes what the command's own call
+ * takes. Where memcpy and its like are bound only by the first call, that call takes some 3 KB more.
  *
  * REFUSALS, in the order in which they are tested: 15, then 1 and 2 for each row (the form first, then the
  * list), 3, 4, 5, 6, 9, 7, 14; for offers 1, 2, 5, 10, 11, 12, 13.

@@ -1,5 +1,5 @@
 // The set of places: for each declaration, where its replacement starts and ends in the row that offered it.
-ghost use Rattle.std.specs.Prelude.{◌≡◌, ◌≤◌, length};
+ghost use Rattle.std.specs.Prelude.{◌≡◌, ◌≤◌, length, Err};
 ghost use Rattle.places.specs.Places.{empty_for, new_result, offer_result, or_kept};
 ghost use Rattle.places.specs.Internal.Sides.{offer_part};
 
@@ -49,55 +49,56 @@ impl Replacements {
         Ok(Self::free(n))
     }
 
+    // Refused, and the set as it is.
+    fn refused(self, refusal: Refusal) -> Result<Replacements, Refused>
+        ensures { result ≡ or_kept self (Err refusal) }
+    {
+        Err(Refused {
+            places: self,
+            refusal,
+        })
+    }
+
     // A part of the row, offered for its target.
-    fn offer(mut self, row: &[u32], part: Replacement) -> Result<Replacements, Refusal>
+    fn offer(mut self, row: &[u32], part: Replacement) -> Result<Replacements, Refused>
         requires { (self.n ≤ 32) × (length row.now ≤ 8192) × (part.start ≤ part.end) × (part.end ≤ length row.now) }
-        ensures { result ≡ offer_part self row.now part }
+        ensures { result ≡ or_kept self (offer_part self row.now part) }
     {
         let index = part.target as usize;
         if self.n <= index {
-            return Err(Refusal::NoDeclaration);
+            return self.refused(Refusal::NoDeclaration);
         }
         if !is_above(&row[part.start..part.end], part.target) {
-            return Err(Refusal::NotAbove);
+            return self.refused(Refusal::NotAbove);
         }
         let place = self.n - 1 - index;
         if self.ends[place] != 0 {
-            return Err(Refusal::AlreadyFilled);
+            return self.refused(Refusal::AlreadyFilled);
         }
         self.starts[place] = part.start;
         self.ends[place] = part.end;
         Ok(self)
     }
 
-    // The set with the replacement that a predicate row offers, or why it has none.
-    fn checked(self, row: &[u32]) -> Result<Replacements, Refusal>
-        ensures { result ≡ offer_result self row.now }
-    {
-        if Limit::WORDS < row.len() {
-            return Err(Refusal::TooLong);
-        }
-        if !reader::check::is_form(row, Kind::Predicate) {
-            return Err(Refusal::Broken(broken_at(row, Kind::Predicate)));
-        }
-        if Self::LIMIT < self.n {
-            return Err(Refusal::TooManyPlaces);
-        }
-        let sides = equality_of(row).ok_or(Refusal::NoEquality)?;
-        let part = match_replacement(row, sides).ok_or(Refusal::NoEquality)?;
-        self.offer(row, part)
-    }
-
-    // The same; a refusal gives the set back as it is.
+    // The set with the replacement that a predicate row offers; a refusal gives the set back as it is.
     pub fn check(self, row: &[u32]) -> Result<Replacements, Refused>
         ensures { result ≡ or_kept self (offer_result self row.now) }
     {
-        match self.checked(row) {
-            Ok(places) => Ok(places),
-            Err(refusal) => Err(Refused {
-                places: self,
-                refusal,
-            }),
+        if Limit::WORDS < row.len() {
+            return self.refused(Refusal::TooLong);
         }
+        if !reader::check::is_form(row, Kind::Predicate) {
+            return self.refused(Refusal::Broken(broken_at(row, Kind::Predicate)));
+        }
+        if Self::LIMIT < self.n {
+            return self.refused(Refusal::TooManyPlaces);
+        }
+        let Some(sides) = equality_of(row) else {
+            return self.refused(Refusal::NoEquality);
+        };
+        let Some(part) = match_replacement(row, sides) else {
+            return self.refused(Refusal::NoEquality);
+        };
+        self.offer(row, part)
     }
 }

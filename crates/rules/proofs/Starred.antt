@@ -132,3 +132,6 @@ former_cases = exact_fill (0 ∷ 1 ∷ 1 ∷ 5 ∷ []) two 16384 8192 ∷ exact_
 pub former-cases : former_cases ≡ answer (852 ∷ 1 ∷ 4 ∷ 101 ∷ 2 ∷ 0 ∷ 2 ∷ 1 ∷ []) ∷ stop TooManyPlaces ∷ stop TooManyPlaces ∷ []
 unfolding F.fill F.quantified walk finish list_of entries entry_of form_of row_form decode decode_all decl_at decls read own own_of shape_of expr_tags pred_tags encode
 former-cases = refl
+
+pub former-numbers : numbers former_cases ≡ 0 ∷ 5 ∷ 5 ∷ []
+former-numbers = ap numbers former-cases
