@@ -23,7 +23,7 @@ abbrev pub after : Replacements → Result Replacements Refusal → Offered
 after p (Ok q) = record { places = q; number = 0; position = 0 }
 after p (Err r) = record { places = p; number = number_of r; position = position_of r }
 
--- the same as a value: a refusal holds p
+-- what the code answers to an offer to the set p: the set that comes of it, or p, as it is, and why it was refused
 abbrev pub or_kept : Replacements → Result Replacements Refusal → Result Replacements Refused
 or_kept p (Ok q) = Ok q
 or_kept p (Err r) = Err (record { places = p; refusal = r })

@@ -15,7 +15,7 @@ pub struct Replacements {
     pub n: usize,
 }
 
-// A set that was refused, as it was before, and why.
+// What a refusal leaves, and why: the set as it was, or the one for no declarations where a new set is refused.
 #[derive(Clone, Copy)]
 pub struct Refused {
     pub places: Replacements,
@@ -41,15 +41,12 @@ impl Replacements {
         ensures { result ≡ or_kept (empty_for 0) (new_result n) }
     {
         if Self::LIMIT < n {
-            return Err(Refused {
-                places: Self::free(0),
-                refusal: Refusal::TooManyPlaces,
-            });
+            return Self::free(0).refused(Refusal::TooManyPlaces);
         }
         Ok(Self::free(n))
     }
 
-    // Refused, and the set as it is.
+    // The refusal, with the set as it is.
     fn refused(self, refusal: Refusal) -> Result<Replacements, Refused>
         ensures { result ≡ or_kept self (Err refusal) }
     {
